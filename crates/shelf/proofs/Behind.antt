@@ -1,11 +1,10 @@
 -- What the records told and tell then, where a change lands whose ticket goes on from the book.
 use Rattle.std.proofs.Common.{◌≡◌, ap, sym, subst, ℕ, Bool, IsTrue, List, Option, Some, None, option_map, Contains}
 use Rattle.script_nodes.specs.Setup.{Named}
-use Rattle.script_nodes.specs.Views.{scripts_of}
-use Rattle.script_nodes.specs.declared.setup.Setup.{Setup}
+use Rattle.setup_reader.specs.Texts.{setup_of_texts as texts}
 use Rattle.page_names.specs.Views.{target_of}
 use Rattle.web_disk.specs.View.{View}
-use Rattle.page_journal.specs.Settled.{bodies_in, length_of}
+use Rattle.page_journal.specs.Settled.{bodies_in}
 use Rattle.replay_spec.specs.Book as spec
 use Rattle.machine_states.specs.Machine.{Suspended}
 use Rattle.journal_spec.specs.Before.{state_at, Earlier, made_of}
@@ -22,12 +21,12 @@ use Rattle.instance_book.specs.declared.ticket.Ticket.{Ticket}
 use Rattle.instance_book.specs.Views.{instances_of}
 use Rattle.instance_book.specs.Places.{given}
 use Rattle.instance_book.specs.Makes.{KeepsStates}
-use Rattle.instance_book.specs.Changes.{change_of, HasStateIn, HasStateFrom, IsSpelledIn, KeepsStatesBy}
+use Rattle.instance_book.specs.Changes.{change_of, HasStateIn, HasStateFrom, IsSpelledIn, HasRoomFor, KeepsStatesBy}
 use Rattle.instance_book.specs.Prepares.{HasItsScript}
-use Rattle.book_recovery.specs.Remaking.{HasToldStates}
 use Rattle.shelf.specs.declared.doubt.Doubt as doubt_type
 use Rattle.shelf.specs.declared.shelf.Shelf.{Shelf}
-use Rattle.shelf.specs.Views.{doubt_of, book_in, IsInOrder}
+use Rattle.shelf.specs.Views.{doubt_of, library_in, beside_of, book_in, IsInOrder}
+use Rattle.instance_book.specs.Redo.{HasToldStates}
 use Rattle.shelf.specs.Holding.{IsWholeIn}
 use Rattle.shelf.specs.Preparing.{CanBeLanded}
 use Rattle.shelf.specs.Recording.{state_in, told_in, BindsIn, GoesOnAsGiven}
@@ -35,46 +34,46 @@ use Rattle.shelf.proofs.Landing as landing
 use Rattle.shelf.proofs.Shown.{GoesHere, goes_here}
 use Rattle.shelf.proofs.Tales.{still_told, now_told, stay_told}
 
-module _ {D N : Type 0} (view : D → View) (tells : Bool) (setup : Setup) (s : Shelf D N) (order : IsInOrder view tells (scripts_of setup) s) (t : Ticket) (p : Prepared) (up : s.down ≡ None)
-    (out : Contains (book_in (scripts_of setup) s).out t.number) (has : HasItsScript (scripts_of setup) t (target_of t.target)) (can : CanBeLanded (scripts_of setup) s.book t p) (c : Change) (some : p.change ≡ Some c) (spent : Book)
-    (same : spent.instances ≡ s.book.instances) (keeps : KeepsStates s.book spent) (whole : IsWholeIn (scripts_of setup) spent c) (spelled : IsSpelledIn c) (goes : GoesOnAsGiven setup spent t c) (told : IsTrue tells) where
-  abbrev ss : List Named
-  ss = scripts_of setup
+module _ {D N : Type 0} (view : D → View) (tells : Bool) (s : Shelf D N) (order : IsInOrder view tells s) (t : Ticket) (p : Prepared) (up : s.down ≡ None)
+    (out : Contains (book_in view s).out t.number) (has : HasItsScript (library_in s) t (target_of t.target)) (can : CanBeLanded (library_in s) s.book t p) (rooms : HasRoomFor p.change s.book) (c : Change) (some : p.change ≡ Some c) (spent : Book)
+    (same : spent.instances ≡ s.book.instances) (keeps : KeepsStates s.book spent) (whole : IsWholeIn (library_in s).all spent c) (spelled : IsSpelledIn c) (goes : GoesOnAsGiven (library_in s) spent t c) (told : IsTrue tells) where
+  abbrev all : List Named
+  all = (library_in s).all
 
   abbrev b : spec.Book
-  b = book_in ss s
+  b = book_in view s
 
   abbrev bodies : List (List ℕ)
   bodies = bodies_in view s.journal
 
-  abbrev there : Keeps ss s.rules.number bodies b
+  abbrev there : Keeps texts s.rules.number bodies b
   there = (order.fit told).holds (ap (λ (o : Option doubt_type.Doubt). option_map doubt_of o) up)
 
   abbrev earlier : Earlier
   earlier = there.earlier
 
-  had : HasToldStates ss earlier.states spent
-  had = keeps (given (λ n. state_at n earlier.states)) ss (order.told told up (made_of b earlier) there.makes)
+  had : HasToldStates all earlier.states spent
+  had = keeps (given (λ n. state_at n earlier.states)) all (order.told told up (made_of b earlier) there.makes)
 
   here : GoesHere b (λ n. state_at n earlier.states) t c
-  here = goes_here setup (length_of s.journal) (option_map doubt_of s.down) s.book spent t c (λ n. state_at n earlier.states) same goes had
+  here = goes_here (library_in s) (beside_of view s) s.book spent t c (λ n. state_at n earlier.states) same goes had
 
   -- the state of the page is read back
   pub read_there : BindsIn t c → books.told_in earlier b (change_of c) (told_in t c) ≡ told_own (state_in c)
-  read_there binds = landing.read view tells ss s order t p up out has can c some spent same whole spelled earlier here binds
+  read_there binds = landing.read view tells s order t p up out has can rooms c some spent same whole spelled earlier here binds
 
-  shown : HasStateIn ss (given (λ n. state_at n (with_state (Some t.number) (told_own (state_in c)) earlier.states))) b.instances c
-  shown = landing.shown view tells ss s order t p up out has can c some spent same whole spelled earlier here
-      (λ y n d. still_told b t.number out ss s.rules.number bodies (made_of b earlier) there.makes there.recoverable.used y d n)
-      (λ y. now_told b t.number out ss s.rules.number bodies (made_of b earlier) there.makes there.recoverable.used y)
+  shown : HasStateIn all (given (λ n. state_at n (with_state (Some t.number) (told_own (state_in c)) earlier.states))) b.instances c
+  shown = landing.shown view tells s order t p up out has can rooms c some spent same whole spelled earlier here
+      (λ y n d. still_told b t.number out s.rules.number bodies (made_of b earlier) there.makes there.recoverable.used y d n)
+      (λ y. now_told b t.number out s.rules.number bodies (made_of b earlier) there.makes there.recoverable.used y)
 
-  had_more : (o : Option Suspended) → HasToldStates ss (with_state (Some t.number) (told_own o) earlier.states) spent
+  had_more : (o : Option Suspended) → HasToldStates all (with_state (Some t.number) (told_own o) earlier.states) spent
   had_more None = had
-  had_more (Some y) = stay_told b t.number out ss s.rules.number bodies (made_of b earlier) there.makes there.recoverable.used y ss spent had
+  had_more (Some y) = stay_told b t.number out s.rules.number bodies (made_of b earlier) there.makes there.recoverable.used y all spent had
 
   -- and then the pages have the states that are told
-  pub installed : (new : Book) → KeepsStatesBy p.change spent new → HasToldStates ss (with_state (Some t.number) (told_own (state_in c)) earlier.states) new
+  pub installed : (new : Book) → KeepsStatesBy p.change spent new → HasToldStates all (with_state (Some t.number) (told_own (state_in c)) earlier.states) new
   installed new keeps_by =
       let g : ℕ → Option Suspended = λ n. state_at n (with_state (Some t.number) (told_own (state_in c)) earlier.states) in
-      let moved : HasStateIn ss (given g) (instances_of ss spent.instances) c = subst (λ (is : InOrder KeptInstance). HasStateIn ss (given g) (instances_of ss is) c) (sym same) shown in
-      keeps_by (given g) ss (subst (HasStateFrom ss (given g) (instances_of ss spent.instances)) (sym some) moved) (had_more (state_in c))
+      let moved : HasStateIn all (given g) (instances_of all spent.instances) c = subst (λ (is : InOrder KeptInstance). HasStateIn all (given g) (instances_of all is) c) (sym same) shown in
+      keeps_by (given g) all (subst (HasStateFrom all (given g) (instances_of all spent.instances)) (sym some) moved) (had_more (state_in c))

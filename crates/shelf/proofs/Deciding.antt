@@ -1,36 +1,44 @@
 -- Want of memory may stand for any answer.
-use Rattle.std.proofs.Common.{◌≡◌, refl, List, Result, Ok, Err, IfOk}
+use Rattle.std.proofs.Common.{◌≡◌, refl, Option, Some, None, IfSome, option_map, Contains, inl, Result, Ok, Err, IfOk}
 use Rattle.std.specs.Prelude.{IfErr}
 use Rattle.script_value.specs.declared.outcome.Reply.{Reply}
 use Rattle.script_value.specs.declared.outcome.Reply.TheVariants as reply
-use Rattle.script_nodes.specs.Setup.{Named}
-use Rattle.replay_spec.specs.Book.{Book}
+use Rattle.script_nodes.specs.Setup.{Library}
+use Rattle.page_names.specs.Names.{Destination, start, page}
+use Rattle.replay_spec.specs.Book.{Book, at_number, page_at}
+use Rattle.replay_spec.specs.Invariant.{IsOrderly}
+use Rattle.replay_spec.proofs.Stand.{among_of}
+use Rattle.instance_book.specs.declared.book.Book as kept
+use Rattle.instance_book.specs.declared.numbered.Numbered.{Numbered}
+use Rattle.instance_book.specs.declared.instance.KeptInstance.{KeptInstance}
+use Rattle.instance_book.specs.declared.ticket.Ticket.{Ticket}
+use Rattle.instance_book.specs.Admissions.{book_under}
+use Rattle.instance_book.proofs.Seen.{instance_some}
 use Rattle.replay_spec.specs.Step as step
 use Rattle.replay_spec.specs.Step.{Decision, plain}
 use Rattle.instance_book.specs.declared.prepared.Prepared.{Prepared}
-use Rattle.instance_book.specs.Views.{reply_of}
-use Rattle.instance_book.specs.Prepares.{Prepares, IsOfRun, WantsRoom}
+use Rattle.instance_book.specs.Views.{pages_of, instance_of, reply_of}
+use Rattle.instance_book.specs.Prepares.{Prepares, IsOfRun, WantsRoom, IsNewBy}
 use Rattle.shelf.specs.declared.rules.Rules as limits_of
 use Rattle.shelf.specs.Views.{unmeasured, fate_by}
 use Rattle.shelf.specs.Preparing.{Decides, TellsOfRun}
 
 -- want of memory may stand where it need not
-pub decides : (scripts : List Named) (r : limits_of.Rules) (b : Book) (d : Decision) (x : Result Prepared Reply) → Prepares scripts (unmeasured r) b d x → Decides scripts (unmeasured r) b d x
-decides scripts r b d (Ok p) h = h
-decides scripts r b d (Err (reply.Page bytes url)) h = h
-decides scripts r b d (Err (reply.Finished bytes)) h = h
-decides scripts r b d (Err (reply.Ended bytes)) h = h
-decides scripts r b d (Err (reply.Refused why)) h = h
-decides scripts r b d (Err (reply.Fault f)) h = h
-decides scripts r b d (Err (reply.Fuel cost)) h = h
-decides scripts r b d (Err (reply.ShelfFull count)) h = h
-decides scripts r b d (Err (reply.InstanceFull count)) h = h
-decides scripts r b d (Err (reply.Oversize n)) h = h
-decides scripts r b d (Err (reply.JournalFull n)) h = h
-decides scripts r b d (Err (reply.DiskFault count)) h = h
-decides scripts r b d (Err (reply.Down count)) h = h
-decides scripts r b d (Err reply.Worn) h = h
-decides scripts r b d (Err reply.Memory) h = tt
+pub decides : (library : Library) (r : limits_of.Rules) (b : Book) (d : Decision) (x : Result Prepared Reply) → Prepares library (unmeasured r) b d x → Decides library (unmeasured r) b d x
+decides library r b d (Ok p) h = h
+decides library r b d (Err (reply.Page bytes url)) h = h
+decides library r b d (Err (reply.Finished bytes)) h = h
+decides library r b d (Err (reply.Ended bytes)) h = h
+decides library r b d (Err (reply.Refused why)) h = h
+decides library r b d (Err (reply.Fault f)) h = h
+decides library r b d (Err (reply.Fuel cost)) h = h
+decides library r b d (Err (reply.ShelfFull count)) h = h
+decides library r b d (Err (reply.Oversize n)) h = h
+decides library r b d (Err (reply.JournalFull n)) h = h
+decides library r b d (Err (reply.DiskFault count)) h = h
+decides library r b d (Err (reply.Down count)) h = h
+decides library r b d (Err reply.Worn) h = h
+decides library r b d (Err reply.Memory) h = tt
 
 -- what a run comes to
 plain_run : (x : step.Reply) → IsOfRun x → fate_by x ≡ plain
@@ -45,6 +53,16 @@ plain_run x h = absurd h
 pub tells_of_run : (r : Result Prepared Reply) → IfOk r (λ p. IsOfRun (reply_of p.reply)) → IfErr r (λ x. WantsRoom (reply_of x)) → TellsOfRun r
 tells_of_run (Ok p) made wants = plain_run (reply_of p.reply) made
 tells_of_run (Err (reply.ShelfFull count)) made wants = refl
-tells_of_run (Err (reply.InstanceFull count)) made wants = refl
 tells_of_run (Err reply.Memory) made wants = tt
 tells_of_run (Err x) made wants = absurd wants
+
+-- the number of an answer's ticket, which is out, is no page of the instance
+pub number_is_new : (l : Library) (b : kept.Book) (t : Ticket) (d : Destination) → IsOrderly (book_under l b) → Contains b.out.items t.number → IsNewBy b t d
+number_is_new l b t (start name) g out = tt
+number_is_new l b t (page name n) g out = by_item (at_number (λ i. i.number) n.instance b.instances.things.items) refl
+  where
+    by_item : (o : Option (Numbered KeptInstance)) → at_number (λ i. i.number) n.instance b.instances.things.items ≡ o → IfSome (option_map (λ i. pages_of i.item.pages) o) (λ ps. page_at t.number ps ≡ None)
+    by_item None e = tt
+    by_item (Some i) e =
+        let here = instance_some l.all n.instance b.instances.things.items i e in
+        g.instances.no_page t.number (inl (among_of b.out.items t.number out)) n.instance (instance_of l.all i) here

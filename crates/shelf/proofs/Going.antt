@@ -1,5 +1,5 @@
 -- A ticket that fits goes on to fit.
-use Rattle.std.proofs.Common.{◌≡◌, ap, sym, subst, refl, ℕ, List, Option, Some, None, inl, inr}
+use Rattle.std.proofs.Common.{◌≡◌, ap, sym, subst, refl, ℕ, List, Option, Some, None, slice_get, inl, inr}
 use Rattle.script_value.specs.declared.outcome.Refusal.{Refusal}
 use Rattle.script_nodes.specs.Setup.{Named}
 use Rattle.page_names.specs.Names.{Destination, start, page}
@@ -15,29 +15,29 @@ use Rattle.instance_book.specs.Views.{ticket_of}
 use Rattle.instance_book.specs.Fits.{IsFor, FitsAs}
 use Rattle.shelf.specs.Going.{TicketsGoOnToFit}
 
--- a start is for the same visit on each book of the shelf
-start_goes : (scripts : List Named) (b c : Book) (t : Ticket) (o : Option (ℕ × Named)) → c.shelf ≡ b.shelf → FitsAs scripts b t (started o) → FitsAs scripts c t (started o)
-start_goes scripts b c t None e h = tt
-start_goes scripts b c t (Some x) e h =
+-- a start is for the same visit on each book of the shelf with this setup
+start_goes : (all : List Named) (b c : Book) (t : Ticket) (o : Option (ℕ × Named)) → c.shelf ≡ b.shelf → c.scripts ≡ b.scripts → FitsAs all b t (started o) → FitsAs all c t (started o)
+start_goes all b c t None e setup h = tt
+start_goes all b c t (Some x) e setup h =
     let same : start_visit b (ticket_of t) x.0 x.1 ≡ start_visit c (ticket_of t) x.0 x.1 = ap (λ (n : ℕ). record (start_visit b (ticket_of t) x.0 x.1) { shelf = n }) (sym e) in
-    record { run = subst (IsFor scripts t) same h.run; place = h.place; cells = h.cells }
+    record { run = subst (IsFor all t) same h.run; start = h.start; present = subst (λ (ss : List Named). slice_get ss x.0 ≡ Some x.1) (sym setup) h.present; cells = h.cells }
 
 -- where nothing stands, nothing is asked; where the page stands, it is answered the same
-page_goes : (scripts : List Named) (c : Book) (t : Ticket) (o : Option Place) → ((y : Place) → o ≡ Some y → IsFor scripts t (page_visit c (ticket_of t) y)) → FitsAs scripts c t (found c.clock o)
-page_goes scripts c t None h = tt
-page_goes scripts c t (Some y) h = unless (why_not c.clock y.instance y.page)
+page_goes : (all : List Named) (c : Book) (t : Ticket) (o : Option Place) → ((y : Place) → o ≡ Some y → IsFor all t (page_visit c (ticket_of t) y)) → FitsAs all c t (found c.clock o)
+page_goes all c t None h = tt
+page_goes all c t (Some y) h = unless (why_not c.clock y.instance y.page)
   where
-    unless : (w : Option Refusal) → FitsAs scripts c t (unless_why y w)
+    unless : (w : Option Refusal) → FitsAs all c t (unless_why y w)
     unless None = h y refl
     unless (Some r) = tt
 
 -- what an admitted page is
-stood : (scripts : List Named) (b : Book) (t : Ticket) (o : Option Place) → refusal_of (found b.clock o) ≡ None → FitsAs scripts b t (found b.clock o)
-    → (x : Place) × ((o ≡ Some x) × IsFor scripts t (page_visit b (ticket_of t) x))
-stood scripts b t None h fits = absurd (cc)
-stood scripts b t (Some x) h fits = unless (why_not b.clock x.instance x.page) h fits
+stood : (all : List Named) (b : Book) (t : Ticket) (o : Option Place) → refusal_of (found b.clock o) ≡ None → FitsAs all b t (found b.clock o)
+    → (x : Place) × ((o ≡ Some x) × IsFor all t (page_visit b (ticket_of t) x))
+stood all b t None h fits = absurd (cc)
+stood all b t (Some x) h fits = unless (why_not b.clock x.instance x.page) h fits
   where
-    unless : (w : Option Refusal) → refusal_of (unless_why x w) ≡ None → FitsAs scripts b t (unless_why x w) → (y : Place) × ((Some x ≡ Some y) × IsFor scripts t (page_visit b (ticket_of t) y))
+    unless : (w : Option Refusal) → refusal_of (unless_why x w) ≡ None → FitsAs all b t (unless_why x w) → (y : Place) × ((Some x ≡ Some y) × IsFor all t (page_visit b (ticket_of t) y))
     unless None k fit = (x, (refl, fit))
     unless (Some r) k fit = absurd (cc)
 
@@ -49,20 +49,21 @@ unbound (Some x) f y e h = cc
 nothing_stands : (c : Book) (name : List ℕ) (n : PageName) (y : Place) → instance_at n.instance c.instances ≡ None → place_at c name n ≡ Some y → ⊥
 nothing_stands c name n y gone h = unbound (instance_at n.instance c.instances) _ y gone h
 
--- under the setup of the first book
-goes : PagesStay → (b c : Book) → IsOrderly b → Leads b c → c.shelf ≡ b.shelf → c.scripts ≡ b.scripts → (t : Ticket) (d : Destination)
-    → refusal_of (admit b d) ≡ None → FitsAs b.scripts b t (admit b d) → FitsAs b.scripts c t (admit c d)
-goes stay b c orderly leads shelf setup t (start name) admitted fits =
-    subst (λ (ss : List Named). FitsAs b.scripts c t (started (script_named name ss))) (sym setup) (start_goes b.scripts b c t (script_named name b.scripts) shelf fits)
-goes stay b c orderly leads shelf setup t (page name n) admitted fits =
-    let x = stood b.scripts b t (place_at b name n) admitted fits in
-    page_goes b.scripts c t (place_at c name n) (λ y here. elim (stay b c orderly leads name n x.0 x.1.0) [
+-- on a book of the same setup
+goes : PagesStay → (all : List Named) (b c : Book) → IsOrderly b → Leads b c → c.shelf ≡ b.shelf → c.scripts ≡ b.scripts → (t : Ticket) (d : Destination)
+    → refusal_of (admit b d) ≡ None → FitsAs all b t (admit b d) → FitsAs all c t (admit c d)
+goes stay all b c orderly leads shelf setup t (start name) admitted fits =
+    let there : script_named name b.scripts ≡ script_named name c.scripts = ap (script_named name) (sym setup) in
+    subst (λ (o : Option (ℕ × Named)). FitsAs all c t (started o)) there (start_goes all b c t (script_named name b.scripts) shelf setup fits)
+goes stay all b c orderly leads shelf setup t (page name n) admitted fits =
+    let x = stood all b t (place_at b name n) admitted fits in
+    page_goes all c t (place_at c name n) (λ y here. elim (stay b c orderly leads name n x.0 x.1.0) [
       | inl gone ↦ absurd (nothing_stands c name n y gone here)
       | inr same ↦ let there : same.0 ≡ y = cc (same.1.0, here) in
-          subst (λ (z : Place). IsFor b.scripts t (page_visit c (ticket_of t) z)) there (subst (IsFor b.scripts t) (same.1.1.visit (ticket_of t)) x.1.1)
+          subst (λ (z : Place). IsFor all t (page_visit c (ticket_of t) z)) there (subst (IsFor all t) (same.1.1.visit (ticket_of t)) x.1.1)
     ])
 
 pub tickets_go_on_to_fit : OrderlyBooksStay → PagesStay → TicketsGoOnToFit
-tickets_go_on_to_fit law stay b c orderly leads setup t admitted fits =
+tickets_go_on_to_fit law stay all b c orderly leads setup t admitted fits =
     let shelf = (law.1 b c orderly leads).1 in
-    subst (λ (ss : List Named). FitsAs ss c t (admit c (target_of t.target))) (sym setup) (goes stay b c orderly leads shelf setup t (target_of t.target) admitted fits)
+    goes stay all b c orderly leads shelf setup t (target_of t.target) admitted fits

@@ -1,7 +1,7 @@
 -- A shelf in order stays so where a change lands that would be taken in again, whatever its page's state is.
 use Rattle.std.proofs.Common.{◌≡◌, ◌∙◌, ap, sym, subst, refl, ℕ, ◌+◌, ◌≤◌, ◌^◌, ◌++◌, ◌∷◌, [], Bool, IsTrue, false, List, length, Option, Some, None, option_map, Contains, inl, arith}
 use Rattle.script_value.specs.declared.outcome.TxName.{TxName}
-use Rattle.script_nodes.specs.Setup.{Named}
+use Rattle.setup_reader.specs.Texts.{setup_of_texts as texts}
 use Rattle.web_disk.specs.View.{View, LeavesOnly}
 use Rattle.page_journal.specs.Records.{stored}
 use Rattle.page_journal.specs.Holding.{MayHold}
@@ -9,10 +9,10 @@ use Rattle.page_journal.specs.Settled as journal
 use Rattle.page_journal.specs.Settled.{IsSettled, view_of, bodies_in, length_of, is_broken}
 use Rattle.page_journal.specs.declared.journal.Journal.{Journal}
 use Rattle.page_journal.proofs.Holds.{settled_images}
-use Rattle.replay_spec.specs.Book.{Change, opens, extends, ends, finishes, sweeps, Doubt, Book, spend, reopened}
+use Rattle.replay_spec.specs.Book.{Change, opens, extends, ends, finishes, sweeps, landing, Doubt, Book, spend, reopened}
 use Rattle.replay_spec.specs.Change.{clock_by, land}
 use Rattle.replay_spec.specs.Step.{kept, recovered}
-use Rattle.replay_spec.specs.Recovery.{number_in}
+use Rattle.replay_spec.specs.Recovery.{of_length, number_in}
 use Rattle.replay_spec.specs.Invariant.{Among, IsOf, IsOrderlyChange}
 use Rattle.replay_spec.proofs.Stand.{among_of}
 use Rattle.replay_spec.proofs.Orderly.{published, failed}
@@ -20,8 +20,10 @@ use Rattle.journal_records.specs.Records.{changes, IsInGrammar}
 use Rattle.journal_records.specs.Laws.{AreRecordsExact}
 use Rattle.journal_spec.specs.Before.{States, Made}
 use Rattle.journal_spec.specs.Making as make
-use Rattle.journal_spec.specs.Retaking.{Told, told_in, with_state, rules_for}
-use Rattle.journal_spec.specs.Keeping.{HasWholeScripts, IsTakenAs, IsTaken, IsOut, without_number, landed_in, Keeps, body_by}
+use Rattle.journal_spec.specs.Making.{made_in}
+use Rattle.journal_spec.specs.Retaking.{Told, told_in, with_state}
+use Rattle.journal_spec.specs.Whole.{HasWholeScripts}
+use Rattle.journal_spec.specs.Keeping.{IsTakenAs, IsTaken, IsOut, without_number, landed_in, Keeps, body_by}
 use Rattle.journal_spec.specs.Standing.{Between, HasRoom, if_kept, Throughout}
 use Rattle.journal_spec.specs.Disks.{IsFit}
 use Rattle.journal_spec.specs.Spelling.{IsTickInRange, IsInRange}
@@ -30,10 +32,10 @@ use Rattle.journal_spec.proofs.Fitting.{whole_by}
 use Rattle.journal_spec.proofs.Taking.{IsNew}
 use Rattle.journal_spec.proofs.Standings.{settled_stands, appended, left_standing}
 use Rattle.instance_book.specs.Makes.{HasSomeStates}
-use Rattle.book_recovery.specs.Remaking.{HasToldStates}
 use Rattle.shelf.specs.declared.doubt.Doubt as doubt_type
 use Rattle.shelf.specs.declared.shelf.Shelf.{Shelf}
-use Rattle.shelf.specs.Views.{doubt_of, book_in, IsInOrder}
+use Rattle.shelf.specs.Views.{doubt_of, library_in, book_in, IsInOrder}
+use Rattle.instance_book.specs.Redo.{HasToldStates}
 use Rattle.shelf.specs.Events.{HasMoments}
 use Rattle.shelf.proofs.Standing.{OnlyNow, CountsNow, IsQuietCall, throughout_alike}
 use Rattle.shelf.proofs.Order.{order_of}
@@ -57,14 +59,14 @@ no_tick k (sweeps tick) e = absurd e
 
 -- where a change is in doubt
 abbrev pub doubted_in : (count : ℕ) → Change → (inside : List TxName) → Book → Book
-doubted_in count c inside b = record b { down = Some (record { count = count; change = c; inside = inside }) }
+doubted_in count c inside b = record b { down = Some (record { count = count; work = landing c inside }) }
 
-module _ {D N : Type 0} (view : D → View) (tells : Bool) (ss : List Named) (s : Shelf D N) (order : IsInOrder view tells ss s) (up : s.down ≡ None) (k : ℕ) (out : Contains (book_in ss s).out k)
-    (c : Change) (is_its : IsOf k c) (state : Option (List ℕ)) (inside : List TxName) (fits : IsInGrammar (changes c state)) (x : Told) (taken : IsTakenAs (book_in ss s) c inside x)
-    (read : (told : IsTrue tells) → told_in ((order.fit told).holds (ap (λ (o : Option doubt_type.Doubt). option_map doubt_of o) up)).earlier (book_in ss s) c state ≡ x)
+module _ {D N : Type 0} (view : D → View) (tells : Bool) (s : Shelf D N) (order : IsInOrder view tells s) (up : s.down ≡ None) (k : ℕ) (out : Contains (book_in view s).out k)
+    (c : Change) (is_its : IsOf k c) (state : Option (List ℕ)) (inside : List TxName) (fits : IsInGrammar (changes c state)) (x : Told) (taken : IsTakenAs (book_in view s) c inside x)
+    (read : (told : IsTrue tells) → told_in ((order.fit told).holds (ap (λ (o : Option doubt_type.Doubt). option_map doubt_of o) up)).earlier (book_in view s) c state ≡ x)
     (room : length_of s.journal + 5 + length (body_by c state) ≤ 2 ^ 30) where
   abbrev b : Book
-  b = book_in ss s
+  b = book_in view s
 
   abbrev shelf : ℕ
   shelf = s.rules.number
@@ -74,7 +76,7 @@ module _ {D N : Type 0} (view : D → View) (tells : Bool) (ss : List Named) (s 
 
   -- the book behind the change, and the one where it is in doubt
   abbrev pub landed_book : Book
-  landed_book = land (rules_for (length body)) c inside (spend k b)
+  landed_book = land (of_length (length body)) c inside (spend k b)
 
   abbrev pub doubted_book : (count : ℕ) → Book
   doubted_book count = doubted_in count c inside (spend k b)
@@ -89,7 +91,7 @@ module _ {D N : Type 0} (view : D → View) (tells : Bool) (ss : List Named) (s 
   its_out = subst (IsOut b) (sym number) out
 
   landed_is : landed_in (length body) c inside b ≡ landed_book
-  landed_is = ap (λ (o : Option ℕ). land (rules_for (length body)) c inside (without_number o b)) number
+  landed_is = ap (λ (o : Option ℕ). land (of_length (length body)) c inside (without_number o b)) number
 
   change_fits : IsOrderlyChange b.clock b.instances c
   change_fits = taken_fits b c inside x taken
@@ -97,7 +99,7 @@ module _ {D N : Type 0} (view : D → View) (tells : Bool) (ss : List Named) (s 
   whole_landed : HasWholeScripts landed_book
   whole_landed = record {
     setup = order.scripts_are.setup;
-    instances = whole_by ss b.instances c inside order.orderly.instances.apart order.scripts_are.setup order.scripts_are.instances;
+    instances = whole_by b.scripts b.instances c inside order.orderly.instances.apart order.scripts_are.setup order.scripts_are.instances;
   }
 
   range_landed : IsInRange landed_book
@@ -109,7 +111,7 @@ module _ {D N : Type 0} (view : D → View) (tells : Bool) (ss : List Named) (s 
   range_doubted count = record { drawn = order.range.drawn; clock = order.range.clock; doubt = no_tick k c is_its }
 
   module _ (told : IsTrue tells) where
-    abbrev fit : IsFit view ss shelf s.journal b
+    abbrev fit : IsFit view texts shelf s.journal b
     fit = order.fit told
 
     abbrev bodies : List (List ℕ)
@@ -118,7 +120,7 @@ module _ {D N : Type 0} (view : D → View) (tells : Bool) (ss : List Named) (s 
     has_room : HasRoom bodies (Some body)
     has_room = let settled = fit.settled none_down in omega (arith, settled.end, room)
 
-    abbrev there : Keeps ss shelf bodies b
+    abbrev there : Keeps texts shelf bodies b
     there = fit.holds none_down
 
     taken_there : IsTaken there.earlier b c state inside
@@ -130,90 +132,90 @@ module _ {D N : Type 0} (view : D → View) (tells : Bool) (ss : List Named) (s 
         let same : n ≡ k = cc both in
         there.recoverable.used k (subst (λ (m : ℕ). Among m there.earlier.seen) same seen) (inl (among_of b.out k out))
 
-    keeps : LandingsAreKept → Keeps ss shelf (bodies ++ body ∷ []) landed_book
-    keeps law = subst (Keeps ss shelf (bodies ++ body ∷ [])) landed_is (law ss shelf bodies b c state inside there none_down fits taken_there its_out)
+    keeps : LandingsAreKept → Keeps texts shelf (bodies ++ body ∷ []) landed_book
+    keeps law = subst (Keeps texts shelf (bodies ++ body ∷ [])) landed_is (law texts shelf bodies b c state inside there none_down fits taken_there its_out)
 
-    between : LandingsStandBetween → (l : Between ss shelf b landed_book) × (l.bodies ≡ bodies) × (l.more ≡ Some body)
+    between : LandingsStandBetween → (l : Between texts shelf b landed_book) × (l.bodies ≡ bodies) × (l.more ≡ Some body)
     between law =
-        subst (λ (d : Book). (l : Between ss shelf b d) × (l.bodies ≡ bodies) × (l.more ≡ Some body)) landed_is
-        (law ss shelf bodies b c state inside there none_down fits taken_there its_out has_room)
+        subst (λ (d : Book). (l : Between texts shelf b d) × (l.bodies ≡ bodies) × (l.more ≡ Some body)) landed_is
+        (law texts shelf bodies b c state inside there none_down fits taken_there its_out has_room)
 
     -- at each moment of a call that adds the body
     module _ (mid new : Journal D) (call : IsQuietCall view tells s.journal mid) (run : LeavesOnly (view_of view mid) (view_of view new) (MayHold (bodies_in view mid) body)) where
-      throughout : LandingsStandBetween → OnlyNow (view_of view s.journal) → Throughout ss shelf b landed_book (view_of view s.journal) (view_of view new)
+      throughout : LandingsStandBetween → OnlyNow (view_of view s.journal) → Throughout texts shelf b landed_book (view_of view s.journal) (view_of view new)
       throughout law only_now =
           let l = between law in
           let here : LeavesOnly (view_of view mid) (view_of view new) (MayHold bodies body) =
           subst (λ (bs : List (List ℕ)). LeavesOnly (view_of view mid) (view_of view new) (MayHold bs body)) (ap stored call.seen) run in
-          appended bodies ss shelf b landed_book (view_of view s.journal) (view_of view mid) (view_of view new) body only_now (settled_images view s.journal (fit.settled none_down)) l.0 l.1 l.2 call.images call.time here
+          appended bodies texts shelf b landed_book (view_of view s.journal) (view_of view mid) (view_of view new) body only_now (settled_images view s.journal (fit.settled none_down)) l.0 l.1 l.2 call.images call.time here
 
-  module _ (t : Shelf D N) (limits : t.rules ≡ s.rules) (mid : Journal D) (call : IsQuietCall view tells s.journal mid)
-      (run : IsTrue tells → LeavesOnly (view_of view mid) (view_of view t.journal) (MayHold (bodies_in view mid) body)) (some : HasSomeStates ss t.book) (sound : journal.IsSound t.journal) where
+  module _ (t : Shelf D N) (told_same : t.library ≡ s.library) (limits : t.rules ≡ s.rules) (mid : Journal D) (call : IsQuietCall view tells s.journal mid)
+      (run : IsTrue tells → LeavesOnly (view_of view mid) (view_of view t.journal) (MayHold (bodies_in view mid) body)) (some : HasSomeStates (library_in t).all t.book) (sound : journal.IsSound t.journal) where
     -- its record was added
-    module _ (is : book_in ss t ≡ landed_book) where
+    module _ (is : book_in view t ≡ landed_book) where
       -- the records tell one state more
-      tells_then : AreRecordsExact → (told : IsTrue tells) (m : Made) → make.book_of ss shelf (bodies told ++ body ∷ []) ≡ make.made m → HasToldStates ss (with_state (Some k) x (there told).earlier.states) t.book
-          → HasToldStates ss m.earlier.states t.book
+      tells_then : AreRecordsExact → (told : IsTrue tells) (m : Made) → made_in (make.book_of texts shelf (bodies told ++ body ∷ [])) ≡ Some m → HasToldStates (library_in t).all (with_state (Some k) x (there told).earlier.states) t.book
+          → HasToldStates (library_in t).all m.earlier.states t.book
       tells_then exact told m made_there stay =
           let states = (there told).earlier.states in
-          let first = told_landed exact ss shelf (bodies told) b c state inside (there told) fits (taken_there told) (new_there told) m made_there in
+          let first = told_landed exact shelf (bodies told) b c state inside (there told) fits (taken_there told) (new_there told) m made_there in
           let then_them : m.earlier.states ≡ with_state (Some k) x states = first ∙ (ap (λ (o : Option ℕ). with_state o (told_in (there told).earlier b c state) states) number ∙ ap (λ (y : Told). with_state (Some k) y states) (read told)) in
-          subst (λ (ys : States). HasToldStates ss ys t.book) (sym then_them) stay
+          subst (λ (ys : States). HasToldStates (library_in t).all ys t.book) (sym then_them) stay
 
       pub landed_order : AreRecordsExact → LandingsAreKept → is_broken t.journal ≡ false → (IsTrue tells → IsSettled view t.journal × (bodies_in view t.journal ≡ bodies_in view mid ++ body ∷ []))
-          → ((told : IsTrue tells) → HasToldStates ss (with_state (Some k) x (there told).earlier.states) t.book) → IsInOrder view tells ss t
+          → ((told : IsTrue tells) → HasToldStates (library_in t).all (with_state (Some k) x (there told).earlier.states) t.book) → IsInOrder view tells t
       landed_order exact law whole added stay =
-          order_of view tells ss s t landed_book order some (published (rules_for (length body)) b k c inside order.orderly (among_of b.out k out) none_down change_fits is_its).orderly
-          whole_landed range_landed refl is limits (record {
+          order_of view tells s t landed_book order some (published (of_length (length body)) b k c inside order.orderly (among_of b.out k out) none_down change_fits is_its).orderly
+          whole_landed range_landed refl is told_same limits (record {
             sound = sound;
             whole = λ _. whole;
             fit = λ told.
                 let settled = (added told).0 in
                 let these : bodies told ++ body ∷ [] ≡ bodies_in view t.journal = ap (λ (bs : List (List ℕ)). bs ++ body ∷ []) (sym (ap stored call.seen)) ∙ sym (added told).1 in
-                let all = subst (λ (bs : List (List ℕ)). Keeps ss shelf bs landed_book) these (keeps told law) in
-                record { settled = λ _. settled; holds = λ _. all; stands = settled_stands view ss shelf t.journal landed_book settled (all.earlier, all.makes) none_down };
+                let all = subst (λ (bs : List (List ℕ)). Keeps texts shelf bs landed_book) these (keeps told law) in
+                record { settled = λ _. settled; holds = λ _. all; stands = settled_stands view texts shelf t.journal landed_book settled (all.earlier, all.makes) none_down };
             told = λ told _ m made_there.
                 let these : bodies told ++ body ∷ [] ≡ bodies_in view t.journal = ap (λ (bs : List (List ℕ)). bs ++ body ∷ []) (sym (ap stored call.seen)) ∙ sym (added told).1 in
-                tells_then exact told m (ap (make.book_of ss shelf) these ∙ made_there) (stay told);
+                tells_then exact told m (ap (λ (bs : List (List ℕ)). made_in (make.book_of texts shelf bs)) these ∙ made_there) (stay told);
           })
 
-      pub landed_run : LandingsStandBetween → IsTrue tells → OnlyNow (view s.journal.disk) → HasMoments view ss s t
+      pub landed_run : LandingsStandBetween → IsTrue tells → OnlyNow (view s.journal.disk) → HasMoments view s t
       landed_run law told only_now =
           let n = length body in
           let up_there : landed_book.down ≡ None = none_down in
-          let same : if_kept n landed_book ≡ landed_book = ap (λ (o : Option Doubt). recovered (rules_for n) kept o landed_book) up_there in
+          let same : if_kept n landed_book ≡ landed_book = ap (λ (o : Option Doubt). recovered (of_length n) kept o landed_book) up_there in
           let run_here = throughout told mid t.journal call (run told) law only_now in (
             n,
-            subst (λ (y : Book). Throughout ss shelf b (if_kept n y) (view s.journal.disk) (view t.journal.disk)) (sym is)
-                (subst (λ (y : Book). Throughout ss shelf b y (view s.journal.disk) (view t.journal.disk)) (sym same) run_here),
+            subst (λ (y : Book). Throughout texts shelf b (if_kept n y) (view s.journal.disk) (view t.journal.disk)) (sym is)
+                (subst (λ (y : Book). Throughout texts shelf b y (view s.journal.disk) (view t.journal.disk)) (sym same) run_here),
           )
 
     -- it is in doubt
-    module _ (count : ℕ) (is : book_in ss t ≡ doubted_book count) (in_doubt : t.down ≡ None → ⊥) where
+    module _ (count : ℕ) (is : book_in view t ≡ doubted_book count) (in_doubt : t.down ≡ None → ⊥) where
       abbrev d : Book
       d = doubted_book count
 
       kept_same : reopened landed_book ≡ reopened (if_kept (length body) d)
       kept_same = refl
 
-      pub doubted_order : LandingsStandBetween → OnlyNow (view s.journal.disk) → CountsNow (view t.journal.disk) → IsInOrder view tells ss t
+      pub doubted_order : LandingsStandBetween → OnlyNow (view s.journal.disk) → CountsNow (view t.journal.disk) → IsInOrder view tells t
       doubted_order law only_now counts =
-          order_of view tells ss s t d order some (failed b count k c inside order.orderly (among_of b.out k out) change_fits is_its).orderly
-          (record { setup = order.scripts_are.setup; instances = order.scripts_are.instances }) (range_doubted count) refl is limits (record {
+          order_of view tells s t d order some (failed b count k c inside order.orderly (among_of b.out k out) change_fits is_its).orderly
+          (record { setup = order.scripts_are.setup; instances = order.scripts_are.instances }) (range_doubted count) refl is told_same limits (record {
             sound = sound;
             whole = λ none. absurd (in_doubt none);
             fit = λ told. record {
               settled = λ none. absurd (let no : ⊥ = cc none in no);
               holds = λ none. absurd (let no : ⊥ = cc none in no);
-              stands = (left_standing ss shelf (length body) b landed_book d (view s.journal.disk) (view t.journal.disk) counts (throughout told mid t.journal call (run told) law only_now) refl kept_same).0;
+              stands = (left_standing texts shelf (length body) b landed_book d (view s.journal.disk) (view t.journal.disk) counts (throughout told mid t.journal call (run told) law only_now) refl kept_same).0;
             };
             told = λ told none. absurd (in_doubt none);
           })
 
-      pub doubted_run : LandingsStandBetween → IsTrue tells → OnlyNow (view s.journal.disk) → HasMoments view ss s t
+      pub doubted_run : LandingsStandBetween → IsTrue tells → OnlyNow (view s.journal.disk) → HasMoments view s t
       doubted_run law told only_now =
           let n = length body in (
             n,
-            subst (λ (y : Book). Throughout ss shelf b (if_kept n y) (view s.journal.disk) (view t.journal.disk)) (sym is)
-                (throughout_alike ss shelf b landed_book (if_kept n d) (view s.journal.disk) (view t.journal.disk) kept_same (throughout told mid t.journal call (run told) law only_now)),
+            subst (λ (y : Book). Throughout texts shelf b (if_kept n y) (view s.journal.disk) (view t.journal.disk)) (sym is)
+                (throughout_alike shelf b landed_book (if_kept n d) (view s.journal.disk) (view t.journal.disk) kept_same (throughout told mid t.journal call (run told) law only_now)),
           )

@@ -3,9 +3,7 @@ use Rattle.std.proofs.Common.{◌≡◌, ◌∙◌, ap, sym, subst, refl, ℕ, �
 use Rattle.std.specs.Prelude.{⊤}
 use Rattle.script_value.specs.declared.outcome.Reply.{Reply}
 use Rattle.script_value.specs.declared.outcome.Reply.TheVariants as reply
-use Rattle.script_nodes.specs.Setup.{Named}
-use Rattle.script_nodes.specs.Views.{scripts_of}
-use Rattle.script_nodes.specs.declared.setup.Setup.{Setup}
+use Rattle.script_nodes.specs.Setup.{Named, Library}
 use Rattle.page_names.specs.Views.{target_of}
 use Rattle.web_disk.specs.View.{View, LeavesOnly}
 use Rattle.page_journal.specs.Holding.{MayHold}
@@ -13,7 +11,8 @@ use Rattle.page_journal.specs.Settled as journal
 use Rattle.page_journal.specs.Settled.{IsSettled, view_of, bodies_in, length_of, is_broken}
 use Rattle.page_journal.specs.declared.journal.Journal.{Journal}
 use Rattle.replay_spec.specs.Book as spec
-use Rattle.replay_spec.specs.Book.{Book, spend}
+use Rattle.replay_spec.specs.Book.{changed, Book, spend}
+use Rattle.replay_spec.specs.Change.{with_line}
 use Rattle.replay_spec.specs.Step as step
 use Rattle.replay_spec.specs.Invariant.{IsOf}
 use Rattle.replay_spec.specs.Admission.{admit}
@@ -21,7 +20,8 @@ use Rattle.journal_records.specs.Records.{changes, record_length}
 use Rattle.journal_records.specs.Laws.{AreRecordsExact}
 use Rattle.journal_spec.specs.Before.{state_at}
 use Rattle.journal_spec.specs.Lengths.{told_own, own_body}
-use Rattle.journal_spec.specs.Keeping.{HasWholeScripts, IsTakenAs, CanBeWritten, body_by, stake_of}
+use Rattle.journal_spec.specs.Keeping.{IsTakenAs, body_by, stake_of}
+use Rattle.journal_spec.specs.Whole.{HasWholeScripts, CanBeWritten}
 use Rattle.journal_spec.specs.Owning.{IsOwnBefore}
 use Rattle.journal_spec.specs.Retaking as books_told
 use Rattle.journal_spec.specs.Laws.{EventsAreKept, EventsStandBetween, LandingsAreKept, LandingsStandBetween}
@@ -33,12 +33,14 @@ use Rattle.instance_book.specs.Places as sources
 use Rattle.instance_book.specs.Places.{Source}
 use Rattle.instance_book.specs.Makes.{Makes, MakesUnder, StaysSame, HasStatesFrom, HasSomeStates, HasItsStates, KeepsStates}
 use Rattle.instance_book.specs.Views.{ticket_of, reply_of}
-use Rattle.instance_book.specs.Changes.{change_of, inside_of, put_into, HasStateBy, IsSpelledIn, IsSpelledBy, KeepsStatesBy}
+use Rattle.instance_book.specs.Changes.{change_of, inside_of, put_into, HasStateBy, IsSpelledIn, IsSpelledBy, HasRoomFor, KeepsStatesBy}
 use Rattle.instance_book.specs.Fits.{FitsAs}
 use Rattle.instance_book.specs.Prepares.{HasItsScript}
 use Rattle.shelf.specs.declared.doubt.Doubt as doubt_type
 use Rattle.shelf.specs.declared.shelf.Shelf.{Shelf}
-use Rattle.shelf.specs.Views.{rules_of, doubt_of, doubt_by, book_in, fate_by, IsInOrder, IsOwnShelf, IsOwnVisit}
+use Rattle.shelf.specs.declared.file.FilePast.{FilePast}
+use Rattle.shelf.specs.Files.{file_of}
+use Rattle.shelf.specs.Views.{rules_of, doubt_of, doubt_by, library_in, beside_of, book_in, fate_by, IsInOrder, IsOwnShelf, IsOwnVisit}
 use Rattle.shelf.specs.Events.{IsPublish, SpendsNumber, SpendsOnly, HasMoments, HasOwnMoments, CarriesOut, ShowsItsState}
 use Rattle.shelf.specs.Holding.{IsWholeIn}
 use Rattle.shelf.specs.Preparing.{CanBeLanded}
@@ -59,14 +61,14 @@ use Rattle.shelf.proofs.Publishing.{not_wanting}
 
 -- The number is spent and the shelf in order, as it was at each moment. For an own visit this is the event of its ticket, and an own
 -- shelf is left, as at each moment.
-pub record Publishes {D N : Type 0} (view : D → View) (tells : Bool) (coming : N → ℕ → ℕ) (setup : Setup) (s u : Shelf D N) (t : Ticket) (x : Reply) : Type 0 where
-  pub event : IsOwnVisit view tells setup s t → IsPublish coming setup s u t x
-  pub in_order : IsInOrder view tells (scripts_of setup) u
-  pub own : IsOwnVisit view tells setup s t → IsOwnShelf view tells (scripts_of setup) u
-  pub spent : SpendsNumber setup s u t
-  pub any_moment : IsTrue tells → HasMoments view (scripts_of setup) s u
-  pub own_moments : IsTrue tells → IsOwnVisit view tells setup s t → HasOwnMoments view (scripts_of setup) s u
-  pub memory : SpendsOnly setup s u t x
+pub record Publishes {D N : Type 0} (view : D → View) (tells : Bool) (coming : N → ℕ → ℕ) (s u : Shelf D N) (t : Ticket) (x : Reply) : Type 0 where
+  pub event : IsOwnVisit view tells s t → IsPublish view coming s u t x
+  pub in_order : IsInOrder view tells u
+  pub own : IsOwnVisit view tells s t → IsOwnShelf view tells u
+  pub spent : SpendsNumber view s u t
+  pub any_moment : IsTrue tells → HasMoments view s u
+  pub own_moments : IsTrue tells → IsOwnVisit view tells s t → HasOwnMoments view s u
+  pub memory : SpendsOnly view s u t x
 
 -- what a publish rests on of the disk before it and behind it
 pub record Serves {D : Type 0} (view : D → View) (tells : Bool) (old new : Journal D) : Type 0 where
@@ -82,77 +84,74 @@ pub record Laws : Type 0 where
   pub landings_between : LandingsStandBetween
   pub exact : AreRecordsExact
 
--- whatever states its pages had under a setup, they have
+-- whatever states its pages had under these scripts, they have
 abbrev pub KeepsStatesIn : List Named → (old new : kept.Book) → Type 0
-KeepsStatesIn ss old new = (source : Source ⊤) → HasStatesFrom source ss old → HasStatesFrom source ss new
+KeepsStatesIn all old new = (source : Source ⊤) → HasStatesFrom source all old → HasStatesFrom source all new
 
 -- nothing was recorded
-pub spent_publishes : {D N : Type 0} (view : D → View) (tells : Bool) (coming : N → ℕ → ℕ) (setup : Setup) (s u : Shelf D N) (t : Ticket) (x : Reply) → IsInOrder view tells (scripts_of setup) s → EventsAreKept
-    → OnlyNow (view s.journal.disk) → Contains (book_in (scripts_of setup) s).out t.number → book_in (scripts_of setup) u ≡ spend t.number (book_in (scripts_of setup) s) → u.rules ≡ s.rules → u.nonces ≡ s.nonces
+pub spent_publishes : {D N : Type 0} (view : D → View) (tells : Bool) (coming : N → ℕ → ℕ) (s u : Shelf D N) (t : Ticket) (x : Reply) → IsInOrder view tells s → EventsAreKept
+    → OnlyNow (view s.journal.disk) → Contains (book_in view s).out t.number → book_in view u ≡ spend t.number (book_in view s) → u.library ≡ s.library → u.rules ≡ s.rules → u.nonces ≡ s.nonces
     → IsQuietCall view tells s.journal u.journal → journal.IsSound u.journal → (u.down ≡ None → is_broken u.journal ≡ false)
-    → KeepsStatesIn (scripts_of setup) s.book u.book
-    → (IsOwnVisit view tells setup s t
-    → Comes (rules_of (scripts_of setup) s.rules) (book_in (scripts_of setup) s) (step.publish (ticket_of t)) (fate_by (reply_of x)) (reply_of x) (spend t.number (book_in (scripts_of setup) s)) None)
-    → Publishes view tells coming setup s u t x
-spent_publishes view tells coming setup s u t x order events only_now out is limits source_stays call sound whole states comes =
-    let ss = scripts_of setup in
-    let b = book_in ss s in
+    → ((source : Source ⊤) → HasStatesFrom source (library_in s).all s.book → HasStatesFrom source (library_in u).all u.book)
+    → (IsOwnVisit view tells s t
+    → Comes (rules_of s.rules) (book_in view s) (step.publish (ticket_of t)) (fate_by (reply_of x)) (reply_of x) (spend t.number (book_in view s)) None)
+    → Publishes view tells coming s u t x
+spent_publishes view tells coming s u t x order events only_now out is told_same limits source_stays call sound whole states comes =
+    let b = book_in view s in
     let event = step.publish (ticket_of t) in
     let d = spend t.number b in
-    let wants = wanting ss s.rules b (ticket_of t) in
+    let wants = wanting s.rules b (ticket_of t) in
     let scripts : HasWholeScripts d = record { setup = order.scripts_are.setup; instances = order.scripts_are.instances } in
-    let stay : StayTold ss s.book u.book = λ told all. states (sources.given (λ n. state_at n told)) all in
-    let some : HasSomeStates ss s.book → HasSomeStates ss u.book = λ all. (all.0, states (sources.given all.0) all.1) in
+    let stay : StayTold s u = λ told all. states (sources.given (λ n. state_at n told)) all in
+    let some : HasSomeStates (library_in s).all s.book → HasSomeStates (library_in u).all u.book = λ all. (all.0, states (sources.given all.0) all.1) in
     record {
-      event = λ own. quiet_event coming ss s u event (reply_of x) d limits source_stays is (λ given. quiet x given) (comes own).step;
-      in_order = quiet_order view tells ss s u limits d is refl refl call order some stay sound event step.no_memory step.memory (wants.step 0) tt out tt events wants.landed scripts whole;
-      own = λ own. quiet_own view tells ss s u limits d is refl refl call (states (sources.own tt)) own.own;
+      event = λ own. quiet_event view coming s u event (reply_of x) d limits source_stays is (λ given. quiet x given) (comes own).step;
+      in_order = quiet_order view tells s u told_same limits d is refl refl call order some stay sound event step.no_memory step.memory (wants.step 0) tt tt tt refl out tt events wants.landed scripts whole;
+      own = λ own. quiet_own view tells s u told_same limits d is refl refl call (states (sources.own tt)) own.own;
       spent = ap (λ (y : Book). y.out) is;
-      any_moment = λ told. quiet_run view tells ss s u limits d is refl refl call order some stay sound event step.no_memory step.memory (wants.step 0) tt out tt events wants.landed told only_now;
-      own_moments = λ told own. quiet_own_moments view tells ss s u limits d is refl refl call told only_now own.own;
+      any_moment = λ told. quiet_run view tells s u told_same limits d is refl refl call order some stay sound event step.no_memory step.memory (wants.step 0) tt tt tt refl out tt events wants.landed told only_now;
+      own_moments = λ told own. quiet_own_moments view tells s u told_same limits d is refl refl call told only_now own.own;
       memory = λ wanted. is;
     }
 
 -- on a shelf whose book was made anew, the same
-module _ {D N : Type 0} (view : D → View) (tells : Bool) (setup : Setup) (s : Shelf D N) (book : kept.Book) (same : StaysSame s.book book) (keeps : KeepsStates s.book book) (t : Ticket) where
+module _ {D N : Type 0} (view : D → View) (tells : Bool) (s : Shelf D N) (book : kept.Book) (same : StaysSame s.book book) (keeps : KeepsStates s.book book) (t : Ticket) where
   abbrev anew : Shelf D N
   anew = record s { book = book }
 
-  same_book : book_in (scripts_of setup) anew ≡ book_in (scripts_of setup) s
-  same_book = same (scripts_of setup) (length_of s.journal) (option_map doubt_of s.down)
+  same_book : book_in view anew ≡ book_in view s
+  same_book = same (library_in s) (beside_of view s)
 
-  pub visit_anew : IsOwnVisit view tells setup s t → IsOwnVisit view tells setup anew t
+  pub visit_anew : IsOwnVisit view tells s t → IsOwnVisit view tells anew t
   visit_anew own = record {
-    own = own_at view tells (scripts_of setup) s book same_book keeps own.own;
-    fits = subst (λ (b : Book). FitsAs (scripts_of setup) b t (admit b (target_of t.target))) (sym same_book) own.fits;
+    own = own_at view tells s book same_book keeps own.own;
+    fits = subst (λ (b : Book). FitsAs (library_in s).all b t (admit b (target_of t.target))) (sym same_book) own.fits;
   }
 
-  pub publishes_from : (coming : N → ℕ → ℕ) (u : Shelf D N) (x : Reply) → Publishes view tells coming setup anew u t x → Publishes view tells coming setup s u t x
-  publishes_from coming u x p =
-      let ss = scripts_of setup in
-      record {
-        event = λ own. event_from coming ss s anew u (step.publish (ticket_of t)) (reply_of x) refl refl same_book (p.event (visit_anew own));
-        in_order = p.in_order;
-        own = λ own. p.own (visit_anew own);
-        spent = subst (λ (b : Book). (book_in ss u).out ≡ (spend t.number b).out) same_book p.spent;
-        any_moment = λ told. moments_from view ss s anew u refl refl same_book (p.any_moment told);
-        own_moments = λ told own. own_moments_from view ss s anew u refl refl same_book (p.own_moments told (visit_anew own));
-        memory = λ wanted. subst (λ (b : Book). book_in ss u ≡ spend t.number b) same_book (p.memory wanted);
-      }
+  pub publishes_from : (coming : N → ℕ → ℕ) (u : Shelf D N) (x : Reply) → Publishes view tells coming anew u t x → Publishes view tells coming s u t x
+  publishes_from coming u x p = record {
+    event = λ own. event_from view coming s anew u (step.publish (ticket_of t)) (reply_of x) refl refl same_book (p.event (visit_anew own));
+    in_order = p.in_order;
+    own = λ own. p.own (visit_anew own);
+    spent = subst (λ (b : Book). (book_in view u).out ≡ (spend t.number b).out) same_book p.spent;
+    any_moment = λ told. moments_from view s anew u refl refl same_book (p.any_moment told);
+    own_moments = λ told own. own_moments_from view s anew u refl refl same_book (p.own_moments told (visit_anew own));
+    memory = λ wanted. subst (λ (b : Book). book_in view u ≡ spend t.number b) same_book (p.memory wanted);
+  }
 
 -- a change, whose record was written
-module _ {D N : Type 0} (view : D → View) (tells : Bool) (coming : N → ℕ → ℕ) (setup : Setup) (s : Shelf D N) (order : IsInOrder view tells (scripts_of setup) s) (t : Ticket) (p : Prepared) (up : s.down ≡ None)
-    (out : Contains (book_in (scripts_of setup) s).out t.number) (has : HasItsScript (scripts_of setup) t (target_of t.target)) (can : CanBeLanded (scripts_of setup) s.book t p) (plain : fate_by (reply_of p.reply) ≡ step.plain)
-    (shows : IsOwnVisit view tells setup s t → ShowsItsState setup s p.change) (carries : IsOwnVisit view tells setup s t → CarriesOut setup s t p) (laws : Laws) (c : Change) (some : p.change ≡ Some c) (spent : kept.Book)
-    (spending : Makes (spend t.number) s.book spent) (same : spent.instances ≡ s.book.instances) (keeps : KeepsStates s.book spent) (whole : IsWholeIn (scripts_of setup) spent c)
-    (spelled : IsSpelledIn c) (goes : GoesOnAsGiven setup spent t c) (binds : BindsIn t c) (body : List ℕ)
+module _ {D N : Type 0} (view : D → View) (tells : Bool) (coming : N → ℕ → ℕ) (s : Shelf D N) (order : IsInOrder view tells s) (t : Ticket) (p : Prepared) (up : s.down ≡ None)
+    (out : Contains (book_in view s).out t.number) (has : HasItsScript (library_in s) t (target_of t.target)) (can : CanBeLanded (library_in s) s.book t p) (rooms : HasRoomFor p.change s.book) (plain : fate_by (reply_of p.reply) ≡ step.plain)
+    (shows : IsOwnVisit view tells s t → ShowsItsState s p.change) (carries : IsOwnVisit view tells s t → CarriesOut view s t p) (laws : Laws) (c : Change) (some : p.change ≡ Some c) (spent : kept.Book)
+    (spending : Makes (spend t.number) s.book spent) (same : spent.instances ≡ s.book.instances) (keeps : KeepsStates s.book spent) (whole : IsWholeIn (library_in s).all spent c)
+    (spelled : IsSpelledIn c) (goes : GoesOnAsGiven (library_in s) spent t c) (binds : BindsIn t c) (body : List ℕ)
     (written : IsBody (length_of s.journal) (changes (change_of c) (told_in t c)) (record_length (change_of c) (told_in t c)) body) (mid j : Journal D) (call : IsQuietCall view tells s.journal mid)
     (runs : IsTrue tells → LeavesOnly (view_of view mid) (view_of view j) (MayHold (bodies_in view mid) body)) (sound : journal.IsSound j) (serves : Serves view tells s.journal j) where
-  abbrev ss : List Named
-  ss = scripts_of setup
+  abbrev l : Library
+  l = library_in s
 
   abbrev b : Book
-  b = book_in ss s
+  b = book_in view s
 
   abbrev told_change : spec.Change
   told_change = change_of c
@@ -164,7 +163,7 @@ module _ {D N : Type 0} (view : D → View) (tells : Bool) (coming : N → ℕ �
   event = step.publish (ticket_of t)
 
   abbrev Mine : Type 0
-  Mine = IsOwnVisit view tells setup s t
+  Mine = IsOwnVisit view tells s t
 
   abbrev Run : List ℕ → Type 0
   Run y = IsTrue tells → LeavesOnly (view_of view mid) (view_of view j) (MayHold (bodies_in view mid) y)
@@ -173,23 +172,23 @@ module _ {D N : Type 0} (view : D → View) (tells : Bool) (coming : N → ℕ �
   run = subst Run written.is runs
 
   none_down : b.down ≡ None
-  none_down = landing.none_down view tells ss s order t p up out has can
+  none_down = landing.none_down view tells s order t p up out has can rooms
 
   its_number : IsOf t.number told_change
-  its_number = landing.its_number view tells ss s order t p up out has can c some
+  its_number = landing.its_number view tells s order t p up out has can rooms c some
 
   room : length_of s.journal + 5 + length told_body ≤ 2 ^ 30
-  room = landing.room view tells ss s order t p up out has can c some body written
+  room = landing.room view tells s order t p up out has can rooms c some body written
 
   taken : IsTakenAs b told_change (inside_of c) (told_own (state_in c))
-  taken = landing.taken view tells ss s order t p up out has can c some spent same whole spelled
+  taken = landing.taken view tells s order t p up out has can rooms c some spent same whole spelled
 
   read_there : (told : IsTrue tells) → books_told.told_in ((order.fit told).holds (ap (λ (o : Option doubt_type.Doubt). option_map doubt_of o) up)).earlier b told_change (told_in t c) ≡ told_own (state_in c)
-  read_there told = behind.read_there view tells setup s order t p up out has can c some spent same keeps whole spelled goes told binds
+  read_there told = behind.read_there view tells s order t p up out has can rooms c some spent same keeps whole spelled goes told binds
 
   -- where it is an own visit, the body is that of the event
   own_body_is : Mine → own_body b told_change ≡ told_body
-  own_body_is own = landing.own_body_is view tells ss s order t p up out has can c some own.fits
+  own_body_is own = landing.own_body_is view tells s order t p up out has can rooms c some own.fits
 
   own_run : Mine → Run (own_body b told_change)
   own_run own = subst Run (sym (own_body_is own)) run
@@ -198,23 +197,23 @@ module _ {D N : Type 0} (view : D → View) (tells : Bool) (coming : N → ℕ �
   own_room own = subst (λ (y : List ℕ). length_of s.journal + 5 + length y ≤ 2 ^ 30) (sym (own_body_is own)) room
 
   before_own : Mine → (told : IsTrue tells) → IsOwnBefore ((order.fit told).holds (ap (λ (o : Option doubt_type.Doubt). option_map doubt_of o) up)).earlier b (Some told_change)
-  before_own own told = own_behind view ss s.rules.number b s.journal told_change (ap (λ (o : Option doubt_type.Doubt). option_map doubt_of o) up) (order.fit told) (serves.reads told) (own.own.own told).images
+  before_own own told = own_behind view s.rules.number b s.journal told_change (ap (λ (o : Option doubt_type.Doubt). option_map doubt_of o) up) (order.fit told) (serves.reads told) (own.own.own told).images
 
   can_be_written : Mine → CanBeWritten b told_change
-  can_be_written own = landing.own_written view tells ss s order t p up out has can c some own.fits written.spelled spelled
+  can_be_written own = landing.own_written view tells s order t p up out has can rooms c some own.fits written.spelled spelled
 
   lands : Mine → (x : Reply) → x ≡ p.reply
-      → Comes (rules_of ss s.rules) b event (fate_by (reply_of x)) (reply_of x) (landing.landed_book view tells ss s order t p up out has can c some body written) (Some told_change)
-  lands own x replied = landing.landed_comes view tells ss s order t p up out has can c some own.fits (carries own) body written x replied plain
+      → Comes (rules_of s.rules) b event (fate_by (reply_of x)) (reply_of x) (landing.landed_book view tells s order t p up out has can rooms c some body written) (Some told_change)
+  lands own x replied = landing.landed_comes view tells s order t p up out has can rooms c some own.fits (carries own) body written x replied plain
 
   -- its record was added
-  module _ (new : kept.Book) (installing : MakesUnder (λ scripts. put_into scripts p) spent new) (states_by : KeepsStatesBy p.change spent new) (x : Reply) (replied : x ≡ p.reply)
+  module _ (past : FilePast D) (filed : file_of view past ≡ with_line (changed told_change (length body)) (file_of view s.file)) (new : kept.Book) (installing : MakesUnder (λ library. put_into library p) spent new) (states_by : KeepsStatesBy p.change spent new) (x : Reply) (replied : x ≡ p.reply)
       (long : length_of j ≡ length_of s.journal + 5 + length body) (unbroken : is_broken j ≡ false) (adds : IsTrue tells → IsSettled view j × (bodies_in view j ≡ bodies_in view mid ++ body ∷ [])) where
     abbrev longer : Shelf D N
-    longer = record s { journal = j; book = new }
+    longer = record s { journal = j; book = new; file = past }
 
     abbrev after : Book
-    after = landing.landed_book view tells ss s order t p up out has can c some body written
+    after = landing.landed_book view tells s order t p up out has can rooms c some body written
 
     abbrev Added : List ℕ → Type 0
     Added y = IsTrue tells → IsSettled view j × (bodies_in view j ≡ bodies_in view mid ++ y ∷ [])
@@ -225,31 +224,31 @@ module _ {D N : Type 0} (view : D → View) (tells : Bool) (coming : N → ℕ �
     own_added : Mine → Added (own_body b told_change)
     own_added own = subst Added (sym (own_body_is own)) added
 
-    landed_is : book_in ss longer ≡ after
-    landed_is = landing.landed_is view tells ss s order t p up out has can c some body written spent new (length_of j) spending installing long
+    landed_is : book_in view longer ≡ after
+    landed_is = landing.landed_is view tells s order t p up out has can rooms c some body written spent new (length_of j) (file_of view past) spending installing long filed
 
-    had : HasSomeStates ss new
-    had = untold.had view tells setup s order t p up out has can c some spent same keeps whole spelled goes new states_by
+    had : HasSomeStates l.all new
+    had = untold.had view tells s order t p up out has can rooms c some spent same keeps whole spelled goes new states_by
 
-    own_states : Mine → HasItsStates ss s.book → HasItsStates ss new
+    own_states : Mine → HasItsStates l.all s.book → HasItsStates l.all new
     own_states own all =
-        let shown = subst (λ (y : Book). HasStateBy ss y.shelf y.instances p.change) (sym (spending ss (length_of s.journal) (option_map doubt_of s.down))) (shows own (subst IsSpelledBy (sym some) spelled)) in
-        states_by (sources.own tt) ss shown (keeps (sources.own tt) ss all)
+        let shown = subst (λ (y : Book). HasStateBy l.all y.shelf y.instances p.change) (sym (spending l (beside_of view s))) (shows own (subst IsSpelledBy (sym some) spelled)) in
+        states_by (sources.own tt) l.all shown (keeps (sources.own tt) l.all all)
 
-    pub landed_publishes : Publishes view tells coming setup s longer t x
+    pub landed_publishes : Publishes view tells coming s longer t x
     landed_publishes = record {
-      event = λ own. quiet_event coming ss s longer event (reply_of x) after refl refl landed_is (λ given. quiet x given) (lands own x replied).step;
-      in_order = landed_order view tells ss s order up t.number out told_change its_number (told_in t c) (inside_of c) written.spelled (told_own (state_in c)) taken read_there room longer refl mid call run had sound landed_is laws.exact laws.landings unbroken added
-          (λ told. behind.installed view tells setup s order t p up out has can c some spent same keeps whole spelled goes told new states_by);
-      own = λ own. added_own view tells ss s longer order refl event (fate_by (reply_of x)) (reply_of x) after landed_is ((lands own x replied).step 0) tt out laws.events up told_change (can_be_written own) (own_room own) (before_own own) mid call (own_run own)
+      event = λ own. quiet_event view coming s longer event (reply_of x) after refl refl landed_is (λ given. quiet x given) (lands own x replied).step;
+      in_order = landed_order view tells s order up t.number out told_change its_number (told_in t c) (inside_of c) written.spelled (told_own (state_in c)) taken read_there room longer refl refl mid call run had sound landed_is laws.exact laws.landings unbroken added
+          (λ told. behind.installed view tells s order t p up out has can rooms c some spent same keeps whole spelled goes told new states_by);
+      own = λ own. added_own view tells s longer order refl refl event (fate_by (reply_of x)) (reply_of x) after landed_is ((lands own x replied).step 0) tt tt tt refl out laws.events up told_change (can_be_written own) (own_room own) (before_own own) mid call (own_run own)
           serves.counts_now (own_states own) serves.reads own.own (lands own x replied).landed none_down (own_added own);
       spent = ap (λ (y : Book). y.out) landed_is;
-      any_moment = λ told. landed_run view tells ss s order up t.number out told_change its_number (told_in t c) (inside_of c) written.spelled (told_own (state_in c)) taken read_there room longer refl mid call run had sound landed_is laws.landings_between told
+      any_moment = λ told. landed_run view tells s order up t.number out told_change its_number (told_in t c) (inside_of c) written.spelled (told_own (state_in c)) taken read_there room longer refl refl mid call run had sound landed_is laws.landings_between told
           serves.only_now;
-      own_moments = λ told own. recorded_own_moments view tells ss s longer order refl event (fate_by (reply_of x)) (reply_of x) after landed_is ((lands own x replied).step 0) tt out laws.events up told_change (can_be_written own) (own_room own) (before_own own) mid
-          call (own_run own) serves.counts_now laws.between told serves.only_now (stake_landed (rules_of ss s.rules) b event (fate_by (reply_of x)) told_change (lands own x replied).landed) (fate_by (reply_of x)) (lands own x replied).landed (serves.reads told)
+      own_moments = λ told own. recorded_own_moments view tells s longer order refl refl event (fate_by (reply_of x)) (reply_of x) after landed_is ((lands own x replied).step 0) tt tt tt refl out laws.events up told_change (can_be_written own) (own_room own) (before_own own) mid
+          call (own_run own) serves.counts_now laws.between told serves.only_now (stake_landed (rules_of s.rules) b event (fate_by (reply_of x)) told_change (lands own x replied).landed) (fate_by (reply_of x)) (lands own x replied).landed (serves.reads told)
           own.own;
-      memory = λ wanted. absurd {A = book_in ss longer ≡ spend t.number b} (not_wanting x (ap (λ (y : Reply). fate_by (reply_of y)) replied ∙ plain) wanted);
+      memory = λ wanted. absurd {A = book_in view longer ≡ spend t.number b} (not_wanting x (ap (λ (y : Reply). fate_by (reply_of y)) replied ∙ plain) wanted);
     }
 
   -- it is in doubt
@@ -260,26 +259,26 @@ module _ {D N : Type 0} (view : D → View) (tells : Bool) (coming : N → ℕ �
     abbrev in_doubt : Book
     in_doubt = doubted_in count told_change (inside_of c) (spend t.number b)
 
-    doubted_is : book_in ss doubtful ≡ in_doubt
-    doubted_is = landing.doubted_is view tells ss s order t p up out has can c some body written count spent (length_of j) (option_map doubt_of doubt) spending same_length doubted
+    doubted_is : book_in view doubtful ≡ in_doubt
+    doubted_is = landing.doubted_is view tells s order t p up out has can rooms c some body written count spent (length_of j) (option_map doubt_of doubt) spending same_length doubted
 
-    doubts : Mine → Comes (rules_of ss s.rules) b event (step.disk_fault count) (step.disk_failed count) in_doubt None
-    doubts own = landing.doubted_comes view tells ss s order t p up out has can c some own.fits (carries own) body written count
+    doubts : Mine → Comes (rules_of s.rules) b event (step.disk_fault count) (step.disk_failed count) in_doubt None
+    doubts own = landing.doubted_comes view tells s order t p up out has can rooms c some own.fits (carries own) body written count
 
-    stake : Mine → stake_of (rules_of ss s.rules) b 0 event (step.disk_fault count) ≡ Some told_change
-    stake own = stake_doubted (rules_of ss s.rules) b in_doubt event (step.disk_fault count) _ (doubts own).landed (ap (λ (y : step.Reply × Book). y.1) ((doubts own).step 0)) refl
+    stake : Mine → stake_of (rules_of s.rules) b 0 event (step.disk_fault count) ≡ Some told_change
+    stake own = stake_doubted (rules_of s.rules) b in_doubt event (step.disk_fault count) _ (doubts own).landed (ap (λ (y : step.Reply × Book). y.1) ((doubts own).step 0)) refl
 
-    pub doubted_publishes : Publishes view tells coming setup s doubtful t (reply.DiskFault count)
+    pub doubted_publishes : Publishes view tells coming s doubtful t (reply.DiskFault count)
     doubted_publishes = record {
-      event = λ own. quiet_event coming ss s doubtful event (step.disk_failed count) in_doubt refl refl doubted_is (λ given. refl) (doubts own).step;
-      in_order = doubted_order view tells ss s order up t.number out told_change its_number (told_in t c) (inside_of c) written.spelled (told_own (state_in c)) taken read_there room doubtful refl mid call run (some_kept ss s.book spent keeps order.kept) sound count doubted_is
+      event = λ own. quiet_event view coming s doubtful event (step.disk_failed count) in_doubt refl refl doubted_is (λ given. refl) (doubts own).step;
+      in_order = doubted_order view tells s order up t.number out told_change its_number (told_in t c) (inside_of c) written.spelled (told_own (state_in c)) taken read_there room doubtful refl refl mid call run (some_kept l.all s.book spent keeps order.kept) sound count doubted_is
           (λ e. down_there doubt _ e (ap (λ (y : Book). y.down) doubted_is)) laws.landings_between serves.only_now serves.counts_now;
-      own = λ own. shelves.doubted_own view tells ss s doubtful order refl event (step.disk_fault count) (step.disk_failed count) in_doubt doubted_is ((doubts own).step 0) tt out laws.events up told_change (can_be_written own) (own_room own) (before_own own) mid call
-          (own_run own) serves.counts_now (keeps (sources.own tt) ss) serves.reads own.own laws.between serves.only_now (stake own) refl (fate_by (reply_of p.reply)) (lands own p.reply refl).landed;
+      own = λ own. shelves.doubted_own view tells s doubtful order refl refl event (step.disk_fault count) (step.disk_failed count) in_doubt doubted_is ((doubts own).step 0) tt tt tt refl out laws.events up told_change (can_be_written own) (own_room own) (before_own own) mid call
+          (own_run own) serves.counts_now (keeps (sources.own tt) l.all) serves.reads own.own laws.between serves.only_now (stake own) refl (fate_by (reply_of p.reply)) (lands own p.reply refl).landed;
       spent = ap (λ (y : Book). y.out) doubted_is;
-      any_moment = λ told. doubted_run view tells ss s order up t.number out told_change its_number (told_in t c) (inside_of c) written.spelled (told_own (state_in c)) taken read_there room doubtful refl mid call run (some_kept ss s.book spent keeps order.kept) sound count doubted_is
+      any_moment = λ told. doubted_run view tells s order up t.number out told_change its_number (told_in t c) (inside_of c) written.spelled (told_own (state_in c)) taken read_there room doubtful refl refl mid call run (some_kept l.all s.book spent keeps order.kept) sound count doubted_is
           (λ e. down_there doubt _ e (ap (λ (y : Book). y.down) doubted_is)) laws.landings_between told serves.only_now;
-      own_moments = λ told own. recorded_own_moments view tells ss s doubtful order refl event (step.disk_fault count) (step.disk_failed count) in_doubt doubted_is ((doubts own).step 0) tt out laws.events up told_change (can_be_written own) (own_room own)
+      own_moments = λ told own. recorded_own_moments view tells s doubtful order refl refl event (step.disk_fault count) (step.disk_failed count) in_doubt doubted_is ((doubts own).step 0) tt tt tt refl out laws.events up told_change (can_be_written own) (own_room own)
           (before_own own) mid call (own_run own) serves.counts_now laws.between told serves.only_now (stake own) (fate_by (reply_of p.reply)) (lands own p.reply refl).landed (serves.reads told) own.own;
-      memory = λ wanted. absurd {A = book_in ss doubtful ≡ spend t.number b} (let no : ⊥ = cc wanted in no);
+      memory = λ wanted. absurd {A = book_in view doubtful ≡ spend t.number b} (let no : ⊥ = cc wanted in no);
     }

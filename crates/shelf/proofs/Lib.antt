@@ -24,6 +24,13 @@ pub mod Behind
 pub mod Untold
 pub mod Openings
 pub mod OwnOpenings
+pub mod Telling
+pub mod Renewing
+pub mod Beginning
+pub mod Reading
+pub mod Crashes
+pub mod Setups
+pub mod Opened
 pub mod Fitting
 pub mod Leaving
 pub mod Freeing

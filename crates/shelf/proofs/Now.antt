@@ -1,5 +1,5 @@
 -- The segment of a ticket over the cells of now.
-use Rattle.std.proofs.Common.{◌≡◌, ◌∙◌, ap, sym, subst, ℕ, List, [], ◌∷◌, length, map, Option, Some, None, IfSome, Result, Ok, Err, IfOk, option_map, slice_get, refl}
+use Rattle.std.proofs.Common.{◌≡◌, ◌∙◌, ap, sym, subst, ℕ, List, [], length, map, Option, Some, None, IfSome, Result, Ok, Err, IfOk, option_map, slice_get, refl}
 use Rattle.std.proofs.lemmas.Option.{same_Some}
 use Rattle.script_value.specs.Val.{Val}
 use Rattle.script_nodes.specs.Core.{AllOnCells}
@@ -11,11 +11,11 @@ use Rattle.instance_cells.specs.Cells.{Holds, AreOn}
 use Rattle.replay_spec.specs.Tape.{Reads, recorded, present}
 use Rattle.replay_spec.specs.Eval as eval
 use Rattle.replay_spec.specs.Eval.{run}
-use Rattle.replay_spec.specs.Book.{Page, Instance, Book}
+use Rattle.replay_spec.specs.Book.{Instance, Book}
 use Rattle.replay_spec.specs.Admission.{Place, Admission, begins, resumes, refused, refusal_of, admit}
-use Rattle.replay_spec.specs.Next.{Home, Visit, home_of, answered, tape_for, comes_to, start_visit, page_visit}
+use Rattle.replay_spec.specs.Next.{Visit, home_of, answered, tape_for, comes_to, start_visit, page_visit}
 use Rattle.replay_spec.specs.Next as next
-use Rattle.replay_spec.specs.Laws.{ArePast, EffectsHoldRunSame, EffectsAreOnCells}
+use Rattle.replay_spec.specs.Laws.{EffectsHoldRunSame, EffectsAreOnCells}
 use Rattle.replay_spec.specs.Remade.{EffectsHold}
 use Rattle.replay_spec.proofs.Admitted.{page_stands, start_is_no_page, page_is_no_start}
 use Rattle.replay_spec.proofs.Second.{pages_past}
@@ -28,9 +28,12 @@ use Rattle.instance_book.specs.Fits.{IsFor, FitsAs}
 use Rattle.instance_book.specs.Laws.{KeepsStateAs}
 use Rattle.shelf.specs.Runs.{IsRunOver}
 use Rattle.shelf.proofs.Replayed.{IsLike, run_like}
-use Rattle.book_recovery.proofs.Retold.{of_some}
 use Rattle.shelf.specs.Views.{HoldIn, IsSegmentOf, HaveTheirCells}
 use Rattle.shelf.specs.Holding.{AreHeld}
+
+-- what holds of a value, if there is one, holds of this one
+pub of_some : {X : Type 0} (o : Option X) (x : X) (P : X → Type 0) → o ≡ Some x → IfSome o P → P x
+of_some o x P e h = subst (λ z. IfSome z P) e h
 
 -- a first run whose effects hold over the cells of now
 same_run : EffectsHoldRunSame → (v : Visit) (fuel : ℕ) (before now : List Val) → Holds (comes_to v (present before fuel)).effects now
@@ -48,25 +51,25 @@ on_cells : EffectsAreOnCells → (v : Visit) (reads : Reads) (n : ℕ) → AllOn
 on_cells law v reads n whole e =
     subst (λ m. AreOn m (comes_to v reads).effects) (sym e) (law v.script.script (tape_for v reads) (length v.script.script.web) (length v.script.script.cells) whole)
 
-module _ (b : Book) (t : Ticket) (name : List ℕ) (a : Arena) (i : IsScript a) (named : Named) (its : named.script ≡ script_of a) (found : slice_get b.scripts t.script ≡ Some named) (fuel : ℕ) (over : List Val) (r : Segment)
-    (is : IsRunOver b.scripts fuel t over r) where
+module _ (all : List Named) (b : Book) (t : Ticket) (name : List ℕ) (a : Arena) (i : IsScript a) (named : Named) (its : named.script ≡ script_of a) (found : slice_get all t.script ≡ Some named) (fuel : ℕ) (over : List Val) (r : Segment)
+    (is : IsRunOver all fuel t over r) where
   -- the run of the visit that the ticket is for
-  run_as : (v : Visit) → v.ticket ≡ ticket_of t → IsFor b.scripts t v → IsLike v over fuel r
-  run_as v e fits = run_like b.scripts t a i named its found fuel over r is v e fits
+  run_as : (v : Visit) → v.ticket ≡ ticket_of t → IsFor all t v → IsLike v over fuel r
+  run_as v e fits = run_like all t a i named its found fuel over r is v e fits
 
-  whole_of : (v : Visit) → IsFor b.scripts t v → AllOnCells (length named.script.web) (length named.script.cells) (trees_of named.script)
+  whole_of : (v : Visit) → IsFor all t v → AllOnCells (length named.script.web) (length named.script.cells) (trees_of named.script)
       → AllOnCells (length v.script.script.web) (length v.script.script.cells) (trees_of v.script.script)
   whole_of v fits whole =
       subst (λ (s : Named). AllOnCells (length s.script.web) (length s.script.cells) (trees_of s.script)) (same_Some named v.script (sym found ∙ fits.script)) whole
 
   -- its state, where the target is admitted
-  pub keeps_state : (adm : Admission) → FitsAs b.scripts b t adm → KeepsStateAs b t adm r
+  pub keeps_state : (adm : Admission) → FitsAs all b t adm → KeepsStateAs b t adm r
   keeps_state (begins k x) fits = (run_as (start_visit b (ticket_of t) k x) refl fits.run).state
   keeps_state (resumes at) fits = (run_as (page_visit b (ticket_of t) at) refl fits).state
   keeps_state (refused why) fits = tt
 
   -- the segment of a start that is admitted, over the cells of its ticket
-  pub start_segment : (adm : Admission) → admit b (start name) ≡ adm → FitsAs b.scripts b t adm → over ≡ t.cells → IsSegmentOf fuel b t adm (segment_of r)
+  pub start_segment : (adm : Admission) → admit b (start name) ≡ adm → FitsAs all b t adm → over ≡ t.cells → IsSegmentOf fuel b t adm (segment_of r)
   start_segment (begins k x) e fits own =
       let v = start_visit b (ticket_of t) k x in
       (run_as v refl fits.run).comes ∙ ap (λ (vs : List Val). comes_to v (present vs fuel)) (own ∙ fits.cells)
@@ -75,7 +78,7 @@ module _ (b : Book) (t : Ticket) (name : List ℕ) (a : Arena) (i : IsScript a) 
 
   -- the effects of its run are on its cells
   pub start_on : EffectsAreOnCells → (adm : Admission) → AllOnCells (length named.script.web) (length named.script.cells) (trees_of named.script)
-      → admit b (start name) ≡ adm → refusal_of adm ≡ None → FitsAs b.scripts b t adm → AreOn (length t.cells) (segment_of r).effects
+      → admit b (start name) ≡ adm → refusal_of adm ≡ None → FitsAs all b t adm → AreOn (length t.cells) (segment_of r).effects
   start_on law (begins k x) whole e ok fits =
       let v = start_visit b (ticket_of t) k x in
       subst (λ (s : eval.Segment). AreOn (length t.cells) s.effects) (sym (run_as v refl fits.run).comes)
@@ -84,7 +87,7 @@ module _ (b : Book) (t : Ticket) (name : List ℕ) (a : Arena) (i : IsScript a) 
   start_on law (refused why) whole e ok fits = absurd (cc)
 
   -- and hold over them
-  pub start_holds : EffectsHold → (adm : Admission) → admit b (start name) ≡ adm → refusal_of adm ≡ None → FitsAs b.scripts b t adm → over ≡ t.cells → Holds (segment_of r).effects t.cells
+  pub start_holds : EffectsHold → (adm : Admission) → admit b (start name) ≡ adm → refusal_of adm ≡ None → FitsAs all b t adm → over ≡ t.cells → Holds (segment_of r).effects t.cells
   start_holds law (begins k x) e ok fits own =
       let v = start_visit b (ticket_of t) k x in
       subst (λ (s : eval.Segment). Holds s.effects t.cells) (sym (run_as v refl fits.run).comes)
@@ -97,14 +100,14 @@ module _ (b : Book) (t : Ticket) (name : List ℕ) (a : Arena) (i : IsScript a) 
     its_cells at e = cc (here, ap (option_map (λ (j : Instance). j.cells)) (page_stands b name n at e).here)
 
     -- the segment of an answer to a page that is admitted: the run over the cells of now, or the first run where its effects hold
-    pub rerun_segment : (adm : Admission) → admit b (page name n) ≡ adm → FitsAs b.scripts b t adm → over ≡ cells → IsSegmentOf fuel b t adm (segment_of r)
+    pub rerun_segment : (adm : Admission) → admit b (page name n) ≡ adm → FitsAs all b t adm → over ≡ cells → IsSegmentOf fuel b t adm (segment_of r)
     rerun_segment (begins k x) e fits own = absurd (page_is_no_start b name n k x e)
     rerun_segment (resumes at) e fits own =
         let v = page_visit b (ticket_of t) at in
         (run_as v refl fits).comes ∙ ap (λ (vs : List Val). comes_to v (present vs fuel)) (own ∙ its_cells at e)
     rerun_segment (refused why) e fits own = tt
 
-    pub held_segment : EffectsHoldRunSame → (adm : Admission) → admit b (page name n) ≡ adm → FitsAs b.scripts b t adm → Holds (segment_of r).effects cells → IsSegmentOf fuel b t adm (segment_of r)
+    pub held_segment : EffectsHoldRunSame → (adm : Admission) → admit b (page name n) ≡ adm → FitsAs all b t adm → Holds (segment_of r).effects cells → IsSegmentOf fuel b t adm (segment_of r)
     held_segment law (begins k x) e fits holds = absurd (page_is_no_start b name n k x e)
     held_segment law (resumes at) e fits holds =
         let v = page_visit b (ticket_of t) at in
@@ -115,7 +118,7 @@ module _ (b : Book) (t : Ticket) (name : List ℕ) (a : Arena) (i : IsScript a) 
 
     -- the effects of its run are on the cells of its instance
     pub page_on : EffectsAreOnCells → (adm : Admission) → AllOnCells (length named.script.web) (length named.script.cells) (trees_of named.script) → HaveTheirCells b
-        → admit b (page name n) ≡ adm → refusal_of adm ≡ None → FitsAs b.scripts b t adm → AreOn (length cells) (segment_of r).effects
+        → admit b (page name n) ≡ adm → refusal_of adm ≡ None → FitsAs all b t adm → AreOn (length cells) (segment_of r).effects
     page_on law (begins k x) whole theirs e ok fits = absurd (page_is_no_start b name n k x e)
     page_on law (resumes at) whole theirs e ok fits =
         let v = page_visit b (ticket_of t) at in
@@ -126,7 +129,7 @@ module _ (b : Book) (t : Ticket) (name : List ℕ) (a : Arena) (i : IsScript a) 
 
     -- so they are held by these where they hold over them
     pub page_held : EffectsAreOnCells → (d : Destination) → d ≡ page name n → AllOnCells (length named.script.web) (length named.script.cells) (trees_of named.script) → HaveTheirCells b
-        → refusal_of (admit b d) ≡ None → FitsAs b.scripts b t (admit b d) → HoldIn b d (segment_of r).effects → AreHeld (segment_of r).effects cells
+        → refusal_of (admit b d) ≡ None → FitsAs all b t (admit b d) → HoldIn b d (segment_of r).effects → AreHeld (segment_of r).effects cells
     page_held law d e whole theirs ok fits hold =
         let over : HoldIn b (page name n) (segment_of r).effects = subst (λ (x : Destination). HoldIn b x (segment_of r).effects) e hold in
         record {
@@ -149,10 +152,10 @@ pub if_none : {X : Type 0} (o : Option X) (P : X → Type 0) → o ≡ None → 
 if_none o P e = subst (λ z. IfSome z P) (sym e) tt
 
 -- the script of an admitted target's ticket is in the setup
-pub script_there : (b : Book) (t : Ticket) (a : Admission) → refusal_of a ≡ None → FitsAs b.scripts b t a → slice_get b.scripts t.script ≡ None → ⊥
-script_there b t (begins k x) admitted fits gone = cc (fits.run.script, gone)
-script_there b t (resumes at) admitted fits gone = cc (fits.script, gone)
-script_there b t (refused r) admitted fits gone = cc
+pub script_there : (all : List Named) (b : Book) (t : Ticket) (a : Admission) → refusal_of a ≡ None → FitsAs all b t a → slice_get all t.script ≡ None → ⊥
+script_there all b t (begins k x) admitted fits gone = cc (fits.run.script, gone)
+script_there all b t (resumes at) admitted fits gone = cc (fits.script, gone)
+script_there all b t (refused r) admitted fits gone = cc
 
 -- two facts of what was made
 pub both_ok : {X E : Type 0} {P Q R : X → Type 0} (r : Result X E) → IfOk r P → IfOk r Q → ((x : X) → P x → Q x → R x) → IfOk r R

@@ -1,257 +1,217 @@
--- What opening a disk finds and leaves.
-use Rattle.std.proofs.Common.{◌≡◌, ◌≢◌, ◌⊎◌, inl, inr, ⊎_elim, ℕ, ◌+◌, ◌≤◌, ◌==◌, ◌&&◌, Bool, true, false, List, [], ◌∷◌, length, Option, Some, None, if◌then◌else◌, refl, sym, ◌∙◌, ap, subst, arith}
-use Rattle.script_nodes.specs.Setup.{Named}
+-- What opening a disk finds.
+use Rattle.std.proofs.Common.{◌≡◌, ◌≢◌, ◌⊎◌, inl, inr, ⊎_elim, ℕ, ◌+◌, ◌==◌, Bool, true, false, List, [], ◌∷◌, length, Option, Some, None, if◌then◌else◌, refl, sym, ◌∙◌, ap, subst, arith}
+use Rattle.std.proofs.lemmas.Option.{same_Some}
+use Rattle.setup_reader.specs.Texts.{setup_of_texts as texts, IsReadSetup}
+use Rattle.script_nodes.specs.Arena.{IsScript, script_of}
+use Rattle.script_nodes.specs.Setup.{Named, Library}
+use Rattle.script_nodes.specs.Views.{named_of}
+use Rattle.script_nodes.specs.declared.setup.NamedScript.{NamedScript}
 use Rattle.web_disk.specs.View.{View, LeavesOnly}
 use Rattle.page_journal.specs.Records.{records, Intact, stored, at_rest}
-use Rattle.page_journal.specs.Opened.{IsIntactOrEmpty}
 use Rattle.page_journal.specs.Scanned.{IsQuiet}
-use Rattle.page_journal.specs.Settled.{IsSettled, view_of, bodies_in, length_of}
+use Rattle.page_journal.specs.Settled.{IsSettled, bodies_in, length_of}
 use Rattle.page_journal.specs.declared.journal.Journal.{Journal}
-use Rattle.page_journal.proofs.Mending.{leaves_then}
-use Rattle.replay_spec.specs.Book.{Doubt, Book, Change, reopened, reopened_with}
-use Rattle.replay_spec.specs.Rules.{Rules, empty_book}
-use Rattle.replay_spec.specs.Step as step
-use Rattle.replay_spec.specs.Step.{Fate, lost, kept, live, recovered}
-use Rattle.replay_spec.specs.Invariant.{IsOrderly, IsSound}
-use Rattle.replay_spec.proofs.Orderly.{books_stay}
-use Rattle.replay_spec.proofs.Steps.{stepped}
-use Rattle.journal_records.specs.Records.{Record, begins, changes, begin_of, begun_length, IsInGrammar}
+use Rattle.replay_spec.specs.Book.{Book, File, reopened}
+use Rattle.journal_records.specs.Records.{Record, begins, changes, renews, draws}
 use Rattle.journal_records.specs.Reading.{read_record}
 use Rattle.journal_records.specs.Laws.{AreRecordsExact}
-use Rattle.journal_spec.specs.Before.{Earlier, nothing_told, Made, nothing_made, made_of}
+use Rattle.journal_spec.specs.Before.{Earlier, Made, made_of}
 use Rattle.journal_spec.specs.Retaking.{Told, unread, misread, told, told_in}
-use Rattle.journal_spec.specs.Lengths.{journal_rules}
-use Rattle.journal_spec.specs.Making.{has_script, told_next, Making, nothing, made, damaged, other, rules_over, are_told, first_by, next_by, with_body, with_bodies, begun, book_of, book_in_bytes}
-use Rattle.journal_spec.specs.Standing.{IsBook, Makes, MakesIn, Held, if_kept, StaysThroughout, IsOneOf}
-use Rattle.journal_spec.specs.Spelling.{IsInRange}
-use Rattle.journal_spec.specs.Keeping.{Keeps, AreWhole, HasWholeScripts, first_body}
+use Rattle.journal_spec.specs.Making.{has_script, told_next, Making, nothing, begun, made, damaged, other, began, first_setup, first_by, next_setup, next_by, second_by, made_in, with_body, with_bodies, book_of, book_in_bytes}
+use Rattle.journal_spec.specs.Opening.{opened_on}
+use Rattle.journal_spec.specs.Standing.{IsMadeBook, Makes, IsOneOf}
+use Rattle.journal_spec.specs.Keeping.{Keeps}
+use Rattle.journal_spec.specs.Whole.{IsWhole, HasWholeScripts}
 use Rattle.journal_spec.specs.Disks.{IsFit}
 use Rattle.journal_spec.proofs.Fitting.{made_fits}
-use Rattle.journal_spec.proofs.Kept.{fresh_kept}
-use Rattle.journal_spec.proofs.Between.{recovered_setup, read_as, make_books}
+use Rattle.journal_spec.proofs.Between.{read_as}
 use Rattle.journal_spec.proofs.Standings.{settled_stands}
 use Rattle.instance_book.specs.declared.book.Book.{Book as RustBook}
-use Rattle.instance_book.specs.Swept.{IsEmpty}
-use Rattle.instance_book.specs.Makes.{HasPlaces, HasSomeStates}
-use Rattle.book_recovery.specs.Remaking.{HasToldStates}
-use Rattle.book_recovery.specs.Found.{book_with, FindsBook, IsBookInOrder}
+use Rattle.instance_book.specs.Views as views
+use Rattle.instance_book.specs.Views.{Beside}
+use Rattle.instance_book.proofs.Behind.{arena_again}
+use Rattle.book_recovery.specs.Found.{FindsBook, beside_file}
+use Rattle.shelf.specs.Files.{file_in, read_file}
+use Rattle.shelf.specs.Opening.{making_of}
 use Rattle.shelf.specs.Views.{TellsStates}
-use Rattle.shelf.specs.Opening.{IsCrashed, AReopenedShelfHasCrashed, AReopenedShelfIsSound, AStandingDiskOpens, KeepsRecords, ReadsOrBegins}
-use Rattle.shelf.specs.declared.begin.BeginFault.TheVariants as fault
+use Rattle.instance_book.specs.Redo.{HasToldStates}
 
--- what records make is nothing where there is none
-some_first : (scripts : List Named) (shelf place : ℕ) (o : Option Record) → first_by scripts shelf place o ≢ nothing
-some_first scripts shelf place None = λ e. cc e
-some_first scripts shelf place (Some (changes c state)) = λ e. cc e
-some_first scripts shelf place (Some (begins s named)) = by_test (s == shelf && are_told named scripts)
-  where
-    by_test : (t : Bool) → (if t then made (nothing_made (rules_over scripts shelf) scripts shelf) else other place) ≢ nothing
-    by_test true = λ e. cc e
-    by_test false = λ e. cc e
+-- ---- what records make is nothing just where there is none
 
-some_told : (place n : ℕ) (m : Made) (c : Change) (x : Told) → told_next place n m c x ≢ nothing
-some_told place n m c unread = λ e. cc e
-some_told place n m c misread = λ e. cc e
-some_told place n m c (told d) = λ e. cc e
+module _ (shelf place n : ℕ) where
+  some_setup_first : (s : ℕ) (o : Option (List Named)) → first_setup shelf place n s o ≢ nothing
+  some_setup_first s None = λ e. cc e
+  some_setup_first s (Some scripts) = by_test (s == shelf)
+    where
+      by_test : (t : Bool) → (if t then begun (began shelf n scripts) else other place) ≢ nothing
+      by_test true = λ e. cc e
+      by_test false = λ e. cc e
 
-some_next : (scripts : List Named) (place n : ℕ) (m : Made) (o : Option Record) → next_by scripts place n m o ≢ nothing
-some_next scripts place n m None = λ e. cc e
-some_next scripts place n m (Some (begins s named)) = λ e. cc e
-some_next scripts place n m (Some (changes c state)) = by_test (has_script (length scripts) c) (told_next place n m c (told_in m.earlier m.book c state)) (some_told place n m c (told_in m.earlier m.book c state))
-  where
-    by_test : (t : Bool) (x : Making) → x ≢ nothing → (if t then x else damaged place) ≢ nothing
-    by_test true x h = h
-    by_test false x h = λ e. cc e
+  some_first : (o : Option Record) → first_by texts shelf place n o ≢ nothing
+  some_first None = λ e. cc e
+  some_first (Some (changes c state)) = λ e. cc e
+  some_first (Some (renews named)) = λ e. cc e
+  some_first (Some (draws k)) = λ e. cc e
+  some_first (Some (begins s named)) = some_setup_first s (texts named)
 
-some_body : (scripts : List Named) (shelf place : ℕ) (body : List ℕ) (m : Making) → with_body scripts shelf place body m ≢ nothing
-some_body scripts shelf place body nothing = some_first scripts shelf place (read_record body)
-some_body scripts shelf place body (made m) = some_next scripts place (length body) m (read_record body)
-some_body scripts shelf place body (damaged p) = λ e. cc e
-some_body scripts shelf place body (other p) = λ e. cc e
+module _ (place n : ℕ) (m : Made) where
+  some_told : (x : Told) (c : _) → told_next place n m c x ≢ nothing
+  some_told unread c = λ e. cc e
+  some_told misread c = λ e. cc e
+  some_told (told d) c = λ e. cc e
 
-some_bodies : (scripts : List Named) (shelf place : ℕ) (bodies : List (List ℕ)) (m : Making) → m ≢ nothing → with_bodies scripts shelf place bodies m ≢ nothing
-some_bodies scripts shelf place [] m h = h
-some_bodies scripts shelf place (body ∷ bodies) m h = some_bodies scripts shelf (place + 5 + length body) bodies (with_body scripts shelf place body m) (some_body scripts shelf place body m)
+  some_setup : (o : Option (List Named)) → next_setup place n m o ≢ nothing
+  some_setup None = λ e. cc e
+  some_setup (Some scripts) = λ e. cc e
 
-pub none_read : (scripts : List Named) (shelf : ℕ) (bodies : List (List ℕ)) → book_of scripts shelf bodies ≡ nothing → bodies ≡ []
-none_read scripts shelf [] is = refl
-none_read scripts shelf (body ∷ bodies) is =
-    absurd (some_bodies scripts shelf (8 + 5 + length body) bodies (with_body scripts shelf 8 body nothing) (some_body scripts shelf 8 body nothing) is)
+  some_if : (t : Bool) (x : Making) → x ≢ nothing → (if t then x else damaged place) ≢ nothing
+  some_if true x h = h
+  some_if false x h = λ e. cc e
+
+  some_next : (o : Option Record) → next_by texts place n m o ≢ nothing
+  some_next None = λ e. cc e
+  some_next (Some (begins s named)) = λ e. cc e
+  some_next (Some (draws k)) = λ e. cc e
+  some_next (Some (renews named)) = some_setup (texts named)
+  some_next (Some (changes c state)) =
+      some_if (has_script (length m.book.scripts) c) (told_next place n m c (told_in m.earlier m.book c state)) (some_told (told_in m.earlier m.book c state) c)
+
+  some_second : (o : Option Record) → second_by texts place n m o ≢ nothing
+  some_second None = λ e. cc e
+  some_second (Some (begins s named)) = λ e. cc e
+  some_second (Some (draws k)) = λ e. cc e
+  some_second (Some (renews named)) = some_setup (texts named)
+  some_second (Some (changes c state)) = some_next (Some (changes c state))
+
+some_body : (shelf place : ℕ) (body : List ℕ) (m : Making) → with_body texts shelf place body m ≢ nothing
+some_body shelf place body nothing = some_first shelf place (length body) (read_record body)
+some_body shelf place body (begun m) = some_second place (length body) m (read_record body)
+some_body shelf place body (made m) = some_next place (length body) m (read_record body)
+some_body shelf place body (damaged p) = λ e. cc e
+some_body shelf place body (other p) = λ e. cc e
+
+some_bodies : (shelf place : ℕ) (bodies : List (List ℕ)) (m : Making) → m ≢ nothing → with_bodies texts shelf place bodies m ≢ nothing
+some_bodies shelf place [] m h = h
+some_bodies shelf place (body ∷ bodies) m h = some_bodies shelf (place + 5 + length body) bodies (with_body texts shelf place body m) (some_body shelf place body m)
+
+pub none_read : (shelf : ℕ) (bodies : List (List ℕ)) → book_of texts shelf bodies ≡ nothing → bodies ≡ []
+none_read shelf [] is = refl
+none_read shelf (body ∷ bodies) is =
+    absurd (some_bodies shelf (8 + 5 + length body) bodies (with_body texts shelf 8 body nothing) (some_body shelf 8 body nothing) is)
+
+pub not_nothing : (m : Making) (x : Made) → made_in m ≡ Some x → m ≢ nothing
+not_nothing m x is none = let no : ⊥ = cc (none, is) in no
 
 -- a journal without records has a header and a gate
 pub nine : {D : Type 0} (view : D → View) (j : Journal D) → IsSettled view j → bodies_in view j ≡ [] → length_of j ≡ 9
 nine view j s none = omega (arith, s.end, ap (λ (bs : List (List ℕ)). length (at_rest bs)) none)
 
--- an empty book beside a journal of any length
-module _ (scripts : List Named) (shelf : ℕ) (b : RustBook) (empty : IsEmpty shelf b) where
-  abbrev rules_at : ℕ → Rules
-  rules_at n = record (rules_over scripts shelf) { journal = Some (record { begun = n; length_of = λ (x : Book) (c : Change). 0 }) }
+-- each script that is kept can be run
+pub whole_named : (s : NamedScript) → IsScript s.script → IsWhole (named_of s)
+whole_named s script =
+    let same = sym (arena_again s.script script) in
+    record { script = subst IsScript same script; means = ap script_of same }
 
-  is_at : (n : ℕ) → book_with scripts n b ≡ empty_book (rules_at n) scripts shelf
-  is_at n = empty scripts (rules_at n)
+-- ---- the bytes of a disk, and the bodies of the journal that is opened on it
 
-  empty_whole : (n : ℕ) → AreWhole scripts → HasWholeScripts (empty_book (rules_at n) scripts shelf)
-  empty_whole n whole = record { setup = whole; instances = λ k i e. absurd (let no : ⊥ = cc e in no) }
+pub read_in_bytes : (shelf : ℕ) (bytes : List ℕ) → (records bytes ≡ Intact (stored bytes)) ⊎ (bytes ≡ []) → book_in_bytes texts shelf bytes ≡ book_of texts shelf (stored bytes)
+read_in_bytes shelf bytes (inl intact) = read_as texts shelf (stored bytes) bytes intact
+read_in_bytes shelf bytes (inr none) = ap (book_in_bytes texts shelf) none ∙ ap (λ (l : List ℕ). book_of texts shelf (stored l)) (sym none)
 
-  pub empty_in_order : AreWhole scripts → HasPlaces scripts b → HasSomeStates scripts b → IsBookInOrder scripts shelf b
-  empty_in_order whole placed some = record {
-    placed = placed;
-    kept = some;
-    shelf_is = ap (λ (x : Book). x.shelf) (is_at 0);
-    orderly = λ n. subst IsOrderly (sym (is_at n)) (books_stay.0 (rules_at n) scripts shelf);
-    whole = λ n. subst HasWholeScripts (sym (is_at n)) (empty_whole n whole);
-    range = λ n. subst IsInRange (sym (is_at n)) (record { drawn = omega arith; clock = omega arith; doubt = tt });
-    again = λ n. is_at n ∙ sym (ap reopened (is_at n));
-  }
+pub same_books : (shelf : ℕ) (bytes : List ℕ) (bodies : List (List ℕ)) → (records bytes ≡ Intact (stored bytes)) ⊎ (bytes ≡ []) → bodies ≡ stored bytes → book_in_bytes texts shelf bytes ≡ book_of texts shelf bodies
+same_books shelf bytes bodies intact is = read_in_bytes shelf bytes intact ∙ ap (book_of texts shelf) (sym is)
 
-  -- of a journal that has its first record alone
-  module _ (n : ℕ) (long : n ≡ begun_length shelf scripts) where
-    begun_is : book_with scripts n b ≡ empty_book (rules_over scripts shelf) scripts shelf
-    begun_is = empty scripts (record (rules_over scripts shelf) { journal = Some (record (journal_rules shelf scripts) { begun = n }) })
-        ∙ ap (λ (m : ℕ). record (empty_book (rules_over scripts shelf) scripts shelf) { length = m }) long
+-- what the shelf goes on with is a book by the bytes where it is by the bodies
+pub made_there : (scripts : List Named) (shelf : ℕ) (m n : Making) (b : Book) → m ≡ n → IsMadeBook (opened_on shelf scripts n) b → IsMadeBook (opened_on shelf scripts m) b
+made_there scripts shelf m n b same (seen, is) = (seen, ap (opened_on shelf scripts) same ∙ is)
 
-    pub begun_book : (m : Making) → m ≡ nothing → IsBook (begun scripts shelf m) (book_with scripts n b)
-    begun_book m none = (
-      nothing_told,
-      ap (begun scripts shelf) none ∙ ap (λ (x : Book). made (record { book = x; earlier = nothing_told })) (sym (ap reopened begun_is)),
-    )
+-- ---- what is found of records can go on
 
-    pub begun_fit : {D : Type 0} (view : D → View) (j : Journal D) → AreRecordsExact → AreWhole scripts → IsInGrammar (begin_of shelf scripts) → IsSettled view j
-        → bodies_in view j ≡ first_body scripts shelf ∷ [] → IsFit view scripts shelf j (book_with scripts n b)
-    begun_fit view j x whole fits settled bodies =
-        let keeps = fresh_kept x scripts shelf (rules_over scripts shelf) refl whole fits in
-        let here : Keeps scripts shelf (bodies_in view j) (book_with scripts n b) =
-        subst (λ (bs : List (List ℕ)). Keeps scripts shelf bs (book_with scripts n b)) (sym bodies) (subst (Keeps scripts shelf (first_body scripts shelf ∷ [])) (sym begun_is) keeps) in
-        record { settled = λ _. settled; holds = λ _. here; stands = settled_stands view scripts shelf j (book_with scripts n b) settled (here.earlier, here.makes) refl }
+module _ {D : Type 0} (view : D → View) (shelf : ℕ) (j : Journal D) where
+  -- beside a book that was read of this journal
+  abbrev pub read_beside : Beside
+  read_beside = record { length = length_of j; file = read_file view shelf j; down = None }
 
--- what was found of records
-pub found_fit : {D : Type 0} (view : D → View) (scripts : List Named) (shelf : ℕ) (j : Journal D) (b : Book) → AreRecordsExact → AreWhole scripts → IsSettled view j
-    → Makes scripts shelf (bodies_in view j) b → b ≡ reopened b → IsFit view scripts shelf j b
-found_fit view scripts shelf j b x whole settled (seen, makes) again =
-    let fits = made_fits x scripts shelf (bodies_in view j) (made_of b seen) makes in
-    let r = fits.recoverable whole in
-    let down : b.down ≡ None = ap (λ (y : Book). y.down) again in
-    let keeps : Keeps scripts shelf (bodies_in view j) (reopened b) = record {
-      earlier = seen;
-      makes = makes;
-      recoverable = r;
-    } in
-    record {
-      settled = λ _. settled;
-      holds = λ _. subst (Keeps scripts shelf (bodies_in view j)) (sym again) keeps;
-      stands = settled_stands view scripts shelf j b settled (seen, makes) down;
-    }
+  -- what can go on, with the states that records told
+  pub found_fit : (b : Book) → AreRecordsExact → IsSettled view j → HasWholeScripts b → IsReadSetup b.scripts → Makes texts shelf (bodies_in view j) b → b ≡ reopened b → IsFit view texts shelf j b
+  found_fit b x settled whole read (seen, makes) again =
+      let fits = made_fits x texts shelf (bodies_in view j) (made_of b seen) makes in
+      let keeps : Keeps texts shelf (bodies_in view j) (reopened b) = record {
+        earlier = seen;
+        makes = makes;
+        recoverable = fits.recoverable (record { setup = whole.setup; instances = whole.instances });
+        read = read;
+      } in
+      record {
+        settled = λ _. settled;
+        holds = λ _. subst (Keeps texts shelf (bodies_in view j)) (sym again) keeps;
+        stands = settled_stands view texts shelf j b settled (seen, makes) (ap (λ (y : Book). y.down) again);
+      }
 
-pub read_in_bytes : (scripts : List Named) (shelf : ℕ) (bytes : List ℕ) → (records bytes ≡ Intact (stored bytes)) ⊎ (bytes ≡ []) → book_in_bytes scripts shelf bytes ≡ book_of scripts shelf (stored bytes)
-read_in_bytes scripts shelf bytes (inl intact) = read_as scripts shelf (stored bytes) bytes intact
-read_in_bytes scripts shelf bytes (inr none) = ap (book_in_bytes scripts shelf) none ∙ ap (λ (l : List ℕ). book_of scripts shelf (stored l)) (sym none)
+  -- a book that was read of it, under this library
+  abbrev pub there : RustBook → Library → Book
+  there b lib = views.book_of lib read_beside b
 
--- what is begun is a book that was made
-is_made : (m n : Making) (b : Book) → m ≡ n → IsBook n b → IsBook m b
-is_made m n b e (seen, is) = (seen, e ∙ is)
+  module _ (b : RustBook) (lib : Library) (finds : FindsBook shelf (length_of j) b lib (making_of view shelf j)) where
+    pub found_is : finds.whole.book ≡ there b lib
+    found_is =
+        let file : read_file view shelf j ≡ finds.whole.book.file = ap file_in finds.is in
+        finds.book ∙ ap (λ (f : File). views.book_of lib (beside_file (length_of j) f) b) (sym file)
 
-pub book_there : (scripts : List Named) (shelf : ℕ) (bytes : List ℕ) (bodies : List (List ℕ)) (b : Book) → (records bytes ≡ Intact (stored bytes)) ⊎ (bytes ≡ []) → bodies ≡ stored bytes
-    → IsBook (begun scripts shelf (book_of scripts shelf bodies)) b → IsBook (begun scripts shelf (book_in_bytes scripts shelf bytes)) b
-book_there scripts shelf bytes bodies b intact is h =
-    is_made _ _ b (ap (begun scripts shelf) (read_in_bytes scripts shelf bytes intact ∙ ap (book_of scripts shelf) (sym is))) h
+    pub found_again : there b lib ≡ reopened (there b lib)
+    found_again = sym found_is ∙ (finds.again ∙ ap reopened found_is)
 
--- it is one of two that the disk stood between
-pub one_of_there : {D : Type 0} (view : D → View) (scripts : List Named) (shelf : ℕ) (disk : D) (b : Book) → ((m : Made) → begun scripts shelf (book_in_bytes scripts shelf (view disk).seen) ≡ made m → IsOneOf scripts shelf (view disk) m.book)
-    → b ≡ reopened b → IsBook (begun scripts shelf (book_in_bytes scripts shelf (view disk).seen)) b → IsOneOf scripts shelf (view disk) b
-one_of_there view scripts shelf disk b find again (seen, is) = subst (IsOneOf scripts shelf (view disk)) (sym again) (find (made_of b seen) is)
+    pub found_made : finds.whole ≡ made_of (there b lib) finds.whole.earlier
+    found_made = ap (λ (y : Book). record { book = y; earlier = finds.whole.earlier }) (found_is ∙ found_again)
 
--- a disk that stood between two books has records, so nothing is written behind its recovery
-pub stays_open : (scripts : List Named) (shelf : ℕ) (v0 v1 v2 : View) (bodies : List (List ℕ)) → v0.images v0.seen → book_in_bytes scripts shelf v0.seen ≡ book_of scripts shelf bodies
-    → ((t : ℕ) (image : List ℕ) → t ≤ v1.moment → v1.images image → v1.since t image) → StaysThroughout scripts shelf v0 v1 → (book_of scripts shelf bodies ≢ nothing → IsQuiet v1 v2)
-    → StaysThroughout scripts shelf v0 v2
-stays_open scripts shelf v0 v1 v2 bodies reads is counts first quiet = λ before after k held.
-    let run = first before after k held in
-    let some : book_of scripts shelf bodies ≢ nothing =
-    λ none. ⊎_elim (λ h. none_is_made before _ (is ∙ none) h) (λ h. none_is_made after _ (is ∙ none) h) (make_books scripts shelf before after k v0.seen (held v0.seen reads)) in
-    let q = quiet some in
-    let now : (image : List ℕ) → v1.images image → Held k image = λ image left. run.each image (counts v0.moment image run.later left) in
-    let later : LeavesOnly v1 v2 (Held k) = record {
-      later = q.moments.later;
-      each = λ image left. now image (q.moments.each image left);
-      before = λ t image le left. ⊎_elim (λ was. inl was) (λ here. inr (now image here)) (q.moments.before t image le left);
-    } in
-    leaves_then v0 v1 v2 (Held k) run later
-  where
-    none_is_made : (b : Book) (m : Making) → m ≡ nothing → IsBook m b → ⊥
-    none_is_made b m none (seen, made_it) = cc (none, made_it)
+    pub found_makes : Makes texts shelf (bodies_in view j) (there b lib)
+    found_makes = (finds.whole.earlier, finds.is ∙ ap (λ (m : Made). Some m) found_made)
 
--- what is opened is what a crash leaves, by which what is in doubt is lost or kept
-lost_is : (r : Rules) (o : Option Doubt) (b : Book) → recovered r lost o b ≡ b
-lost_is r None b = refl
-lost_is r (Some doubt) b = refl
+    pub found_told : TellsStates view lib.all shelf j b
+    found_told m is =
+        let same : finds.whole ≡ m = same_Some finds.whole m (sym finds.is ∙ is) in
+        subst (λ (e : Earlier). HasToldStates lib.all e.states b) (ap (λ (x : Made). x.earlier) same) finds.told
 
-crashed_as : (rules : Rules) (b c : Book) (nonce : ℕ) (scripts : List Named) (fate : step.Fate) → (recovered rules fate b.down b).scripts ≡ scripts → c ≡ reopened (recovered rules fate b.down b) → IsCrashed rules b nonce scripts fate c
-unfolding step.step
-crashed_as rules b c nonce scripts fate setup opened =
-    let there : reopened_with scripts (recovered rules fate b.down b) ≡ c =
-    ap (λ (ss : List Named). reopened_with ss (recovered rules fate b.down b)) (sym setup) ∙ sym opened in
-    ap (λ (x : Book). (live (length x.instances), x)) there
+-- ---- crashes
 
-pub reopened_has_crashed : {D : Type 0} (view : D → View) → AReopenedShelfHasCrashed view
-reopened_has_crashed view scripts shelf rules b c nonce old new setup (n, (k, (held, measured))) among one = ⊎_elim
-    (λ h. inl (crashed_as rules b c nonce scripts lost (ap (λ (x : Book). x.scripts) (lost_is rules b.down b) ∙ setup) (h ∙ sym (ap reopened (lost_is rules b.down b)))))
-    (λ h. inr (crashed_as rules b c nonce scripts kept (recovered_setup rules b.down b ∙ setup) (h ∙ sym measured)))
-    (one b (if_kept n b) k (λ image left. held image (among image left)))
+-- it is one of two that the disk stood between, with the setup
+pub one_of_there : (scripts : List Named) (shelf : ℕ) (v : View) (m : Making) (b : Book) → ((x : Made) → opened_on shelf scripts m ≡ Some x → IsOneOf texts shelf scripts v x.book)
+    → b ≡ reopened b → IsMadeBook (opened_on shelf scripts m) b → IsOneOf texts shelf scripts v b
+one_of_there scripts shelf v m b find again (seen, is) = subst (IsOneOf texts shelf scripts v) (sym again) (find (made_of b seen) is)
 
-crashed_sound : (rules : Rules) (b c : Book) (nonce : ℕ) (scripts : List Named) (fate : Fate) → IsSound b → IsCrashed rules b nonce scripts fate c → IsSound c
-crashed_sound rules b c nonce scripts fate sound is =
-    subst IsSound (ap (λ (x : step.Reply × Book). x.1) is)
-    (stepped (record { rules = rules; nonce = nonce; event = step.crash scripts; fate = fate }) b sound tt).sound
+-- two calls that write nothing
+pub quiet_then : (v0 v1 v2 : View) → IsQuiet v0 v1 → IsQuiet v1 v2 → IsQuiet v0 v2
+quiet_then v0 v1 v2 p q = record {
+  seen = q.seen ∙ p.seen;
+  images = λ image left. p.images image (q.images image left);
+  moments = record {
+    later = omega (arith, p.moments.later, q.moments.later);
+    each = λ image left. ⊎_elim (λ was. p.moments.each image was) (λ here. p.images image here) (q.moments.before v0.moment image p.moments.later left);
+    before = λ t image le left. ⊎_elim (λ was. p.moments.before t image le was) (λ here. inr (p.images image here)) (q.moments.before t image (omega (arith, le, p.moments.later)) left);
+  };
+  faults = omega (arith, p.faults, q.faults);
+  ready = omega (arith, p.ready, q.ready);
+  end = omega (arith, p.end, q.end);
+  left = omega (arith, p.left, q.left);
+}
 
-pub reopened_is_sound : {D : Type 0} (view : D → View) → AReopenedShelfIsSound view
-reopened_is_sound view scripts shelf rules b c old new sound (n, (k, (held, measured))) among one = ⊎_elim
-    (λ h. crashed_sound rules b c 0 b.scripts lost sound
-    (crashed_as rules b c 0 b.scripts lost (ap (λ (x : Book). x.scripts) (lost_is rules b.down b)) (h ∙ sym (ap reopened (lost_is rules b.down b)))))
-    (λ h. crashed_sound rules b c 0 b.scripts kept sound (crashed_as rules b c 0 b.scripts kept (recovered_setup rules b.down b) (h ∙ sym measured)))
-    (one b (if_kept n b) k (λ image left. held image (among image left)))
+-- a call that writes nothing, behind which one leaves what has a property that nothing else had before
+pub quiet_leaves : (v0 v1 v2 : View) (P : List ℕ → Type 0) → IsQuiet v0 v1 → ((image : List ℕ) → v0.images image → P image) → LeavesOnly v1 v2 P → LeavesOnly v0 v2 P
+quiet_leaves v0 v1 v2 P quiet holds run = record {
+  later = omega (arith, quiet.moments.later, run.later);
+  each = λ image left. ⊎_elim (λ was. holds image (quiet.moments.each image was)) (λ here. here) (run.before v0.moment image quiet.moments.later left);
+  before = λ t image le left. ⊎_elim (λ was. ⊎_elim (λ at. inl at) (λ here. inr (holds image here)) (quiet.moments.before t image le was)) (λ here. inr here)
+      (run.before t image (omega (arith, le, quiet.moments.later)) left);
+}
 
--- what was found makes a book, and so does what is begun
-pub found_begun : (scripts : List Named) (shelf : ℕ) (m : Making) (b : Book) → IsBook m b → IsBook (begun scripts shelf m) b
-found_begun scripts shelf m b (seen, is) = (seen, ap (begun scripts shelf) is)
-
-pub not_nothing : (m : Making) (b : Book) → IsBook m b → m ≢ nothing
-not_nothing m b (seen, is) none = let no : ⊥ = cc (none, is) in no
-
--- the bytes and the bodies of an opened journal make the same
-pub same_books : (scripts : List Named) (shelf : ℕ) (bytes : List ℕ) (bodies : List (List ℕ)) → (records bytes ≡ Intact (stored bytes)) ⊎ (bytes ≡ []) → bodies ≡ stored bytes → book_in_bytes scripts shelf bytes ≡ book_of scripts shelf bodies
-same_books scripts shelf bytes bodies intact is = read_in_bytes scripts shelf bytes intact ∙ ap (book_of scripts shelf) (sym is)
-
--- a disk that stands for a book makes one
-no_damage : (scripts : List Named) (shelf place : ℕ) (bytes : List ℕ) (b : Book) → MakesIn scripts shelf bytes b → book_in_bytes scripts shelf bytes ≡ damaged place → ⊥
-no_damage scripts shelf place bytes b (seen, makes) is = let no : ⊥ = cc (makes, is) in no
-
-no_other : (scripts : List Named) (shelf place : ℕ) (bytes : List ℕ) (b : Book) → MakesIn scripts shelf bytes b → book_in_bytes scripts shelf bytes ≡ other place → ⊥
-no_other scripts shelf place bytes b (seen, makes) is = let no : ⊥ = cc (makes, is) in no
-
-pub standing_opens : {D : Type 0} (view : D → View) → ((disk : D) → (view disk).images (view disk).seen) → AStandingDiskOpens view
-standing_opens view reads scripts shelf b old new fault.DiskFault stands among is = tt
-standing_opens view reads scripts shelf b old new fault.Memory stands among is = tt
-standing_opens view reads scripts shelf b old new (fault.Damaged place) stands among is =
-    let bytes = (view new).seen in
-    ⊎_elim (λ h. no_damage scripts shelf place bytes b h is) (λ h. no_damage scripts shelf place bytes (if_kept stands.0 b) h is)
-    (make_books scripts shelf b (if_kept stands.0 b) stands.1.0 bytes (stands.1.1 bytes (among bytes (reads new))))
-standing_opens view reads scripts shelf b old new (fault.Other place) stands among is =
-    let bytes = (view new).seen in
-    ⊎_elim (λ h. no_other scripts shelf place bytes b h is) (λ h. no_other scripts shelf place bytes (if_kept stands.0 b) h is)
-    (make_books scripts shelf b (if_kept stands.0 b) stands.1.0 bytes (stands.1.1 bytes (among bytes (reads new))))
-
--- the pages of a book that was found have the states that the records told
-pub found_told : {D : Type 0} (view : D → View) (scripts : List Named) (shelf n : ℕ) (j : Journal D) (making : Making) (b : RustBook) → book_of scripts shelf (bodies_in view j) ≡ making
-    → FindsBook scripts shelf n b making → TellsStates view scripts shelf j b
-found_told view scripts shelf n j making b same finds m is =
-    let both : made m ≡ made (made_of (book_with scripts n b) finds.book.0) = sym is ∙ (same ∙ finds.book.1) in
-    let earlier : m.earlier ≡ finds.book.0 = cc both in
-    subst (λ (e : Earlier). HasToldStates scripts e.states b) (sym earlier) finds.told
-
--- nothing is lost on a disk whose journal was opened, and whose records are read
-pub keeps_read : {D : Type 0} (view : D → View) (scripts : List Named) (shelf : ℕ) (old : View) (j0 j1 : Journal D) → IsSettled view j0 → bodies_in view j0 ≡ stored old.seen → IsIntactOrEmpty old
-    → ReadsOrBegins view scripts shelf j0 j1 → KeepsRecords scripts shelf old (view_of view j1)
-keeps_read view scripts shelf old j0 j1 settled is intact (inl u) =
-    inr (intact, inl (u.0 ∙ (settled.file ∙ ap at_rest is), λ image left. settled.durable image (u.1 image left) ∙ sym u.0))
-keeps_read view scripts shelf old j0 j1 settled is intact (inr begun) =
-    inr (intact, inr (sym is ∙ begun.0, (begun.1.file ∙ ap at_rest begun.2, begun.1.durable)))
+-- no call was made
+pub quiet_none : (v : View) → ((image : List ℕ) → v.since v.moment image → v.images image) → IsQuiet v v
+quiet_none v only_now = record {
+  seen = refl;
+  images = λ image left. left;
+  moments = record { later = omega arith; each = λ image left. only_now image left; before = λ t image le left. inl left };
+  faults = omega arith;
+  ready = omega arith;
+  end = omega arith;
+  left = omega arith;
+}

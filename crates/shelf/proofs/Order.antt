@@ -1,8 +1,8 @@
 -- A shelf in order goes on to be, and a step of its book is one of the shelf.
-use Rattle.std.proofs.Common.{◌≡◌, ◌∙◌, ap, sym, subst, refl, ℕ, ◌+◌, Bool, IsTrue, false, List, None}
+use Rattle.std.proofs.Common.{◌≡◌, ◌∙◌, ap, sym, subst, refl, ℕ, ◌+◌, Bool, IsTrue, false, None}
 use Rattle.script_value.specs.declared.outcome.Reply.{Reply}
 use Rattle.script_value.specs.declared.outcome.Reply.TheVariants as reply
-use Rattle.script_nodes.specs.Setup.{Named}
+use Rattle.setup_reader.specs.Texts.{IsReadSetup, setup_of_texts as texts}
 use Rattle.web_disk.specs.View.{View}
 use Rattle.page_journal.specs.Settled as journal
 use Rattle.page_journal.specs.Settled.{is_broken}
@@ -13,7 +13,7 @@ use Rattle.replay_spec.specs.Step as step
 use Rattle.replay_spec.specs.Laws.{IsLawful, Moment}
 use Rattle.replay_spec.specs.Invariant.{IsOrderly}
 use Rattle.replay_spec.proofs.Orderly.{stepped}
-use Rattle.journal_spec.specs.Keeping.{HasWholeScripts}
+use Rattle.journal_spec.specs.Whole.{HasWholeScripts}
 use Rattle.journal_spec.specs.Disks.{IsFit}
 use Rattle.journal_spec.specs.Spelling.{IsInRange, GivesTick}
 use Rattle.journal_spec.proofs.Ranges.{ranges_kept}
@@ -23,7 +23,10 @@ use Rattle.instance_book.specs.Views.{reply_of}
 use Rattle.shelf.specs.declared.rules.Rules as limits_of
 use Rattle.shelf.specs.declared.shelf.Shelf.{Shelf}
 use Rattle.shelf.specs.Ranges.{AreInRange}
-use Rattle.shelf.specs.Views.{rules_of, book_in, shelf_of, fate_by, TellsStates, IsInOrder, IsEvent}
+use Rattle.instance_book.specs.Admissions.{HasFew}
+use Rattle.script_nodes.specs.Views.{library_of}
+use Rattle.script_nodes.specs.declared.library.Library.{Library}
+use Rattle.shelf.specs.Views.{rules_of, library_in, book_in, shelf_of, fate_by, TellsStates, IsInOrder, IsEvent}
 
 -- a step of the book is one of the shelf
 pub follows : (source : ℕ → ℕ) (s : runs.Shelf) (event : step.Event) (r : step.Reply) (after : Book) → step.step s.rules s.book (source s.nonces) event (fate_by r) ≡ (r, after)
@@ -39,7 +42,6 @@ quiet (reply.Refused r) given = refl
 quiet (reply.Fault f) given = refl
 quiet (reply.Fuel cost) given = refl
 quiet (reply.ShelfFull count) given = refl
-quiet (reply.InstanceFull count) given = refl
 quiet (reply.Oversize n) given = refl
 quiet (reply.JournalFull n) given = refl
 quiet (reply.DiskFault count) given = refl
@@ -49,50 +51,51 @@ quiet reply.Memory given = refl
 
 module _ {D N : Type 0} where
   -- an event whose reply is no ticket
-  pub quiet_event : (coming : N → ℕ → ℕ) (ss : List Named) (old new : Shelf D N) (event : step.Event) (r : step.Reply) (after : Book)
-      → new.rules ≡ old.rules → new.nonces ≡ old.nonces → book_in ss new ≡ after → ((given : ℕ) → drawn_by r given ≡ given)
-      → ((nonce : ℕ) → step.step (rules_of ss old.rules) (book_in ss old) nonce event (fate_by r) ≡ (r, after)) → IsEvent coming ss old new event r
-  quiet_event coming ss old new event r after limits source_stays is none stepped = record {
+  pub quiet_event : (view : D → View) (coming : N → ℕ → ℕ) (old new : Shelf D N) (event : step.Event) (r : step.Reply) (after : Book)
+      → new.rules ≡ old.rules → new.nonces ≡ old.nonces → book_in view new ≡ after → ((given : ℕ) → drawn_by r given ≡ given)
+      → ((nonce : ℕ) → step.step (rules_of old.rules) (book_in view old) nonce event (fate_by r) ≡ (r, after)) → IsEvent view coming old new event r
+  quiet_event view coming old new event r after limits source_stays is none stepped = record {
     step = λ source given has.
-        let same : record (shelf_of ss given old) { book = after; nonces = drawn_by r given } ≡ shelf_of ss (drawn_by r given) new =
-        ap (λ (b : Book). record (shelf_of ss given old) { book = b; nonces = drawn_by r given }) (sym is) ∙ ap (λ (l : limits_of.Rules). record (shelf_of ss (drawn_by r given) new) { rules = rules_of ss l }) (sym limits) in
-        follows source (shelf_of ss given old) event r after (stepped (source given)) ∙ ap (λ (x : runs.Shelf). (r, x)) same;
+        let same : record (shelf_of view given old) { book = after; nonces = drawn_by r given } ≡ shelf_of view (drawn_by r given) new =
+        ap (λ (b : Book). record (shelf_of view given old) { book = b; nonces = drawn_by r given }) (sym is) ∙ ap (λ (l : limits_of.Rules). record (shelf_of view (drawn_by r given) new) { rules = rules_of l }) (sym limits) in
+        follows source (shelf_of view given old) event r after (stepped (source given)) ∙ ap (λ (x : runs.Shelf). (r, x)) same;
     nonces = λ source given has k. ap (λ (n : N). coming n k) source_stays ∙ (has k ∙ ap (λ (m : ℕ). source (m + k)) (sym (none given)));
   }
 
   -- what the journal of a shelf has to keep
-  pub record JournalStays (view : D → View) (tells : Bool) (ss : List Named) (new : Shelf D N) (shelf : ℕ) (d : Book) : Type 0 where
+  pub record JournalStays (view : D → View) (tells : Bool) (new : Shelf D N) (shelf : ℕ) (d : Book) : Type 0 where
     pub sound : journal.IsSound new.journal
     pub whole : new.down ≡ None → is_broken new.journal ≡ false
-    pub fit : IsTrue tells → IsFit view ss shelf new.journal d
-    pub told : IsTrue tells → new.down ≡ None → TellsStates view ss shelf new.journal new.book
+    pub fit : IsTrue tells → IsFit view texts shelf new.journal d
+    pub told : IsTrue tells → new.down ≡ None → TellsStates view (library_in new).all shelf new.journal new.book
 
   -- a shelf in order stays so where its book is orderly and in range
-  pub order_of : (view : D → View) (tells : Bool) (ss : List Named) (old new : Shelf D N) (after : Book) → IsInOrder view tells ss old → HasSomeStates ss new.book → IsOrderly after → HasWholeScripts after
-      → IsInRange after → after.shelf ≡ old.book.shelf → book_in ss new ≡ after → new.rules ≡ old.rules → JournalStays view tells ss new old.rules.number after → IsInOrder view tells ss new
-  order_of view tells ss old new after order some orderly scripts range shelf is limits stays = record {
-    placed = places_of ss new.book some;
+  pub order_of : (view : D → View) (tells : Bool) (old new : Shelf D N) (after : Book) → IsInOrder view tells old → HasSomeStates (library_in new).all new.book → IsOrderly after → HasWholeScripts after
+      → IsInRange after → after.shelf ≡ old.book.shelf → book_in view new ≡ after → new.library ≡ old.library → new.rules ≡ old.rules → JournalStays view tells new old.rules.number after → IsInOrder view tells new
+  order_of view tells old new after order some orderly scripts range shelf is told_same limits stays = record {
+    placed = places_of (library_in new).all new.book some;
     kept = some;
     orderly = subst IsOrderly (sym is) orderly;
     scripts_are = subst HasWholeScripts (sym is) scripts;
     range = subst IsInRange (sym is) range;
     number = ap (λ (b : Book). b.shelf) is ∙ (shelf ∙ (order.number ∙ ap (λ (l : limits_of.Rules). l.number) (sym limits)));
     limits = subst AreInRange (sym limits) order.limits;
-    few = order.few;
+    read = subst (λ (l : Library). IsReadSetup (library_of l).setup) (sym told_same) order.read;
+    few = subst (λ (l : Library). HasFew (library_of l)) (sym told_same) order.few;
     sound = stays.sound;
     whole = stays.whole;
-    fit = λ told. subst (λ (b : Book). IsFit view ss new.rules.number new.journal b) (sym is) (subst (λ (l : limits_of.Rules). IsFit view ss l.number new.journal after) (sym limits) (stays.fit told));
-    told = λ told up. subst (λ (l : limits_of.Rules). TellsStates view ss l.number new.journal new.book) (sym limits) (stays.told told up);
+    fit = λ told. subst (λ (b : Book). IsFit view texts new.rules.number new.journal b) (sym is) (subst (λ (l : limits_of.Rules). IsFit view texts l.number new.journal after) (sym limits) (stays.fit told));
+    told = λ told up. subst (λ (l : limits_of.Rules). TellsStates view (library_in new).all l.number new.journal new.book) (sym limits) (stays.told told up);
   }
 
   -- so it stays behind an event
-  pub order_behind : (view : D → View) (tells : Bool) (ss : List Named) (old new : Shelf D N) (event : step.Event) (fate : step.Fate) (r : step.Reply) (after : Book) → IsInOrder view tells ss old
-      → IsLawful event (book_in ss old) → GivesTick event → (HasSomeStates ss old.book → HasSomeStates ss new.book) → HasWholeScripts after → book_in ss new ≡ after
-      → new.rules ≡ old.rules → step.step (rules_of ss old.rules) (book_in ss old) 0 event fate ≡ (r, after) → JournalStays view tells ss new old.rules.number after → IsInOrder view tells ss new
-  order_behind view tells ss old new event fate r after order lawful tick states scripts is limits e stays =
-      let rules = rules_of ss old.rules in
+  pub order_behind : (view : D → View) (tells : Bool) (old new : Shelf D N) (event : step.Event) (fate : step.Fate) (r : step.Reply) (after : Book) → IsInOrder view tells old
+      → IsLawful event (book_in view old) → GivesTick event → (HasSomeStates (library_in old).all old.book → HasSomeStates (library_in new).all new.book) → HasWholeScripts after → book_in view new ≡ after
+      → new.library ≡ old.library → new.rules ≡ old.rules → step.step (rules_of old.rules) (book_in view old) 0 event fate ≡ (r, after) → JournalStays view tells new old.rules.number after → IsInOrder view tells new
+  order_behind view tells old new event fate r after order lawful tick states scripts is told_same limits e stays =
+      let rules = rules_of old.rules in
       let m : Moment = record { rules = rules; nonce = 0; event = event; fate = fate } in
-      let there : (step.step rules (book_in ss old) 0 event fate).1 ≡ after = ap (λ (x : step.Reply × Book). x.1) e in
-      let later = stepped m (book_in ss old) order.orderly lawful in
-      order_of view tells ss old new after order (states order.kept) (subst IsOrderly there later.orderly) scripts
-      (subst IsInRange there (ranges_kept rules (book_in ss old) 0 event fate order.orderly order.range tick)) (ap (λ (b : Book). b.shelf) (sym there) ∙ later.shelf) is limits stays
+      let there : (step.step rules (book_in view old) 0 event fate).1 ≡ after = ap (λ (x : step.Reply × Book). x.1) e in
+      let later = stepped m (book_in view old) order.orderly lawful in
+      order_of view tells old new after order (states order.kept) (subst IsOrderly there later.orderly) scripts
+      (subst IsInRange there (ranges_kept rules (book_in view old) 0 event fate order.orderly order.range tick)) (ap (λ (b : Book). b.shelf) (sym there) ∙ later.shelf) is told_same limits stays

@@ -1,6 +1,6 @@
 -- An opening finds and leaves own records.
 use Rattle.std.proofs.Common.{◌≡◌, ℕ, ◌+◌, ◌≤◌, ◌^◌, Bool, List, [], ◌∷◌, length, None, IsTrue, sym, ◌∙◌, ap, subst, arith}
-use Rattle.script_nodes.specs.Setup.{Named}
+use Rattle.setup_reader.specs.Texts.{setup_of_texts as texts}
 use Rattle.web_disk.specs.View.{View, NoNewImage, Elapses, LeavesOnly}
 use Rattle.page_journal.specs.Records.{stored}
 use Rattle.page_journal.specs.Holding.{MayHold}
@@ -20,49 +20,49 @@ use Rattle.shelf.proofs.Recorded.{measured_up}
 use Rattle.shelf.proofs.Openings.{nine}
 
 -- a journal without records, for whose first one room is made
-module _ {D : Type 0} (view : D → View) (ss : List Named) (shelf : ℕ) (j0 j1 : Journal D) (settled : IsSettled view j0) (none : bodies_in view j0 ≡ []) (only_now : OnlyNow (view_of view j0))
+module _ {D : Type 0} (view : D → View) (shelf : ℕ) (j0 j1 : Journal D) (settled : IsSettled view j0) (none : bodies_in view j0 ≡ []) (only_now : OnlyNow (view_of view j0))
     (images : NoNewImage (view_of view j0) (view_of view j1)) (time : Elapses (view_of view j0) (view_of view j1)) where
-  pub unwritten_moments : StaysOwnThroughout ss shelf (view_of view j0) (view_of view j1)
+  pub unwritten_moments : StaysOwnThroughout shelf (view_of view j0) (view_of view j1)
   unwritten_moments =
-      quiet_run_own ss shelf (view_of view j0) (view_of view j1) only_now images time
-      (settled_own view ss shelf j0 settled (subst (AreOwn ss shelf) (sym none) (none_own ss shelf)))
+      quiet_run_own shelf (view_of view j0) (view_of view j1) only_now images time
+      (settled_own view shelf j0 settled (subst (AreOwn texts shelf) (sym none) (none_own shelf)))
 
   pub begun_moments : (j2 : Journal D) (body : List ℕ) → (view_of view j1).seen ≡ (view_of view j0).seen → length_of j0 + 5 + length body ≤ 2 ^ 30
-      → LeavesOnly (view_of view j1) (view_of view j2) (MayHold (bodies_in view j1) body) → StaysOwnThroughout ss shelf (view_of view j0) (view_of view j2)
+      → LeavesOnly (view_of view j1) (view_of view j2) (MayHold (bodies_in view j1) body) → StaysOwnThroughout shelf (view_of view j0) (view_of view j2)
   begun_moments j2 body seen room run =
       let here : LeavesOnly (view_of view j1) (view_of view j2) (MayHold [] body) =
       subst (λ (bs : List (List ℕ)). LeavesOnly (view_of view j1) (view_of view j2) (MayHold bs body)) (ap stored seen ∙ none) run in
-      let o = with_flight ss shelf [] body (omega (arith, room, nine view j0 settled none)) (first_own ss shelf body) in
-      leaves_then (view_of view j0) (view_of view j1) (view_of view j2) (HoldsOwnRecords ss shelf) unwritten_moments
-      (stays_own ss shelf (view_of view j1) (view_of view j2) o here)
+      let o = with_flight shelf [] body (omega (arith, room, nine view j0 settled none)) (first_own shelf body) in
+      leaves_then (view_of view j0) (view_of view j1) (view_of view j2) (HoldsOwnRecords shelf) unwritten_moments
+      (stays_own shelf (view_of view j1) (view_of view j2) o here)
 
 -- the first record there is an own one
-pub begun_records : {D : Type 0} (view : D → View) (ss : List Named) (shelf : ℕ) (j : Journal D) (body : List ℕ) → bodies_in view j ≡ body ∷ [] → HasOwnRecords view ss shelf j
-begun_records view ss shelf j body is = subst (AreOwn ss shelf) (sym is) (first_own ss shelf body)
+pub begun_records : {D : Type 0} (view : D → View) (shelf : ℕ) (j : Journal D) (body : List ℕ) → bodies_in view j ≡ body ∷ [] → HasOwnRecords view shelf j
+begun_records view shelf j body is = subst (AreOwn texts shelf) (sym is) (first_own shelf body)
 
 -- own records are read
-pub read_moments : {D : Type 0} (view : D → View) (ss : List Named) (shelf : ℕ) (j0 j1 : Journal D) → IsSettled view j0 → HasOwnRecords view ss shelf j0 → IsQuiet (view_of view j0) (view_of view j1)
-    → StaysOwnThroughout ss shelf (view_of view j0) (view_of view j1)
-read_moments view ss shelf j0 j1 settled own quiet =
-    quiet_own ss shelf (view_of view j0) (view_of view j1) quiet.moments (settled_own view ss shelf j0 settled own)
+pub read_moments : {D : Type 0} (view : D → View) (shelf : ℕ) (j0 j1 : Journal D) → IsSettled view j0 → HasOwnRecords view shelf j0 → IsQuiet (view_of view j0) (view_of view j1)
+    → StaysOwnThroughout shelf (view_of view j0) (view_of view j1)
+read_moments view shelf j0 j1 settled own quiet =
+    quiet_own shelf (view_of view j0) (view_of view j1) quiet.moments (settled_own view shelf j0 settled own)
 
 -- what an opened journal has are the records that the disk had
-pub records_found : {D : Type 0} (view : D → View) (ss : List Named) (shelf : ℕ) (v : View) (j : Journal D) → bodies_in view j ≡ stored v.seen → IsOwnImage ss shelf v.seen → HasOwnRecords view ss shelf j
-records_found view ss shelf v j is own = subst (AreOwn ss shelf) (sym is) (stored_own ss shelf v.seen own)
+pub records_found : {D : Type 0} (view : D → View) (shelf : ℕ) (v : View) (j : Journal D) → bodies_in view j ≡ stored v.seen → IsOwnImage shelf v.seen → HasOwnRecords view shelf j
+records_found view shelf v j is own = subst (AreOwn texts shelf) (sym is) (stored_own shelf v.seen own)
 
-pub records_left : {D : Type 0} (view : D → View) (ss : List Named) (shelf : ℕ) (v : View) (j : Journal D) → bodies_in view j ≡ stored v.seen → v.images v.seen → HasOwnImages ss shelf v → HasOwnRecords view ss shelf j
-records_left view ss shelf v j is reads own = records_found view ss shelf v j is (images_own ss shelf v v.seen own reads)
+pub records_left : {D : Type 0} (view : D → View) (shelf : ℕ) (v : View) (j : Journal D) → bodies_in view j ≡ stored v.seen → v.images v.seen → HasOwnImages shelf v → HasOwnRecords view shelf j
+records_left view shelf v j is reads own = records_found view shelf v j is (images_own shelf v v.seen own reads)
 
 -- a shelf that is opened on own records
-pub opened_own : {D N : Type 0} (view : D → View) (tells : Bool) (ss : List Named) (s : Shelf D N) → (book_in ss s).down ≡ None → (IsTrue tells → IsFit view ss s.rules.number s.journal (book_in ss s))
-    → OpensOwn view ss s.rules.number s.journal s.book → IsOwnShelf view tells ss s
-opened_own view tells ss s up fits own = record {
+pub opened_own : {D N : Type 0} (view : D → View) (tells : Bool) (s : Shelf D N) → (book_in view s).down ≡ None → (IsTrue tells → IsFit view texts s.rules.number s.journal (book_in view s))
+    → OpensOwn view s.rules.number s.journal (s.book, s.library) → IsOwnShelf view tells s
+opened_own view tells s up fits own = record {
   states = own.states;
   own = λ told.
       let fit = fits told in
       let t = fit.stands in
       record {
-        images = settled_own view ss s.rules.number s.journal (fit.settled up) own.records;
-        stands = (t.0, (t.1.0, (t.1.1, measured_up (rules_of ss s.rules) t.0 (book_in ss s) up)));
+        images = settled_own view s.rules.number s.journal (fit.settled up) own.records;
+        stands = (t.0, (t.1.0, (t.1.1, measured_up (rules_of s.rules) t.0 (book_in view s) up)));
       };
 }

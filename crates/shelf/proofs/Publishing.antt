@@ -4,12 +4,12 @@ use Rattle.script_value.specs.declared.outcome.Refusal.{Refusal}
 use Rattle.script_value.specs.declared.outcome.TxName.{TxName}
 use Rattle.script_value.specs.declared.outcome.Reply.{Reply}
 use Rattle.script_value.specs.declared.outcome.Reply.TheVariants as reply
-use Rattle.script_nodes.specs.Setup.{Named}
+use Rattle.script_nodes.specs.Setup.{Library}
 use Rattle.page_names.specs.Names.{Destination}
 use Rattle.replay_spec.specs.Book.{Change, Doubt, Book, spend}
 use Rattle.replay_spec.specs.Admission.{or_else, refusal_of, admit}
 use Rattle.replay_spec.specs.Step as step
-use Rattle.replay_spec.specs.Step.{Decision, replies, records, publish_comes}
+use Rattle.replay_spec.specs.Step.{Decision, replies, records, compacts, publish_comes}
 use Rattle.journal_records.specs.Records.{changes, record_length}
 use Rattle.journal_spec.specs.Lengths.{state_told}
 use Rattle.instance_book.specs.declared.prepared.Change.{Change as RustChange}
@@ -25,18 +25,18 @@ use Rattle.shelf.specs.Events.{TellsReply, TellsCount, no_publish}
 use Rattle.shelf.specs.Recording.{refusal_of_size, IsWritten}
 use Rattle.shelf.proofs.Steps.{Comes, replied, wanting, told_same, too_long}
 
-module _ (ss : List Named) (r : limits_of.Rules) (b : Book) (t : Ticket) where
+module _ (l : Library) (r : limits_of.Rules) (b : Book) (t : Ticket) where
   abbrev before : Decision
   before = publish_comes (unmeasured r) b (ticket_of t)
 
   abbrev Answers : Reply → Type 0
-  Answers x = Comes (rules_of ss r) b (step.publish (ticket_of t)) (fate_by (reply_of x)) (reply_of x) (spend t.number b) None
+  Answers x = Comes (rules_of r) b (step.publish (ticket_of t)) (fate_by (reply_of x)) (reply_of x) (spend t.number b) None
 
   pub told : (x : Reply) → before ≡ replies (reply_of x) → Answers x
-  told x is = replied ss r b (ticket_of t) (reply_of x) (told_same ss r b (ticket_of t) (reply_of x) is)
+  told x is = replied r b (ticket_of t) (reply_of x) (told_same r b (ticket_of t) (reply_of x) is)
 
   -- a refusal, or want of memory
-  pub answered : (x : Reply) → Decides ss (unmeasured r) b before (Err x) → Answers x
+  pub answered : (x : Reply) → Decides l (unmeasured r) b before (Err x) → Answers x
   answered (reply.Page bytes url) h = told (reply.Page bytes url) h
   answered (reply.Finished bytes) h = told (reply.Finished bytes) h
   answered (reply.Ended bytes) h = told (reply.Ended bytes) h
@@ -44,18 +44,17 @@ module _ (ss : List Named) (r : limits_of.Rules) (b : Book) (t : Ticket) where
   answered (reply.Fault f) h = told (reply.Fault f) h
   answered (reply.Fuel cost) h = told (reply.Fuel cost) h
   answered (reply.ShelfFull count) h = told (reply.ShelfFull count) h
-  answered (reply.InstanceFull count) h = told (reply.InstanceFull count) h
   answered (reply.Oversize n) h = told (reply.Oversize n) h
   answered (reply.JournalFull n) h = told (reply.JournalFull n) h
   answered (reply.DiskFault count) h = told (reply.DiskFault count) h
   answered (reply.Down count) h = told (reply.Down count) h
   answered reply.Worn h = told reply.Worn h
-  answered reply.Memory h = wanting ss r b (ticket_of t)
+  answered reply.Memory h = wanting r b (ticket_of t)
 
   -- a change whose record is not written
   module _ (x : step.Reply) (c : Change) (inside : List TxName) (is : before ≡ records x c inside) where
     long : (y : Reply) → refusal_of_size b.length (record_length c (state_told b c)) ≡ Some (reply_of y) → Answers y
-    long y h = replied ss r b (ticket_of t) (reply_of y) (too_long ss r b (ticket_of t) x (reply_of y) c inside is h)
+    long y h = replied r b (ticket_of t) (reply_of y) (too_long r b (ticket_of t) x (reply_of y) c inside is h)
 
     pub unwritten : (y : Reply) → IsWritten b.length (changes c (state_told b c)) (Err y) → Answers y
     unwritten (reply.Page bytes url) h = long (reply.Page bytes url) h
@@ -65,16 +64,15 @@ module _ (ss : List Named) (r : limits_of.Rules) (b : Book) (t : Ticket) where
     unwritten (reply.Fault f) h = long (reply.Fault f) h
     unwritten (reply.Fuel cost) h = long (reply.Fuel cost) h
     unwritten (reply.ShelfFull count) h = long (reply.ShelfFull count) h
-    unwritten (reply.InstanceFull count) h = long (reply.InstanceFull count) h
     unwritten (reply.Oversize n) h = long (reply.Oversize n) h
     unwritten (reply.JournalFull n) h = long (reply.JournalFull n) h
     unwritten (reply.DiskFault count) h = long (reply.DiskFault count) h
     unwritten (reply.Down count) h = long (reply.Down count) h
     unwritten reply.Worn h = long reply.Worn h
-    unwritten reply.Memory h = wanting ss r b (ticket_of t)
+    unwritten reply.Memory h = wanting r b (ticket_of t)
 
 -- what is carried out
-module _ (ss : List Named) (r : limits_of.Rules) (b : Book) (d : Decision) (p : Prepared) (carried : IsCarriedOut ss (unmeasured r) b d p) where
+module _ (l : Library) (r : limits_of.Rules) (b : Book) (d : Decision) (p : Prepared) (carried : IsCarriedOut l (unmeasured r) b d p) where
   pub replies_is : p.change ≡ None → d ≡ replies (reply_of p.reply)
   replies_is none = sym carried.decision ∙ ap (decision_by (reply_of p.reply)) none
 
@@ -95,22 +93,22 @@ told_as d x h = subst (λ (e : Decision). TellsReply e x) (sym h) refl
 told_wanting : (d : Decision) (x : step.Reply) → IsRecord d → TellsReply d x
 told_wanting (replies y) x h = absurd h
 told_wanting (records y c inside) x h = tt
+told_wanting (compacts y) x h = absurd h
 
-pub told_answered : (scripts : List Named) (r : limits_of.Rules) (b : Book) (d : Decision) (x : Reply) → Prepares scripts (unmeasured r) b d (Err x) → TellsReply d (reply_of x)
-told_answered scripts r b d (reply.Page bytes url) h = told_as d _ h
-told_answered scripts r b d (reply.Finished bytes) h = told_as d _ h
-told_answered scripts r b d (reply.Ended bytes) h = told_as d _ h
-told_answered scripts r b d (reply.Refused why) h = told_as d _ h
-told_answered scripts r b d (reply.Fault f) h = told_as d _ h
-told_answered scripts r b d (reply.Fuel cost) h = told_as d _ h
-told_answered scripts r b d (reply.ShelfFull count) h = told_as d _ h
-told_answered scripts r b d (reply.InstanceFull count) h = told_as d _ h
-told_answered scripts r b d (reply.Oversize n) h = told_as d _ h
-told_answered scripts r b d (reply.JournalFull n) h = told_as d _ h
-told_answered scripts r b d (reply.DiskFault count) h = told_as d _ h
-told_answered scripts r b d (reply.Down count) h = told_as d _ h
-told_answered scripts r b d reply.Worn h = told_as d _ h
-told_answered scripts r b d reply.Memory h = told_wanting d _ h
+pub told_answered : (l : Library) (r : limits_of.Rules) (b : Book) (d : Decision) (x : Reply) → Prepares l (unmeasured r) b d (Err x) → TellsReply d (reply_of x)
+told_answered l r b d (reply.Page bytes url) h = told_as d _ h
+told_answered l r b d (reply.Finished bytes) h = told_as d _ h
+told_answered l r b d (reply.Ended bytes) h = told_as d _ h
+told_answered l r b d (reply.Refused why) h = told_as d _ h
+told_answered l r b d (reply.Fault f) h = told_as d _ h
+told_answered l r b d (reply.Fuel cost) h = told_as d _ h
+told_answered l r b d (reply.ShelfFull count) h = told_as d _ h
+told_answered l r b d (reply.Oversize n) h = told_as d _ h
+told_answered l r b d (reply.JournalFull n) h = told_as d _ h
+told_answered l r b d (reply.DiskFault count) h = told_as d _ h
+told_answered l r b d (reply.Down count) h = told_as d _ h
+told_answered l r b d reply.Worn h = told_as d _ h
+told_answered l r b d reply.Memory h = told_wanting d _ h
 
 -- why a publish is refused before its segment is looked at
 pub up_refusal : (b : Book) (x : Destination) → b.down ≡ None → no_publish b x ≡ step.refused_by (refusal_of (admit b x))
@@ -146,7 +144,6 @@ no_count (reply.Refused why) old now h = tt
 no_count (reply.Fault f) old now h = tt
 no_count (reply.Fuel cost) old now h = tt
 no_count (reply.ShelfFull count) old now h = tt
-no_count (reply.InstanceFull count) old now h = tt
 no_count (reply.Oversize n) old now h = tt
 no_count (reply.JournalFull n) old now h = tt
 no_count (reply.DiskFault count) old now h = absurd (let no : ⊥ = cc h in no)
@@ -162,7 +159,6 @@ plain_count (reply.Refused why) old now h = tt
 plain_count (reply.Fault f) old now h = tt
 plain_count (reply.Fuel cost) old now h = tt
 plain_count (reply.ShelfFull count) old now h = tt
-plain_count (reply.InstanceFull count) old now h = tt
 plain_count (reply.Oversize n) old now h = tt
 plain_count (reply.JournalFull n) old now h = tt
 plain_count (reply.DiskFault count) old now h = absurd (let no : ⊥ = cc h in no)

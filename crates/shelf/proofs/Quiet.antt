@@ -1,5 +1,5 @@
 -- What a reply leaves of the disk.
-use Rattle.std.proofs.Common.{◌≡◌, refl, subst, Option, Some, List}
+use Rattle.std.proofs.Common.{◌≡◌, refl, subst, Option, Some}
 use Rattle.script_value.specs.declared.outcome.Reply.{Reply}
 use Rattle.script_value.specs.declared.outcome.Reply.TheVariants as reply
 use Rattle.web_disk.specs.View.{View}
@@ -23,7 +23,6 @@ alone (reply.Refused why) left = left
 alone (reply.Fault f) left = left
 alone (reply.Fuel cost) left = left
 alone (reply.ShelfFull count) left = left
-alone (reply.InstanceFull count) left = left
 alone (reply.Oversize n) left = left
 alone (reply.JournalFull n) left = left
 alone (reply.DiskFault count) left = tt
@@ -42,7 +41,7 @@ module _ (old new : View) (c : Change) where
   paged (step.fault f) h = absurd h
   paged (step.out_of_fuel cost) h = absurd h
   paged (step.shelf_full count) h = absurd h
-  paged (step.instance_full count) h = absurd h
+  paged (step.compacted n) h = absurd h
   paged (step.disk_failed count) h = absurd h
   paged (step.down count) h = absurd h
   paged (step.oversize n) h = absurd h

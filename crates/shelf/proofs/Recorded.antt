@@ -1,6 +1,6 @@
 -- How a shelf's disk goes on to stand for its book where an event leaves a record with the state of its own script.
 use Rattle.std.proofs.Common.{◌≡◌, ℕ, ◌+◌, ◌≤◌, ◌^◌, Bool, List, [], ◌∷◌, ◌++◌, length, Option, Some, None, option_map, refl, sym, ◌∙◌, ap, subst, arith}
-use Rattle.script_nodes.specs.Setup.{Named}
+use Rattle.setup_reader.specs.Texts.{setup_of_texts as texts}
 use Rattle.web_disk.specs.View.{View, LeavesOnly}
 use Rattle.page_journal.specs.Records.{stored}
 use Rattle.page_journal.specs.Holding.{MayHold}
@@ -11,17 +11,18 @@ use Rattle.page_journal.proofs.Mending.{leaves_then}
 use Rattle.replay_spec.specs.Book.{Change, Doubt, Book, reopened}
 use Rattle.replay_spec.specs.Rules.{Rules}
 use Rattle.replay_spec.specs.Step.{Event, Fate, kept, recovered, step}
-use Rattle.replay_spec.specs.Runs.{lands, doubted}
+use Rattle.replay_spec.specs.Runs.{lands, change_in, doubted}
 use Rattle.replay_spec.specs.Laws.{IsLawful}
-use Rattle.replay_spec.specs.Remade.{KeepsSetup}
-use Rattle.journal_spec.specs.Retaking.{rules_for}
+use Rattle.replay_spec.specs.Recovery.{of_length}
 use Rattle.journal_spec.specs.Lengths.{own_body}
 use Rattle.journal_spec.specs.Before.{made_of}
 use Rattle.journal_spec.specs.Owning.{AreOwn, IsOwnBefore}
 use Rattle.journal_spec.specs.Standing.{Between, if_kept, length_in, Throughout, HasRoom}
-use Rattle.journal_spec.specs.Keeping.{Keeps, KeepsDoubt, KeepsWith, landed_bodies, CanBeWritten, IsSpelled, at_stake, stake_of}
+use Rattle.journal_spec.specs.Whole.{CanBeWritten}
+use Rattle.journal_spec.specs.Events.{Gives}
+use Rattle.journal_spec.specs.Keeping.{AreOver, IsAppending, KeepsSetup, Keeps, KeepsDoubt, KeepsWith, landed_bodies, told_bodies, IsWritable, at_stake, stake_of}
 use Rattle.journal_spec.specs.Disks.{IsFit}
-use Rattle.journal_spec.specs.Laws.{AreOver, MeasuresDoubt, EventsAreKept, EventsStandBetween}
+use Rattle.journal_spec.specs.Laws.{MeasuresDoubt, EventsAreKept, EventsStandBetween}
 use Rattle.journal_spec.proofs.Telling.{own_before_is, own_are_told}
 use Rattle.journal_spec.proofs.Standings.{settled_stands, appended, left_standing}
 use Rattle.shelf.specs.Owning.{OwnRecords, HoldsOwnRecords, HasOwnImages, StaysOwnThroughout, StandsOwn}
@@ -31,25 +32,25 @@ use Rattle.shelf.proofs.Standing.{OnlyNow, CountsNow, IsQuietCall, nothing_doubt
 -- where nothing is in doubt, any length measures it
 pub measured_up : (rules : Rules) (n : ℕ) (d : Book) → d.down ≡ None → MeasuresDoubt rules n d
 measured_up rules n d up =
-    ap (λ (o : Option Doubt). reopened (recovered rules kept o d)) up ∙ sym (ap (λ (o : Option Doubt). reopened (recovered (rules_for n) kept o d)) up)
+    ap (λ (o : Option Doubt). reopened (recovered rules kept o d)) up ∙ sym (ap (λ (o : Option Doubt). reopened (recovered (of_length n) kept o d)) up)
 
 -- the records of a journal that can go on are own ones where those of its disk are
-own_bodies : {D : Type 0} (view : D → View) (scripts : List Named) (shelf : ℕ) (old : Journal D) → IsSettled view old → (view old.disk).images (view old.disk).seen → HasOwnImages scripts shelf (view old.disk)
-    → AreOwn scripts shelf (bodies_in view old)
-own_bodies view scripts shelf old s reads own =
+own_bodies : {D : Type 0} (view : D → View) (shelf : ℕ) (old : Journal D) → IsSettled view old → (view old.disk).images (view old.disk).seen → HasOwnImages shelf (view old.disk)
+    → AreOwn texts shelf (bodies_in view old)
+own_bodies view shelf old s reads own =
     let v = view old.disk in
-    images_own scripts shelf v v.seen own reads (bodies_in view old) (just_these (bodies_in view old) v.seen (omega (arith, s.end, s.fits)) (settled_images view old s v.seen reads))
+    images_own shelf v v.seen own reads (bodies_in view old) (just_these (bodies_in view old) v.seen (omega (arith, s.end, s.fits)) (settled_images view old s v.seen reads))
 
 -- so what a change's page is written behind is the own state
-pub own_behind : {D : Type 0} (view : D → View) (scripts : List Named) (shelf : ℕ) (b : Book) (old : Journal D) (c : Change) (up : b.down ≡ None) (fit : IsFit view scripts shelf old b)
-    → (view old.disk).images (view old.disk).seen → HasOwnImages scripts shelf (view old.disk) → IsOwnBefore (fit.holds up).earlier b (Some c)
-own_behind view scripts shelf b old c up fit reads own =
+pub own_behind : {D : Type 0} (view : D → View) (shelf : ℕ) (b : Book) (old : Journal D) (c : Change) (up : b.down ≡ None) (fit : IsFit view texts shelf old b)
+    → (view old.disk).images (view old.disk).seen → HasOwnImages shelf (view old.disk) → IsOwnBefore (fit.holds up).earlier b (Some c)
+own_behind view shelf b old c up fit reads own =
     let k = fit.holds up in
-    own_before_is k.earlier b (Some c) (own_are_told scripts shelf (bodies_in view old) (made_of b k.earlier) k.makes (own_bodies view scripts shelf old (fit.settled up) reads own))
+    own_before_is k.earlier b c (own_are_told texts shelf (bodies_in view old) (made_of b k.earlier) k.makes (own_bodies view shelf old (fit.settled up) reads own))
 
-module _ {D : Type 0} (view : D → View) (tells : Bool) (scripts : List Named) (shelf : ℕ) (rules : Rules) (b : Book) (event : Event) (old : Journal D)
-    (is_over : AreOver rules scripts shelf) (setup : KeepsSetup event b) (lawful : IsLawful event b) (events : EventsAreKept)
-    (up : b.down ≡ None) (c : Change) (spelled : CanBeWritten b c) (room : length_of old + 5 + length (own_body b c) ≤ 2 ^ 30) (fit : IsFit view scripts shelf old b)
+module _ {D : Type 0} (view : D → View) (tells : Bool) (shelf : ℕ) (rules : Rules) (b : Book) (event : Event) (old : Journal D)
+    (is_over : AreOver rules shelf) (appends : IsAppending event) (gives : Gives texts event) (setup : KeepsSetup event b) (tells_none : told_bodies event b ≡ []) (lawful : IsLawful event b) (events : EventsAreKept)
+    (up : b.down ≡ None) (c : Change) (spelled : CanBeWritten b c) (room : length_of old + 5 + length (own_body b c) ≤ 2 ^ 30) (fit : IsFit view texts shelf old b)
     (before : IsOwnBefore (fit.holds up).earlier b (Some c)) where
   abbrev bodies : List (List ℕ)
   bodies = bodies_in view old
@@ -57,75 +58,77 @@ module _ {D : Type 0} (view : D → View) (tells : Bool) (scripts : List Named) 
   abbrev body : List ℕ
   body = own_body b c
 
-  abbrev all_kept : KeepsDoubt scripts shelf bodies b
-  all_kept = nothing_doubted scripts shelf bodies b up (fit.holds up)
+  abbrev all_kept : KeepsDoubt texts shelf bodies b
+  all_kept = nothing_doubted shelf bodies b up (fit.holds up)
 
   has_room : HasRoom bodies (Some body)
   has_room = let s = fit.settled up in omega (arith, s.end, room)
 
   -- behind the event that lands the change
-  kept_with : (fate : Fate) → lands rules b event fate ≡ Some c → KeepsWith scripts shelf bodies (body ∷ []) (step rules b 0 event fate).1
+  kept_with : (fate : Fate) → lands rules b event fate ≡ Some c → KeepsWith texts shelf bodies (body ∷ []) (step rules b 0 event fate).1
   kept_with fate landed =
-      let P : Option Change → Type 0 = λ o. IsOwnBefore (fit.holds up).earlier b o → IsSpelled b o → KeepsWith scripts shelf bodies (landed_bodies b o) (step rules b 0 event fate).1 in
-      subst P landed (events scripts shelf bodies rules b 0 event fate is_over setup lawful all_kept) before spelled
+      let x = (step rules b 0 event fate).1 in
+      let P : Option Change → Type 0 = λ o. IsOwnBefore (fit.holds up).earlier b o → IsWritable b o → KeepsWith texts shelf bodies (landed_bodies b o ++ told_bodies event b) x in
+      let all = subst P landed (events texts shelf bodies rules b 0 event fate is_over appends gives lawful all_kept) before spelled in
+      subst (λ (bs : List (List ℕ)). KeepsWith texts shelf bodies (body ∷ bs) x) tells_none all
 
   -- the bodies there are own ones
-  own_there : (view old.disk).images (view old.disk).seen → HasOwnImages scripts shelf (view old.disk) → AreOwn scripts shelf bodies
-  own_there reads own = own_bodies view scripts shelf old (fit.settled up) reads own
+  own_there : (view old.disk).images (view old.disk).seen → HasOwnImages shelf (view old.disk) → AreOwn texts shelf bodies
+  own_there reads own = own_bodies view shelf old (fit.settled up) reads own
 
   module _ (mid new : Journal D) (call : IsQuietCall view tells old mid) (run : LeavesOnly (view_of view mid) (view_of view new) (MayHold (bodies_in view mid) body)) (counts : CountsNow (view_of view new)) where
     run_here : LeavesOnly (view_of view mid) (view_of view new) (MayHold bodies body)
     run_here = subst (λ (bs : List (List ℕ)). LeavesOnly (view_of view mid) (view_of view new) (MayHold bs body)) (ap stored call.seen) run
 
     -- the records there and the new one, which is in flight
-    abbrev own_then : (fate : Fate) → lands rules b event fate ≡ Some c → (view old.disk).images (view old.disk).seen → HasOwnImages scripts shelf (view old.disk) → OwnRecords scripts shelf
-    own_then fate landed reads own = with_flight scripts shelf bodies body has_room ((kept_with fate landed).own (own_there reads own))
+    abbrev own_then : (fate : Fate) → lands rules b event fate ≡ Some c → (view old.disk).images (view old.disk).seen → HasOwnImages shelf (view old.disk) → OwnRecords shelf
+    own_then fate landed reads own = with_flight shelf bodies body has_room ((kept_with fate landed).own (own_there reads own))
 
-    pub own_images : (fate : Fate) → lands rules b event fate ≡ Some c → (view old.disk).images (view old.disk).seen → HasOwnImages scripts shelf (view old.disk) → HasOwnImages scripts shelf (view new.disk)
+    pub own_images : (fate : Fate) → lands rules b event fate ≡ Some c → (view old.disk).images (view old.disk).seen → HasOwnImages shelf (view old.disk) → HasOwnImages shelf (view new.disk)
     own_images fate landed reads own =
         (own_then fate landed reads own, λ image left. run_here.each image (counts (view_of view mid).moment image run_here.later left))
 
     -- at each moment
-    pub own_run : (fate : Fate) → lands rules b event fate ≡ Some c → OnlyNow (view_of view old) → (view old.disk).images (view old.disk).seen → HasOwnImages scripts shelf (view old.disk)
-        → StaysOwnThroughout scripts shelf (view_of view old) (view_of view new)
+    pub own_run : (fate : Fate) → lands rules b event fate ≡ Some c → OnlyNow (view_of view old) → (view old.disk).images (view old.disk).seen → HasOwnImages shelf (view old.disk)
+        → StaysOwnThroughout shelf (view_of view old) (view_of view new)
     own_run fate landed only_now reads own =
-        let first = quiet_run_own scripts shelf (view_of view old) (view_of view mid) only_now call.images call.time own in
-        leaves_then (view_of view old) (view_of view mid) (view_of view new) (HoldsOwnRecords scripts shelf) first
-        (stays_own scripts shelf (view_of view mid) (view_of view new) (own_then fate landed reads own) run_here)
+        let first = quiet_run_own shelf (view_of view old) (view_of view mid) only_now call.images call.time own in
+        leaves_then (view_of view old) (view_of view mid) (view_of view new) (HoldsOwnRecords shelf) first
+        (stays_own shelf (view_of view mid) (view_of view new) (own_then fate landed reads own) run_here)
 
     module _ (fate : Fate) (d : Book) (is : (step rules b 0 event fate).1 ≡ d) (stake : stake_of rules b 0 event fate ≡ Some c) where
       abbrev n : ℕ
       n = length body
 
-      between_these : EventsStandBetween → (k : Between scripts shelf b (if_kept n d)) × (k.bodies ≡ bodies) × (k.more ≡ Some body) × MeasuresDoubt rules n d
+      between_these : EventsStandBetween → (k : Between texts shelf b (if_kept n d)) × (k.bodies ≡ bodies) × (k.more ≡ Some body) × MeasuresDoubt rules n d
       between_these between =
           let x = (step rules b 0 event fate).1 in
-          let P : Option Change → Type 0 = λ o. IsOwnBefore (fit.holds up).earlier b o → IsSpelled b o → HasRoom bodies (option_map (own_body b) o)
-          → (k : Between scripts shelf b (if_kept (length_in (option_map (own_body b) o)) x)) × (k.bodies ≡ bodies) × (k.more ≡ option_map (own_body b) o) × MeasuresDoubt rules (length_in (option_map (own_body b) o)) x in
-          subst (λ (y : Book). (k : Between scripts shelf b (if_kept n y)) × (k.bodies ≡ bodies) × (k.more ≡ Some body) × MeasuresDoubt rules n y) is
-          (subst P stake (between scripts shelf bodies rules b 0 event fate is_over setup lawful all_kept) before spelled has_room)
+          let P : Option Change → Type 0 = λ o. IsOwnBefore (fit.holds up).earlier b o → IsWritable b o → HasRoom bodies (option_map (own_body b) o)
+          → (k : Between texts shelf b (if_kept (length_in (option_map (own_body b) o)) x)) × (k.bodies ≡ bodies) × (k.more ≡ option_map (own_body b) o) × MeasuresDoubt rules (length_in (option_map (own_body b) o)) x in
+          subst (λ (y : Book). (k : Between texts shelf b (if_kept n y)) × (k.bodies ≡ bodies) × (k.more ≡ Some body) × MeasuresDoubt rules n y) is
+          (subst P stake (between texts shelf bodies rules b 0 event fate is_over appends setup lawful all_kept) before spelled has_room)
 
       -- at each moment, where this is at stake
-      pub recorded_moments : EventsStandBetween → OnlyNow (view_of view old) → Throughout scripts shelf b (if_kept n d) (view_of view old) (view_of view new)
+      pub recorded_moments : EventsStandBetween → OnlyNow (view_of view old) → Throughout texts shelf b (if_kept n d) (view_of view old) (view_of view new)
       recorded_moments between only_now =
           let k = between_these between in
-          appended bodies scripts shelf b (if_kept n d) (view_of view old) (view_of view mid) (view_of view new) body only_now (settled_images view old (fit.settled up)) k.0 k.1 k.2 call.images call.time run_here
+          appended bodies texts shelf b (if_kept n d) (view_of view old) (view_of view mid) (view_of view new) body only_now (settled_images view old (fit.settled up)) k.0 k.1 k.2 call.images call.time run_here
 
-      pub measured_moments : EventsStandBetween → OnlyNow (view_of view old) → (m : ℕ) × Throughout scripts shelf b (if_kept m d) (view_of view old) (view_of view new) × MeasuresDoubt rules m d
+      pub measured_moments : EventsStandBetween → OnlyNow (view_of view old) → (m : ℕ) × Throughout texts shelf b (if_kept m d) (view_of view old) (view_of view new) × MeasuresDoubt rules m d
       measured_moments between only_now = (n, recorded_moments between only_now, (between_these between).3)
 
       -- it is in doubt
-      pub doubted_fit : EventsStandBetween → OnlyNow (view_of view old) → (d.down ≡ None → ⊥) → reopened b ≡ reopened d → IsFit view scripts shelf new d
+      pub doubted_fit : EventsStandBetween → OnlyNow (view_of view old) → (d.down ≡ None → ⊥) → reopened b ≡ reopened d → IsFit view texts shelf new d
       doubted_fit between only_now in_doubt same = record {
         settled = λ none. absurd (in_doubt none);
         holds = λ none. absurd (in_doubt none);
-        stands = (left_standing scripts shelf n b (if_kept n d) d (view_of view old) (view_of view new) counts (recorded_moments between only_now) same refl).0;
+        stands = (left_standing texts shelf n b (if_kept n d) d (view_of view old) (view_of view new) counts (recorded_moments between only_now) same refl).0;
       }
 
       pub doubted_own : EventsStandBetween → OnlyNow (view_of view old) → reopened b ≡ reopened d → (f : Fate) → lands rules b event f ≡ Some c → (view old.disk).images (view old.disk).seen
-          → HasOwnImages scripts shelf (view old.disk) → StandsOwn rules scripts shelf (view new.disk) d
+          → HasOwnImages shelf (view old.disk) → StandsOwn rules shelf (view new.disk) d
       doubted_own between only_now same f landed reads own =
-          let t = left_standing scripts shelf n b (if_kept n d) d (view_of view old) (view_of view new) counts (recorded_moments between only_now) same refl in
+          let t = left_standing texts shelf n b (if_kept n d) d (view_of view old) (view_of view new) counts (recorded_moments between only_now) same refl in
           let measured = (between_these between).3 in
           record {
             images = own_images f landed reads own;
@@ -135,14 +138,14 @@ module _ {D : Type 0} (view : D → View) (tells : Bool) (scripts : List Named) 
   -- the record was added
   module _ (mid new : Journal D) (call : IsQuietCall view tells old mid) (fate : Fate) (d : Book) (is : (step rules b 0 event fate).1 ≡ d) (landed : lands rules b event fate ≡ Some c) (still : d.down ≡ None)
       (settled : IsSettled view new) (added : bodies_in view new ≡ bodies_in view mid ++ body ∷ []) where
-    pub added_fit : IsFit view scripts shelf new d
+    pub added_fit : IsFit view texts shelf new d
     added_fit =
         let these : bodies ++ body ∷ [] ≡ bodies_in view new = ap (λ (bs : List (List ℕ)). bs ++ body ∷ []) (sym (ap stored call.seen)) ∙ sym added in
         let first = (kept_with fate landed).keeps.keeps in
-        let keeps = subst (λ (bs : List (List ℕ)). Keeps scripts shelf bs d) these (subst (Keeps scripts shelf (bodies ++ body ∷ [])) is first) in
-        record { settled = λ _. settled; holds = λ _. keeps; stands = settled_stands view scripts shelf new d settled (keeps.earlier, keeps.makes) still }
+        let keeps = subst (λ (bs : List (List ℕ)). Keeps texts shelf bs d) these (subst (Keeps texts shelf (bodies ++ body ∷ [])) is first) in
+        record { settled = λ _. settled; holds = λ _. keeps; stands = settled_stands view texts shelf new d settled (keeps.earlier, keeps.makes) still }
 
-    pub added_own : HasOwnImages scripts shelf (view new.disk) → StandsOwn rules scripts shelf (view new.disk) d
+    pub added_own : HasOwnImages shelf (view new.disk) → StandsOwn rules shelf (view new.disk) d
     added_own images =
         let t = added_fit.stands in
         record { images = images; stands = (t.0, (t.1.0, (t.1.1, measured_up rules t.0 d still))) }
@@ -151,6 +154,6 @@ module _ {D : Type 0} (view : D → View) (tells : Bool) (scripts : List Named) 
 pub stake_landed : (rules : Rules) (b : Book) (event : Event) (fate : Fate) (c : Change) → lands rules b event fate ≡ Some c → stake_of rules b 0 event fate ≡ Some c
 stake_landed rules b event fate c is = ap (λ (o : Option Change). at_stake o (step rules b 0 event fate).1) is
 
-pub stake_doubted : (rules : Rules) (b d : Book) (event : Event) (fate : Fate) (x : Doubt) → lands rules b event fate ≡ None → (step rules b 0 event fate).1 ≡ d → d.down ≡ Some x → stake_of rules b 0 event fate ≡ Some x.change
+pub stake_doubted : (rules : Rules) (b d : Book) (event : Event) (fate : Fate) (x : Doubt) → lands rules b event fate ≡ None → (step rules b 0 event fate).1 ≡ d → d.down ≡ Some x → stake_of rules b 0 event fate ≡ change_in x.work
 stake_doubted rules b d event fate x none is down =
     ap (λ (o : Option Change). at_stake o (step rules b 0 event fate).1) none ∙ ap (λ (e : Book). doubted e.down) is ∙ ap doubted down

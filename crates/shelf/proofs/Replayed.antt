@@ -1,12 +1,11 @@
 -- The segment of a ticket is that of its visit.
-use Rattle.std.proofs.Common.{◌≡◌, ◌∙◌, ap, sym, subst, ℕ, List, [], ◌∷◌, ◌++◌, length, map, Some, Result, Ok, Err, IfOk, slice_get, refl}
+use Rattle.std.proofs.Common.{◌≡◌, ◌∙◌, ap, sym, subst, ℕ, List, [], length, map, Some, Result, Ok, Err, IfOk, slice_get, refl}
 use Rattle.std.proofs.lemmas.Option.{same_Some}
 use Rattle.script_value.specs.Val.{Val}
 use Rattle.script_value.specs.Views.{meaning}
 use Rattle.script_nodes.specs.Core.{AllOnCells}
 use Rattle.script_nodes.specs.Arena.{Arena, IsScript, script_of}
 use Rattle.script_nodes.specs.Setup.{Named, Script, trees_of}
-use Rattle.script_nodes.specs.declared.script.Node.{Node}
 use Rattle.instance_cells.specs.Cells.{AreOn, reads_of}
 use Rattle.instance_cells.specs.Views.{effect_of}
 use Rattle.replay_spec.specs.Tape.{Reads, recorded, present, Answer, Tape}

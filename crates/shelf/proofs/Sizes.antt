@@ -1,5 +1,5 @@
 -- How long a record is, and what is told of one that is too long.
-use Rattle.std.proofs.Common.{◌≡◌, sym, subst, refl, ℕ, ◌+◌, ◌≤◌, ◌^◌, Bool, true, false, List, length, Option, Some, None, Err, arith}
+use Rattle.std.proofs.Common.{◌≡◌, sym, subst, refl, ℕ, ◌+◌, ◌≤◌, Bool, true, false, List, length, Option, Some, None, Err, arith}
 use Rattle.std.specs.Prelude.{nat_lt}
 use Rattle.std.proofs.lemmas.Bool.Decides.{nat_tests}
 use Rattle.std.proofs.lemmas.Option.{same_Some}
@@ -43,7 +43,6 @@ unwritten_count journal c state (reply.Refused why) old now h = tt
 unwritten_count journal c state (reply.Fault f) old now h = tt
 unwritten_count journal c state (reply.Fuel cost) old now h = tt
 unwritten_count journal c state (reply.ShelfFull count) old now h = tt
-unwritten_count journal c state (reply.InstanceFull count) old now h = tt
 unwritten_count journal c state (reply.Oversize n) old now h = tt
 unwritten_count journal c state (reply.JournalFull n) old now h = tt
 unwritten_count journal c state (reply.DiskFault count) old now h = size_count journal (record_length c state) (reply.DiskFault count) old now h

@@ -1,13 +1,10 @@
 -- What the events of a shelf come to.
-use Rattle.std.proofs.Common.{◌≡◌, ◌∙◌, ap, refl, ℕ, ◌^◌, ◌==◌, nat_le, true, false, List, [], length, Option, Some, None}
+use Rattle.std.proofs.Common.{◌≡◌, ◌∙◌, ap, refl, ℕ, ◌^◌, ◌==◌, nat_le, true, false, List, [], Option, Some, None}
 use Rattle.script_value.specs.Val.{Val}
 use Rattle.script_value.specs.declared.outcome.Refusal.{Refusal}
 use Rattle.script_value.specs.declared.outcome.TxName.{TxName}
-use Rattle.script_nodes.specs.Setup.{Named}
 use Rattle.page_names.specs.Names.{Destination}
-use Rattle.replay_spec.specs.Tape as tape
-use Rattle.replay_spec.specs.Tape.{out_of_fuel}
-use Rattle.replay_spec.specs.Book.{Change, sweeps, Doubt, Book, draw, spend}
+use Rattle.replay_spec.specs.Book.{Change, sweeps, landing, Doubt, Book, draw, spend}
 use Rattle.replay_spec.specs.Change.{land}
 use Rattle.replay_spec.specs.Rules.{Rules}
 use Rattle.replay_spec.specs.Admission.{when, or_else, refusal_of, admit}
@@ -37,7 +34,7 @@ told rs b (step.refusal r) = record { settled = refl; unrecorded = refl }
 told rs b (step.fault f) = record { settled = refl; unrecorded = refl }
 told rs b (step.out_of_fuel cost) = record { settled = refl; unrecorded = refl }
 told rs b (step.shelf_full count) = record { settled = refl; unrecorded = refl }
-told rs b (step.instance_full count) = record { settled = refl; unrecorded = refl }
+told rs b (step.compacted n) = record { settled = refl; unrecorded = refl }
 told rs b (step.disk_failed count) = record { settled = refl; unrecorded = refl }
 told rs b (step.down count) = record { settled = refl; unrecorded = refl }
 told rs b (step.oversize n) = record { settled = refl; unrecorded = refl }
@@ -52,9 +49,9 @@ pub record Comes (rules : Rules) (b : Book) (event : step.Event) (fate : step.Fa
   pub step : (nonce : ℕ) → step.step rules b nonce event fate ≡ (x, after)
   pub landed : lands rules b event fate ≡ c
 
-module _ (ss : List Named) (r : limits_of.Rules) (b : Book) where
+module _ (r : limits_of.Rules) (b : Book) where
   abbrev pub over : Rules
-  over = rules_of ss r
+  over = rules_of r
 
   -- a publish is decided as beside no journal, and then measured
   measured : (t : next.Ticket) → publish_comes over b t ≡ through over.journal b (publish_comes (unmeasured r) b t)
@@ -95,7 +92,7 @@ module _ (ss : List Named) (r : limits_of.Rules) (b : Book) where
   }
 
   abbrev pub doubting : (count : ℕ) → Change → List TxName → Book → Book
-  doubting count c inside d = record d { down = Some (record { count = count; change = c; inside = inside }) }
+  doubting count c inside d = record d { down = Some (record { count = count; work = landing c inside }) }
 
   pub doubted : (t : next.Ticket) (x : step.Reply) (c : Change) (inside : List TxName) (count : ℕ) → publish_comes over b t ≡ records x c inside
       → Comes over b (step.publish t) (disk_fault count) (step.disk_failed count) (doubting count c inside (spend t.number b)) None

@@ -1,11 +1,11 @@
 -- A state that has a spelling can be told.
-use Rattle.std.proofs.Common.{◌≡◌, ◌∙◌, ap, sym, subst, List, [], ◌∷◌, reverse, Option, Some, None, if◌then◌else◌, Bool, true, false, refl, ℕ, zero, suc}
+use Rattle.std.proofs.Common.{◌≡◌, ◌∙◌, ap, sym, subst, List, [], ◌∷◌, reverse, Option, Some, None, Result, Ok, Err, IfOk, if◌then◌else◌, Bool, true, false, refl, ℕ, zero, suc}
 use Rattle.std.specs.List.{list_all, AllByRecursion}
 use Rattle.std.proofs.lemmas.Bool.{and_from}
 use Rattle.std.proofs.lemmas.List.{reverse-reverse}
 use Rattle.script_value.specs.Val.{Val}
 use Rattle.value_bytes.specs.Spelling.{HasBytes}
-use Rattle.kept_states.specs.Kept.{Form, spelled, whole, bytes_of, IsKeptBy, form_byte, KeptAreWritten}
+use Rattle.kept_states.specs.Kept.{Form, spelled, whole, bytes_of, IsKeptBy, KeptAreWritten}
 use Rattle.kept_states.specs.Links.{behind_at}
 use Rattle.machine_states.specs.Machine.{Frame, in_binding, in_operand, in_body, in_seq, in_and, in_or, in_if, in_count, in_store, in_turn, in_isolate, in_call, in_task, in_page, in_finish, in_back, Suspended}
 use Rattle.frame_codec.specs.Forms.{form_bytes, BindsBefore}
@@ -14,7 +14,8 @@ use Rattle.frame_codec.proofs.States.{all_reversed}
 use Rattle.journal_records.specs.Fields.{is_shallow}
 use Rattle.journal_records.proofs.Measured.{value_shallow}
 use Rattle.journal_spec.specs.Lengths.{is_shallow_frame, is_shallow_state, told_bytes}
-use Rattle.shelf.specs.Recording.{IsKeptForm}
+use Rattle.shelf.specs.Recording.{IsKeptAs, WhereTold, lent}
+use Rattle.std.specs.Borrow.{Bor}
 
 all_shallow : {A : Type 0} (P : A → Type 0) (test : A → Bool) → ((x : A) → P x → test x ≡ true) → (xs : List A) → AllByRecursion P xs → list_all test xs ≡ true
 all_shallow P test f [] h = refl
@@ -55,33 +56,34 @@ spelled_told before d h = ap (λ (b : Bool). if b then Some (form_bytes before d
 
 -- ---- what is kept of a state is written so
 
-pub form_kept : (before : Option Suspended) (links : ℕ) (d : Suspended) (f : Form) → IsKeptBy before links d f → IsKeptForm (behind_at links before) d f
-form_kept None zero d f h = h
-form_kept None (suc n) d f h = h
-form_kept (Some p) zero d f h = h
-form_kept (Some p) (suc n) d f h = h
-
-kept_form : (before : Option Suspended) (d : Suspended) (f : Form) → IsKeptForm before d f → IsKeptBy before 1 d f
-kept_form None d f h = h
-kept_form (Some p) d f h = h
-
-module _ (d : Suspended) (bytes : List ℕ) where
-  by_form : (before : Option Suspended) (f : Form) → IsKeptForm before d f → bytes_of f ≡ Some bytes → StateHasBytes d × BindsBefore before d
-  by_form None (spelled parts) h is = (h.0, tt)
-  by_form None (whole e) h is = absurd (let no : ⊥ = cc is in no)
-  by_form (Some p) (spelled parts) h is = (h.0.0, h.0.1)
-  by_form (Some p) (whole e) h is = absurd (let no : ⊥ = cc is in no)
-
-  module _ (law : KeptAreWritten) (before : Option Suspended) (f : Form) (kept : IsKeptForm before d f) (is : bytes_of f ≡ Some bytes) where
-    pub kept_spelled : StateHasBytes d
-    kept_spelled = (by_form before f kept is).0
-
-    pub kept_binds : BindsBefore before d
-    kept_binds = (by_form before f kept is).1
-
-    pub kept_told : Some (form_byte before ∷ bytes) ≡ told_bytes before d
-    kept_told = ap (λ (bs : List ℕ). Some bs) (law before 1 d f bytes (kept_form before d f kept) is) ∙ sym (spelled_told before d kept_spelled)
+by_form : (before : Option Suspended) (links : ℕ) (d : Suspended) (f : Form) → IsKeptBy before links d f → (bytes : List ℕ) → bytes_of f ≡ Some bytes
+    → StateHasBytes d × BindsBefore (behind_at links before) d
+by_form None zero d (spelled parts) h bytes is = (h.0, tt)
+by_form None (suc n) d (spelled parts) h bytes is = (h.0, tt)
+by_form None links d (whole e) h bytes is = absurd (let no : ⊥ = cc is in no)
+by_form (Some p) zero d (spelled parts) h bytes is = (h.0, tt)
+by_form (Some p) zero d (whole e) h bytes is = absurd (let no : ⊥ = cc is in no)
+by_form (Some p) (suc n) d (spelled parts) h bytes is = (h.0.0, h.0.1)
+by_form (Some p) (suc n) d (whole e) h bytes is = absurd (let no : ⊥ = cc is in no)
 
 -- what nests too deep has no bytes
-pub deep_told : (before : Option Suspended) (d : Suspended) → is_shallow_state d ≡ false → None ≡ told_bytes before d
+deep_told : (before : Option Suspended) (d : Suspended) → is_shallow_state d ≡ false → None ≡ told_bytes before d
 deep_told before d deep = sym (ap (λ (b : Bool). if b then Some (form_bytes before d) else None) deep)
+
+module _ (law : KeptAreWritten) (before : Option Suspended) (links : ℕ) (d : Suspended) (f : Form) (kept : IsKeptBy before links d f) where
+  pub kept_spelled : (bytes : List ℕ) → bytes_of f ≡ Some bytes → StateHasBytes d
+  kept_spelled bytes is = (by_form before links d f kept bytes is).0
+
+  pub kept_binds : (bytes : List ℕ) → bytes_of f ≡ Some bytes → BindsBefore (behind_at links before) d
+  kept_binds bytes is = (by_form before links d f kept bytes is).1
+
+  pub kept_told : (bytes : Option (List ℕ)) → IsKeptAs d f bytes → bytes ≡ told_bytes (behind_at links before) d
+  kept_told None deep = deep_told (behind_at links before) d deep
+  kept_told (Some bytes) is = ap (λ (bs : List ℕ). Some bs) (law before links d f bytes kept is) ∙ sym (spelled_told (behind_at links before) d (kept_spelled bytes is))
+
+-- where bytes are lent, what holds of a state that is kept as bytes
+pub where_kept : {E : Type 0} (P : Type 0) (d : Suspended) (f : Form) (r : Result (Option (Bor (List ℕ))) E) → IfOk r (λ bytes. IsKeptAs d f (lent bytes)) → ((bytes : List ℕ) → bytes_of f ≡ Some bytes → P)
+    → WhereTold r P
+where_kept P d f (Err e) h g = tt
+where_kept P d f (Ok None) h g = tt
+where_kept P d f (Ok (Some b)) h g = g b.now h

@@ -1,13 +1,10 @@
 -- What states the pages have then, whether or not the disk tells what was recorded, where a change lands whose ticket goes on from the book.
-use Rattle.std.proofs.Common.{◌≡◌, ◌∙◌, ap, sym, subst, ℕ, ◌==◌, Bool, true, false, if◌then◌else◌, List, Option, Some, None, option_map, Contains, inl, refl, arith}
+use Rattle.std.proofs.Common.{◌≡◌, ◌∙◌, ap, sym, subst, ℕ, ◌==◌, Bool, true, false, if◌then◌else◌, List, Option, Some, None, Contains, inl, refl, arith}
 use Rattle.std.proofs.lemmas.Bool.Decides.{nat_tests}
 use Rattle.std.proofs.lemmas.Option.{none-some}
 use Rattle.script_nodes.specs.Setup.{Named}
-use Rattle.script_nodes.specs.Views.{scripts_of}
-use Rattle.script_nodes.specs.declared.setup.Setup.{Setup}
 use Rattle.page_names.specs.Views.{target_of}
 use Rattle.web_disk.specs.View.{View}
-use Rattle.page_journal.specs.Settled.{length_of}
 use Rattle.replay_spec.specs.Book as spec
 use Rattle.replay_spec.specs.Book.{instance_at, page_at}
 use Rattle.machine_states.specs.Machine.{Suspended}
@@ -20,11 +17,11 @@ use Rattle.instance_book.specs.declared.ticket.Ticket.{Ticket}
 use Rattle.instance_book.specs.Views.{instances_of}
 use Rattle.instance_book.specs.Places.{given}
 use Rattle.instance_book.specs.Makes.{KeepsStates, HasStatesFrom, HasSomeStates}
-use Rattle.instance_book.specs.Changes.{HasStateIn, HasStateFrom, IsSpelledIn, KeepsStatesBy}
+use Rattle.instance_book.specs.Changes.{HasStateIn, HasStateFrom, IsSpelledIn, HasRoomFor, KeepsStatesBy}
 use Rattle.instance_book.specs.Prepares.{HasItsScript}
 use Rattle.instance_book.proofs.Given.{other_given}
 use Rattle.shelf.specs.declared.shelf.Shelf.{Shelf}
-use Rattle.shelf.specs.Views.{doubt_of, book_in, IsInOrder}
+use Rattle.shelf.specs.Views.{library_in, beside_of, book_in, IsInOrder}
 use Rattle.shelf.specs.Holding.{IsWholeIn}
 use Rattle.shelf.specs.Preparing.{CanBeLanded}
 use Rattle.shelf.specs.Recording.{state_in, GoesOnAsGiven}
@@ -32,14 +29,14 @@ use Rattle.shelf.proofs.Landing as landing
 use Rattle.shelf.proofs.Shown.{GoesHere, goes_here}
 use Rattle.replay_spec.proofs.Stand.{among_of}
 
-module _ {D N : Type 0} (view : D → View) (tells : Bool) (setup : Setup) (s : Shelf D N) (order : IsInOrder view tells (scripts_of setup) s) (t : Ticket) (p : Prepared) (up : s.down ≡ None)
-    (out : Contains (book_in (scripts_of setup) s).out t.number) (has : HasItsScript (scripts_of setup) t (target_of t.target)) (can : CanBeLanded (scripts_of setup) s.book t p) (c : Change) (some : p.change ≡ Some c) (spent : Book)
-    (same : spent.instances ≡ s.book.instances) (keeps : KeepsStates s.book spent) (whole : IsWholeIn (scripts_of setup) spent c) (spelled : IsSpelledIn c) (goes : GoesOnAsGiven setup spent t c) where
-  abbrev ss : List Named
-  ss = scripts_of setup
+module _ {D N : Type 0} (view : D → View) (tells : Bool) (s : Shelf D N) (order : IsInOrder view tells s) (t : Ticket) (p : Prepared) (up : s.down ≡ None)
+    (out : Contains (book_in view s).out t.number) (has : HasItsScript (library_in s) t (target_of t.target)) (can : CanBeLanded (library_in s) s.book t p) (rooms : HasRoomFor p.change s.book) (c : Change) (some : p.change ≡ Some c) (spent : Book)
+    (same : spent.instances ≡ s.book.instances) (keeps : KeepsStates s.book spent) (whole : IsWholeIn (library_in s).all spent c) (spelled : IsSpelledIn c) (goes : GoesOnAsGiven (library_in s) spent t c) where
+  abbrev all : List Named
+  all = (library_in s).all
 
   abbrev b : spec.Book
-  b = book_in ss s
+  b = book_in view s
 
   abbrev had_so : ℕ → Option Suspended
   had_so = order.kept.0
@@ -53,7 +50,7 @@ module _ {D N : Type 0} (view : D → View) (tells : Bool) (setup : Setup) (s : 
   grown n = if n == t.number then state_in c else had_so n
 
   -- no page has the ticket's number
-  absent : (n : ℕ) (i : spec.Instance) → instance_at n (instances_of ss s.book.instances) ≡ Some i → page_at t.number i.pages ≡ None
+  absent : (n : ℕ) (i : spec.Instance) → instance_at n (instances_of all s.book.instances) ≡ Some i → page_at t.number i.pages ≡ None
   absent n i found = order.orderly.instances.no_page t.number (inl (among_of b.out t.number out)) n i found
 
   fresh_so : (n : ℕ) (d : Suspended) → (n ≡ t.number → ⊥) → had_so n ≡ Some d → fresh n ≡ Some d
@@ -80,20 +77,20 @@ module _ {D N : Type 0} (view : D → View) (tells : Bool) (setup : Setup) (s : 
   now : (y : Suspended) → state_in c ≡ Some y → grown t.number ≡ Some y
   now y e = let here : (t.number == t.number) ≡ true = grind (arith, nat_tests) in ap (λ (q : Bool). if q then state_in c else had_so t.number) here ∙ e
 
-  had_fresh : HasStatesFrom (given fresh) ss spent
-  had_fresh = keeps (given fresh) ss (other_given t.number had_so fresh fresh_so ss s.book order.orderly.instances.apart absent order.kept.1)
+  had_fresh : HasStatesFrom (given fresh) all spent
+  had_fresh = keeps (given fresh) all (other_given t.number had_so fresh fresh_so all s.book order.orderly.instances.apart absent order.kept.1)
 
-  had_grown : HasStatesFrom (given grown) ss spent
-  had_grown = keeps (given grown) ss (other_given t.number had_so grown grown_so ss s.book order.orderly.instances.apart absent order.kept.1)
+  had_grown : HasStatesFrom (given grown) all spent
+  had_grown = keeps (given grown) all (other_given t.number had_so grown grown_so all s.book order.orderly.instances.apart absent order.kept.1)
 
   here : GoesHere b fresh t c
-  here = goes_here setup (length_of s.journal) (option_map doubt_of s.down) s.book spent t c fresh same goes had_fresh
+  here = goes_here (library_in s) (beside_of view s) s.book spent t c fresh same goes had_fresh
 
-  shown : HasStateIn ss (given grown) b.instances c
-  shown = landing.shown_by view tells ss s order t p up out has can c some spent same whole spelled fresh grown more now here
+  shown : HasStateIn all (given grown) b.instances c
+  shown = landing.shown_by view tells s order t p up out has can rooms c some spent same whole spelled fresh grown more now here
 
   -- then each page has a state that was given to it
-  pub had : (new : Book) → KeepsStatesBy p.change spent new → HasSomeStates ss new
+  pub had : (new : Book) → KeepsStatesBy p.change spent new → HasSomeStates all new
   had new keeps_by =
-      let moved : HasStateIn ss (given grown) (instances_of ss spent.instances) c = subst (λ (is : InOrder KeptInstance). HasStateIn ss (given grown) (instances_of ss is) c) (sym same) shown in
-      (grown, keeps_by (given grown) ss (subst (HasStateFrom ss (given grown) (instances_of ss spent.instances)) (sym some) moved) had_grown)
+      let moved : HasStateIn all (given grown) (instances_of all spent.instances) c = subst (λ (is : InOrder KeptInstance). HasStateIn all (given grown) (instances_of all is) c) (sym same) shown in
+      (grown, keeps_by (given grown) all (subst (HasStateFrom all (given grown) (instances_of all spent.instances)) (sym some) moved) had_grown)

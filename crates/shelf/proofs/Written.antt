@@ -2,7 +2,7 @@
 use Rattle.std.proofs.Common.{◌≡◌, ◌∙◌, ap, sym, refl, ℕ, zero, suc, List, [], ◌∷◌, length, map, reverse, Option, arith}
 use Rattle.std.proofs.lemmas.List.{length-map, length-reverse, reverse-reverse}
 use Rattle.script_value.specs.Val.{Val}
-use Rattle.script_nodes.specs.declared.setup.Setup.{Setup}
+use Rattle.script_nodes.specs.Setup.{Library}
 use Rattle.machine_states.specs.Machine.{Frame, Suspended}
 use Rattle.machine_states.specs.Views.{frame_of, suspended_of}
 use Rattle.machine_states.specs.declared.frame.Frame as rust
@@ -14,8 +14,9 @@ use Rattle.instance_book.specs.declared.book.Book.{Book}
 use Rattle.instance_book.specs.declared.prepared.Change.{Change}
 use Rattle.instance_book.specs.declared.prepared.Change.TheVariants.{Opens, Extends, Ends, Finishes}
 use Rattle.instance_book.specs.declared.ticket.Ticket.{Ticket}
-use Rattle.instance_book.specs.Told.{AnswersGiven}
-use Rattle.shelf.specs.Recording.{told_in, IsStateFor, AreAsLong, IsAllShared, GoOnAlike}
+use Rattle.instance_book.specs.Before.{IsBefore}
+use Rattle.machine_states.specs.declared.segment.Origin.{Origin}
+use Rattle.shelf.specs.Recording.{told_in, IsStateFor, AreAsLong, IsAllShared, AnswersGiven, GoesOnFrom}
 
 -- just a page is told with a state
 pub told_for : (t : Ticket) (c : Change) → IsStateFor c (told_in t c)
@@ -53,10 +54,11 @@ same_where l r x differs long all shadows =
     ap (λ (vs : List Val). state_with vs (reverse fl) l.shades) one
     ∙ (ap (λ (fs : List Frame). state_with r.env fs l.shades) three ∙ ap (λ (ss : List (ℕ × Val)). state_with r.env (reverse fr) ss) shadows)
 
--- a ticket that goes on like one of the book's page goes on from the state that is given to the page
-pub goes_alike : (setup : Setup) (b : Book) (instance page : ℕ) (states : ℕ → Option Suspended) (there t : Ticket) → GoOnAlike there t → AnswersGiven setup b instance page states there → AnswersGiven setup b instance page states t
-goes_alike setup b instance page states there t alike g = record {
+-- a ticket that goes on from what the book has of a page goes on from the state that is given to the page
+pub goes_from_there : (library : Library) (b : Book) (instance page : ℕ) (states : ℕ → Option Suspended) (from : Origin) (links : ℕ) (t : Ticket) → GoesOnFrom from links t → IsBefore library b instance page states from links
+    → AnswersGiven library b instance page states t
+goes_from_there library b instance page states from links t goes g = record {
   at = g.at;
   found = g.found;
-  goes = record { before = g.goes.before; from = sym alike.from ∙ g.goes.from; state = g.goes.state; links = sym alike.links ∙ g.goes.links };
+  goes = record { before = g.before; from = goes.from ∙ g.goes; state = g.state; links = goes.links ∙ g.next };
 }

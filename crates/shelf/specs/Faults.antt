@@ -1,8 +1,11 @@
 -- Why a journal makes no shelf.
-use Rattle.std.specs.Prelude.{◌≡◌, Result, Ok, Err, ⊤}
+use Rattle.std.specs.Prelude.{◌≡◌, ◌<◌, ◌^◌, ℕ, List, Some, Result, Ok, Err, ⊤}
+use Rattle.script_nodes.specs.Setup.{Named}
 use Rattle.page_journal.specs.declared.repair.JournalFault.{JournalFault}
 use Rattle.page_journal.specs.declared.repair.JournalFault.TheVariants as journal
+use Rattle.journal_spec.specs.Before.{Made}
 use Rattle.journal_spec.specs.Making.{Making, damaged, other}
+use Rattle.journal_spec.specs.Opening.{opened_on}
 use Rattle.shelf.specs.declared.begin.BeginFault.{BeginFault}
 use Rattle.shelf.specs.declared.begin.BeginFault.TheVariants as fault
 
@@ -12,14 +15,22 @@ begin_fault (journal.Damaged place) = fault.Damaged place
 begin_fault journal.DiskFault = fault.DiskFault
 begin_fault journal.Memory = fault.Memory
 
--- the fault is why the records make no book, unless the outside failed
-abbrev pub IsReadFaultOf : Making → BeginFault → Type 0
-IsReadFaultOf m (fault.Damaged place) = m ≡ damaged place
-IsReadFaultOf m (fault.Other place) = m ≡ other place
-IsReadFaultOf m fault.DiskFault = ⊤
-IsReadFaultOf m fault.Memory = ⊤
+-- The shelf that goes on with this setup would have a journal of this length, which is longer than one may be.
+pub record IsTooLong (scripts : List Named) (shelf : ℕ) (m : Making) (length : ℕ) : Type 0 where
+  pub made : Made
+  pub opened : opened_on shelf scripts m ≡ Some made
+  pub is : made.book.length ≡ length
+  pub long : 2 ^ 30 < length
 
--- a fault that is answered is why the records make no book, unless the outside failed
-abbrev pub IsReadFault : {T : Type 0} → Making → Result T BeginFault → Type 0
-IsReadFault m (Ok x) = ⊤
-IsReadFault m (Err e) = IsReadFaultOf m e
+-- the fault is why these records make no shelf of this setup, unless the outside failed
+abbrev pub IsReadFaultOf : List Named → (shelf : ℕ) → Making → BeginFault → Type 0
+IsReadFaultOf scripts shelf m (fault.Damaged place) = m ≡ damaged place
+IsReadFaultOf scripts shelf m (fault.Other place) = m ≡ other place
+IsReadFaultOf scripts shelf m (fault.Full length) = IsTooLong scripts shelf m length
+IsReadFaultOf scripts shelf m fault.DiskFault = ⊤
+IsReadFaultOf scripts shelf m fault.Memory = ⊤
+
+-- a fault that is answered is why these records make no shelf of this setup, unless the outside failed
+abbrev pub IsReadFault : {T : Type 0} → List Named → (shelf : ℕ) → Making → Result T BeginFault → Type 0
+IsReadFault scripts shelf m (Ok x) = ⊤
+IsReadFault scripts shelf m (Err e) = IsReadFaultOf scripts shelf m e

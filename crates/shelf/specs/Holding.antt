@@ -3,8 +3,7 @@ use Rattle.std.specs.Prelude.{◌≡◌, List, length, map, None, IfSome, slice_
 use Rattle.script_value.specs.Val.{Val}
 use Rattle.script_value.specs.declared.outcome.TxName.{TxName}
 use Rattle.script_nodes.specs.Arena.{Arena}
-use Rattle.script_nodes.specs.Setup.{Named}
-use Rattle.script_nodes.specs.declared.setup.Setup.{Setup}
+use Rattle.script_nodes.specs.Setup.{Named, Library}
 use Rattle.page_names.specs.Names.{Destination, start, page}
 use Rattle.page_names.specs.Views.{target_of}
 use Rattle.instance_cells.specs.Cells.{Effect, AreOn, Holds}
@@ -23,9 +22,9 @@ use Rattle.instance_book.specs.Places.{arena_of}
 use Rattle.instance_book.specs.Swept.{cells_at}
 
 -- the target is admitted, and the ticket is for the visit of it
-pub record IsForItsVisit (setup : Setup) (b : Book) (t : Ticket) : Type 0 where
-  pub admitted : refusal_for setup b t.target ≡ None
-  pub fits : FitsIn setup b t.target t
+pub record IsForItsVisit (library : Library) (b : Book) (t : Ticket) : Type 0 where
+  pub admitted : refusal_for library b t.target ≡ None
+  pub fits : FitsIn library b t.target t
 
 -- the effects are on these cells and hold over them
 pub record AreHeld (effects : List Effect) (cells : List Val) : Type 0 where
@@ -54,8 +53,8 @@ pub record IsWhole (a : Arena) (d : Suspended) (inside : List TxName) : Type 0 w
 -- the page that a change shows is inside the transactions of its state's frames, and the state fits the script of its instance where it has
 -- a spelling
 abbrev pub IsWholeIn : List Named → Book → Change → Type 0
-IsWholeIn scripts b (Opens o) =
-    IfSome (slice_get scripts o.instance.script) (λ s. IsWhole (arena_of s.script) (suspended_of o.state) o.page.item.inside.items)
-IsWholeIn scripts b (Extends x) =
-    IfSome (script_at scripts x.instance b) (λ s. IsWhole (arena_of s.script) (suspended_of x.state) x.show.page.item.inside.items)
-IsWholeIn scripts b _ = ⊤
+IsWholeIn all b (Opens o) =
+    IfSome (slice_get all o.instance.script) (λ s. IsWhole (arena_of s.script) (suspended_of o.state) o.page.item.inside.items)
+IsWholeIn all b (Extends x) =
+    IfSome (script_at all x.instance b) (λ s. IsWhole (arena_of s.script) (suspended_of x.state) x.show.page.item.inside.items)
+IsWholeIn all b _ = ⊤

@@ -1,4 +1,6 @@
 pub mod Ranges
+pub mod Files
+pub mod Present
 pub mod Owning
 pub mod Views
 pub mod Holding

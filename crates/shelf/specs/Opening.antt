@@ -1,118 +1,197 @@
 -- What opening a shelf finds.
-use Rattle.std.specs.Prelude.{◌≡◌, ◌≢◌, ◌⊎◌, ℕ, Bool, List, [], ◌∷◌, length, Result, Ok, Err, IfOk, IsErrOf, is_ok, IsTrue, ⊤}
+use Rattle.std.specs.Prelude.{◌≡◌, ◌≢◌, ◌⊎◌, ◌≤◌, ℕ, Bool, List, [], ◌∷◌, ◌++◌, length, Some, None, Result, Ok, Err, IfOk, OnOk, IsErrOf, is_ok, IsTrue, ⊤}
 use Rattle.script_nodes.specs.Setup.{Named}
+use Rattle.script_nodes.specs.Setup as spec
+use Rattle.script_nodes.specs.Views.{library_of}
+use Rattle.script_nodes.specs.declared.library.Library.{Library}
+use Rattle.setup_reader.specs.Texts.{setup_of_texts}
 use Rattle.web_outside.specs.Causes.{Rose}
-use Rattle.web_disk.specs.View.{View, AreAmong, Only, NoNewImage}
+use Rattle.web_disk.specs.View.{View, AreAmong, Only, NoNewImage, LeavesOnly}
+use Rattle.page_journal.specs.Holding.{MayHold}
 use Rattle.page_journal.specs.Opened.{IsIntactOrEmpty}
 use Rattle.page_journal.specs.Records.{at_rest, stored}
 use Rattle.page_journal.specs.Scanned.{IsQuiet}
 use Rattle.page_journal.specs.Settled.{HasFailed, IsSettled, view_of, bodies_in, length_of, length_with}
 use Rattle.page_journal.specs.declared.journal.Journal.{Journal}
-use Rattle.replay_spec.specs.Book.{Book}
+use Rattle.replay_spec.specs.Book.{Book, reopened}
 use Rattle.replay_spec.specs.Invariant.{IsSound}
 use Rattle.replay_spec.specs.Rules.{Rules}
 use Rattle.replay_spec.specs.Step.{crash, Fate, lost, kept, live, step}
-use Rattle.journal_spec.specs.Making.{nothing, damaged, other, begun, book_of, book_in_bytes}
-use Rattle.journal_spec.specs.Keeping.{first_body}
+use Rattle.journal_spec.specs.Before.{Made}
+use Rattle.journal_spec.specs.Keeping.{AreOver}
+use Rattle.journal_spec.specs.Making.{Making, nothing, begun, made, damaged, other, made_in, book_of, book_in_bytes}
+use Rattle.journal_spec.specs.Opening.{first_body, renewal_bodies, opened_book, opened_on}
 use Rattle.journal_spec.specs.Disks.{IsFit}
 use Rattle.journal_spec.specs.Owning.{AreOwn}
+use Rattle.journal_spec.specs.Standing.{IsMadeBook, Stands, ThroughoutFrom, OpensThroughout, IsOneOf}
 use Rattle.instance_book.specs.declared.book.Book.{Book as RustBook}
+use Rattle.instance_book.specs.Views as views
 use Rattle.instance_book.specs.Makes.{HasItsStates}
-use Rattle.journal_spec.specs.Standing.{IsBook, Stands, StaysThroughout, IsOneOf}
-use Rattle.book_recovery.specs.Found.{book_with, IsReopened}
+use Rattle.book_recovery.specs.Found.{FindsBook, IsBookInOrder}
+use Rattle.shelf.specs.Files.{read_file}
 use Rattle.shelf.specs.Owning.{HasOwnImages, StaysOwnThroughout, StandsMeasured}
-use Rattle.shelf.specs.Faults.{IsReadFault}
-use Rattle.shelf.specs.Views.{TellsStates, IsOwnShelf, book_in}
+use Rattle.shelf.specs.Faults.{IsReadFaultOf, IsReadFault}
+use Rattle.shelf.specs.Views.{TellsStates, IsOwnShelf, library_in, book_in}
 use Rattle.shelf.specs.declared.begin.BeginFault.{BeginFault}
 use Rattle.shelf.specs.declared.begin.BeginFault.TheVariants as fault
 use Rattle.shelf.specs.declared.shelf.Shelf.{Shelf}
 
--- the disk that is told to be damaged, or of another shelf, at a place, is so
-abbrev pub IsFaultOf : List Named → (shelf : ℕ) → View → BeginFault → Type 0
-IsFaultOf scripts shelf old (fault.Damaged place) = book_in_bytes scripts shelf old.seen ≡ damaged place
-IsFaultOf scripts shelf old (fault.Other place) = book_in_bytes scripts shelf old.seen ≡ other place
-IsFaultOf scripts shelf old fault.DiskFault = ⊤
-IsFaultOf scripts shelf old fault.Memory = ⊤
+-- what the records of a journal make of a shelf
+abbrev pub making_of : {D : Type 0} → (D → View) → (shelf : ℕ) → Journal D → Making
+making_of view shelf journal = book_of setup_of_texts shelf (bodies_in view journal)
 
--- where a fault tells that the disk is damaged, or of another shelf, at a place, it is so
+-- what the bytes of a disk make of a shelf
+abbrev pub making_on : (shelf : ℕ) → View → Making
+making_on shelf v = book_in_bytes setup_of_texts shelf v.seen
+
+-- the fault is why the bytes of the disk make no shelf of this setup, unless the outside failed
+abbrev pub IsFaultOf : List Named → (shelf : ℕ) → View → BeginFault → Type 0
+IsFaultOf scripts shelf old e = IsReadFaultOf scripts shelf (making_on shelf old) e
+
+-- a fault that is answered is why the bytes of the disk make no shelf of this setup, unless the outside failed
 abbrev pub IsFault : {T : Type 0} → List Named → (shelf : ℕ) → View → Result T BeginFault → Type 0
-IsFault scripts shelf old (Ok x) = ⊤
-IsFault scripts shelf old (Err e) = IsFaultOf scripts shelf old e
+IsFault scripts shelf old result = IsReadFault scripts shelf (making_on shelf old) result
+
+-- the bodies that an opening with this setup adds to records that make this: the first one, where there is none; and that of the setup,
+-- where it has other names or texts than the last one that was told
+abbrev pub opening_bodies : List Named → (shelf : ℕ) → Making → List (List ℕ)
+opening_bodies scripts shelf nothing = first_body scripts shelf ∷ []
+opening_bodies scripts shelf (begun m) = renewal_bodies scripts m.book.scripts
+opening_bodies scripts shelf (made m) = renewal_bodies scripts m.book.scripts
+opening_bodies scripts shelf (damaged place) = []
+opening_bodies scripts shelf (other place) = []
+
+-- the bodies that an opening added, which adds none where it fails
+abbrev pub added_by : {T : Type 0} → List Named → (shelf : ℕ) → Making → Result T BeginFault → List (List ℕ)
+added_by scripts shelf m (Ok x) = opening_bodies scripts shelf m
+added_by scripts shelf m (Err e) = []
+
+-- ---- of the journal
+
+-- the book of these scripts beside a journal from which it was read, with nothing in doubt
+abbrev pub opened_beside : {D : Type 0} → (D → View) → (shelf : ℕ) → Journal D → Library → RustBook → Book
+opened_beside view shelf journal library b =
+    views.book_of (library_of library) (record { length = length_of journal; file = read_file view shelf journal; down = None }) b
+
+-- the book was made of the records of the journal, under this library
+abbrev pub WasFound : {D : Type 0} → (D → View) → (shelf : ℕ) → Journal D → RustBook → spec.Library → Type 0
+WasFound view shelf journal b library = FindsBook shelf (length_of journal) b library (making_of view shelf journal)
 
 -- the records of a journal are own ones
-abbrev pub HasOwnRecords : {D : Type 0} → (D → View) → List Named → (shelf : ℕ) → Journal D → Type 0
-HasOwnRecords view scripts shelf journal = AreOwn scripts shelf (bodies_in view journal)
+abbrev pub HasOwnRecords : {D : Type 0} → (D → View) → (shelf : ℕ) → Journal D → Type 0
+HasOwnRecords view shelf journal = AreOwn setup_of_texts shelf (bodies_in view journal)
 
 -- after an opening the records of the journal are own ones, and each page of the book has the state of its chain
-pub record OpensOwn {D : Type 0} (view : D → View) (scripts : List Named) (shelf : ℕ) (journal : Journal D) (b : RustBook) : Type 0 where
-  pub records : HasOwnRecords view scripts shelf journal
-  pub states : HasItsStates scripts b
+pub record OpensOwn {D : Type 0} (view : D → View) (shelf : ℕ) (journal : Journal D) (o : RustBook × Library) : Type 0 where
+  pub records : HasOwnRecords view shelf journal
+  pub states : HasItsStates (library_of o.1).all o.0
 
 -- whatever a crash leaves of the disk at a moment of a call on its journal holds own records
-abbrev pub LeavesOwnRecords : {D : Type 0} → (D → View) → List Named → (shelf : ℕ) → (old new : Journal D) → Type 0
-LeavesOwnRecords view scripts shelf old new = StaysOwnThroughout scripts shelf (view_of view old) (view_of view new)
-
--- the journal is longer by the first record, which tells the shelf's number and the scripts
-abbrev pub HasFirstLength : {D : Type 0} → List Named → (shelf : ℕ) → (old new : Journal D) → Type 0
-HasFirstLength scripts shelf old new = length_of new ≡ length_with old (first_body scripts shelf)
-
--- nothing but a fault of the disk, or want of memory, is told in place of what was asked for
-abbrev pub IsDoneUnlessOutside : {T : Type 0} → Result T BeginFault → Type 0
-IsDoneUnlessOutside result = IsErrOf result fault.DiskFault ⊎ (IsErrOf result fault.Memory ⊎ IsTrue (is_ok result))
+abbrev pub LeavesOwnRecords : {D : Type 0} → (D → View) → (shelf : ℕ) → (old new : Journal D) → Type 0
+LeavesOwnRecords view shelf old new = StaysOwnThroughout shelf (view_of view old) (view_of view new)
 
 -- where a fault of the disk is told, one of its calls has failed
 abbrev pub TellsFailure : {D T : Type 0} → (D → View) → (old new : Journal D) → Result T BeginFault → Type 0
 TellsFailure view old new result = IsErrOf result fault.DiskFault → HasFailed (view_of view old) (view_of view new)
 
--- the book is what the records made, or what the first record makes where there was none
-abbrev pub IsMadeOf : {D : Type 0} → (D → View) → List Named → (shelf : ℕ) → (old new : Journal D) → RustBook → Type 0
-IsMadeOf view scripts shelf old new b =
-    IsBook (begun scripts shelf (book_of scripts shelf (bodies_in view old))) (book_with scripts (length_of new) b)
-
--- the journal can go on with this book
-abbrev pub CanGoOnWith : {D : Type 0} → (D → View) → List Named → (shelf : ℕ) → Journal D → RustBook → Type 0
-CanGoOnWith view scripts shelf journal b = IsFit view scripts shelf journal (book_with scripts (length_of journal) b)
-
--- where no book was made, the records told why
-abbrev pub TellsReadFault : {D T : Type 0} → (D → View) → List Named → (shelf : ℕ) → Journal D → Result T BeginFault → Type 0
-TellsReadFault view scripts shelf old result = IsReadFault (book_of scripts shelf (bodies_in view old)) result
-
--- where there were records, nothing was written
-abbrev pub IsReadAlone : {D : Type 0} → (D → View) → List Named → (shelf : ℕ) → (old new : Journal D) → Type 0
-IsReadAlone view scripts shelf old new =
-    book_of scripts shelf (bodies_in view old) ≢ nothing → IsQuiet (view_of view old) (view_of view new)
-
 -- what is read of a disk is as it was, and a crash leaves nothing that it might not have left
 abbrev pub IsUntouched : View → View → Type 0
 IsUntouched old new = (new.seen ≡ old.seen) × NoNewImage old new
+
+-- nothing but a fault of the disk, or want of memory, is told in place of what was asked for
+abbrev pub IsDoneUnlessOutside : {T : Type 0} → Result T BeginFault → Type 0
+IsDoneUnlessOutside result = IsErrOf result fault.DiskFault ⊎ (IsErrOf result fault.Memory ⊎ IsTrue (is_ok result))
+
+-- A settled journal gets this body behind its records; a crash at any moment leaves those, with it or without it. Where it is not added, the
+-- disk failed, or there was no memory and nothing was written.
+pub record TellsSetup {D T : Type 0} (view : D → View) (tells : Bool) (old new : Journal D) (body : List ℕ) (result : Result T BeginFault) : Type 0 where
+  pub added : IsTrue tells → OnOk result (IsSettled view new × (bodies_in view new ≡ bodies_in view old ++ body ∷ []))
+  pub len : OnOk result (length_of new ≡ length_with old body)
+  pub moments : IsTrue tells → LeavesOnly (view_of view old) (view_of view new) (MayHold (bodies_in view old) body)
+  pub refused : IsDoneUnlessOutside result
+  pub untouched : IsErrOf result fault.Memory → IsUntouched (view_of view old) (view_of view new)
+  pub cause : TellsFailure view old new result
+  pub later : (view_of view old).faults ≤ (view_of view new).faults
+
+-- that there is no room for this body is told, with the length that the journal would have, and nothing was done
+pub record TellsFull {D T : Type 0} (old new : Journal D) (body : List ℕ) (result : Result T BeginFault) : Type 0 where
+  pub journal : new ≡ old
+  pub told : IsErrOf result (fault.Full (length_with old body))
+
+-- these are the scripts that were told, and behind them those of this setup, which is the present one
+pub record IsLibraryOf (earlier scripts : List Named) (library : Library) : Type 0 where
+  pub all : (library_of library).all ≡ earlier ++ scripts
+  pub setup : (library_of library).setup ≡ scripts
+
+-- the book is the one that a shelf goes on with on these records, with this setup
+abbrev pub IsMadeOf : {D : Type 0} → (D → View) → List Named → (shelf : ℕ) → (old new : Journal D) → RustBook × Library → Type 0
+IsMadeOf view scripts shelf old new o =
+    IsMadeBook (opened_on shelf scripts (making_of view shelf old)) (opened_beside view shelf new o.1 o.0)
+
+-- the journal can go on with this book
+abbrev pub CanGoOnWith : {D : Type 0} → (D → View) → (shelf : ℕ) → Journal D → RustBook × Library → Type 0
+CanGoOnWith view shelf journal o = IsFit view setup_of_texts shelf journal (opened_beside view shelf journal o.1 o.0)
+
+-- the pages of the book have the states that the records of the journal told
+abbrev pub HasStatesTold : {D : Type 0} → (D → View) → (shelf : ℕ) → Journal D → RustBook × Library → Type 0
+HasStatesTold view shelf journal o = TellsStates view (library_of o.1).all shelf journal o.0
+
+-- where no book was made, the records told why
+abbrev pub TellsReadFault : {D T : Type 0} → (D → View) → List Named → (shelf : ℕ) → Journal D → Result T BeginFault → Type 0
+TellsReadFault view scripts shelf old result = IsReadFault scripts shelf (making_of view shelf old) result
+
+-- the records made a book, and a crash at any moment of a call leaves what makes it, of these records, or it with this setup
+pub record Renews {D : Type 0} (view : D → View) (scripts : List Named) (shelf : ℕ) (old new : Journal D) : Type 0 where
+  pub made : Made
+  pub found : made_in (making_of view shelf old) ≡ Some made
+  pub moments : ThroughoutFrom (bodies_in view old) setup_of_texts shelf made.book (opened_book shelf scripts made.book) (view_of view old) (view_of view new)
+
+-- where there were records, nothing was written but the setup
+abbrev pub IsReadOrRenewed : {D : Type 0} → (D → View) → List Named → (shelf : ℕ) → (old new : Journal D) → Type 0
+IsReadOrRenewed view scripts shelf old new =
+    making_of view shelf old ≢ nothing → IsQuiet (view_of view old) (view_of view new) ⊎ Renews view scripts shelf old new
 
 -- these records and a closed gate behind them are the whole of a disk, also after a crash
 abbrev pub HoldsAtRest : List (List ℕ) → View → Type 0
 HoldsAtRest bodies v = (v.seen ≡ at_rest bodies) × Only v.seen v
 
--- A disk on which nothing was lost in an opening: it is as it was; or it holds the records that were read of it; or the first one,
--- where it had none.
-abbrev pub KeepsRecords : List Named → (shelf : ℕ) → View → View → Type 0
-KeepsRecords scripts shelf old new =
-    IsUntouched old new
-    ⊎ (IsIntactOrEmpty old
-    × (HoldsAtRest (stored old.seen) new ⊎ ((stored old.seen ≡ []) × HoldsAtRest (first_body scripts shelf ∷ []) new)))
+-- A disk on which nothing was lost in an opening that added these bodies: it is as it was, where there are none; or it holds the records
+-- that were read of it, and these behind them.
+abbrev pub KeepsRecords : (more : List (List ℕ)) → View → View → Type 0
+KeepsRecords more old new =
+    ((more ≡ []) × IsUntouched old new) ⊎ (IsIntactOrEmpty old × HoldsAtRest (stored old.seen ++ more) new)
 
--- the disk of a journal whose records are read is as it was, or has the first record, where it had none
-abbrev pub ReadsOrBegins : {D : Type 0} → (D → View) → List Named → (shelf : ℕ) → (old new : Journal D) → Type 0
-ReadsOrBegins view scripts shelf old new =
-    IsUntouched (view_of view old) (view_of view new)
-    ⊎ ((bodies_in view old ≡ []) × IsSettled view new × (bodies_in view new ≡ first_body scripts shelf ∷ []))
+-- the disk of a journal is as it was, where no bodies were added, or has these behind its records
+abbrev pub HasAdded : {D : Type 0} → (D → View) → (more : List (List ℕ)) → (old new : Journal D) → Type 0
+HasAdded view more old new =
+    ((more ≡ []) × IsUntouched (view_of view old) (view_of view new))
+    ⊎ (IsSettled view new × (bodies_in view new ≡ bodies_in view old ++ more))
 
--- unless a fault of the disk is told, the disk is as it was, or has the first record, where it had none
+-- unless a fault of the disk is told, the disk is as it was but for the bodies that the opening added
 abbrev pub KeepsUnlessFailed : {D T : Type 0} → (D → View) → List Named → (shelf : ℕ) → (old new : Journal D) → Result T BeginFault → Type 0
 KeepsUnlessFailed view scripts shelf old new result =
-    (IsErrOf result fault.DiskFault → ⊥) → ReadsOrBegins view scripts shelf old new
+    (IsErrOf result fault.DiskFault → ⊥) → HasAdded view (added_by scripts shelf (making_of view shelf old) result) old new
 
--- where memory ended, nothing was written
-abbrev pub IsUntouchedIfShort : {D T : Type 0} → (D → View) → (old new : Journal D) → Result T BeginFault → Type 0
-IsUntouchedIfShort view old new result =
-    IsErrOf result fault.Memory → IsUntouched (view_of view old) (view_of view new)
+-- what is made of a journal is a book, which can go on, with this setup, or it is told why it is not; nothing is written but the setup
+pub record Opens {D : Type 0} (view : D → View) (tells : Bool) (scripts : List Named) (shelf : ℕ) (old new : Journal D) (result : Result (RustBook × Library) BeginFault) : Type 0 where
+  pub begun : IsTrue tells → IfOk result (IsMadeOf view scripts shelf old new)
+  pub fit : IsTrue tells → IfOk result (CanGoOnWith view shelf new)
+  pub told : IsTrue tells → IfOk result (HasStatesTold view shelf new)
+  pub in_order : IfOk result (λ o. IsBookInOrder shelf o.0 (library_of o.1))
+  pub setup : IfOk result (λ o. (library_of o.1).setup ≡ scripts)
+  pub own_moments : IsTrue tells → HasOwnRecords view shelf old → LeavesOwnRecords view shelf old new
+  pub refused : IsTrue tells → TellsReadFault view scripts shelf old result
+  pub quiet : IsTrue tells → IsReadOrRenewed view scripts shelf old new
+  pub keeps : IsTrue tells → KeepsUnlessFailed view scripts shelf old new result
+  pub cause : TellsFailure view old new result
+  pub later : (view_of view old).faults ≤ (view_of view new).faults
+
+-- what was asked for, with this book and these scripts
+abbrev pub with_book : RustBook → Library → Result (Unit {0}) BeginFault → Result (RustBook × Library) BeginFault
+with_book b library (Ok x) = Ok (b, library)
+with_book b library (Err e) = Err e
+
+-- ---- of the shelf
 
 -- the answer of an opening without the shelf, the disk and the nonces
 abbrev pub fault_of : {D N : Type 0} → Result (Shelf D N) (BeginFault × D × N) → Result (Unit {0}) BeginFault
@@ -129,35 +208,39 @@ abbrev pub nonces_of : {D N : Type 0} → Result (Shelf D N) (BeginFault × D ×
 nonces_of (Ok shelf) = shelf.nonces
 nonces_of (Err (e, disk, nonces)) = nonces
 
--- the bytes of the disk make this book; where they have no record, an empty one
+-- the book is the one that a shelf goes on with on the bytes of the disk, with this setup
 abbrev pub MakesBook : List Named → (shelf : ℕ) → View → Book → Type 0
-MakesBook scripts shelf old b = IsBook (begun scripts shelf (book_in_bytes scripts shelf old.seen)) b
+MakesBook scripts shelf old b = IsMadeBook (opened_on shelf scripts (making_on shelf old)) b
 
--- the bytes of the disk make the book of the shelf that was opened; where they have no record, an empty one
-abbrev pub MakesShelf : {D N : Type 0} → List Named → (shelf : ℕ) → View → Result (Shelf D N) (BeginFault × D × N) → Type 0
-MakesShelf scripts shelf old result = IfOk result (λ s. MakesBook scripts shelf old (book_in scripts s))
+-- the book of the shelf that was opened is the one that a shelf goes on with on the bytes of the disk, with this setup
+abbrev pub MakesShelf : {D N : Type 0} → (D → View) → List Named → (shelf : ℕ) → D → Result (Shelf D N) (BeginFault × D × N) → Type 0
+MakesShelf view scripts shelf disk result = IfOk result (λ s. MakesBook scripts shelf (view disk) (book_in view s))
 
--- the book of a shelf that was opened is as after a crash
-abbrev pub IsOpenedAnew : {D N : Type 0} → List Named → Shelf D N → Type 0
-IsOpenedAnew scripts s = IsReopened (book_in scripts s)
+-- a book is as after a crash
+abbrev pub IsReopened : Book → Type 0
+IsReopened b = b ≡ reopened b
 
--- the book of the shelf that was opened is one of the two between which the disk stood
-abbrev pub OpensOneOf : {D N : Type 0} → List Named → (shelf : ℕ) → View → Result (Shelf D N) (BeginFault × D × N) → Type 0
-OpensOneOf scripts shelf old result = IfOk result (λ s. IsOneOf scripts shelf old (book_in scripts s))
+-- the book of a shelf that was opened is as after a crash, and its setup is this one
+pub record IsOpenedAnew {D N : Type 0} (view : D → View) (scripts : List Named) (s : Shelf D N) : Type 0 where
+  pub again : IsReopened (book_in view s)
+  pub setup : (library_in s).setup ≡ scripts
 
--- whatever two books the disk stood between, a crash at any moment of the opening leaves it there
+-- the book of the shelf that was opened is one of the two between which the disk stood, with this setup
+abbrev pub OpensOneOf : {D N : Type 0} → (D → View) → List Named → (shelf : ℕ) → D → Result (Shelf D N) (BeginFault × D × N) → Type 0
+OpensOneOf view scripts shelf disk result = IfOk result (λ s. IsOneOf setup_of_texts shelf scripts (view disk) (book_in view s))
+
+-- whatever two books the disk stood between, a crash at any moment of the opening leaves it there, or one of the two with this setup
 abbrev pub StandsThroughout : {D N : Type 0} → (D → View) → List Named → (shelf : ℕ) → D → Result (Shelf D N) (BeginFault × D × N) → Type 0
-StandsThroughout view scripts shelf disk result = StaysThroughout scripts shelf (view disk) (view (disk_of result))
+StandsThroughout view scripts shelf disk result = OpensThroughout setup_of_texts shelf scripts (view disk) (view (disk_of result))
 
 -- where what a crash leaves of the disk holds own records, so does what it leaves at any moment of the opening
-abbrev pub LeavesOwn : {D N : Type 0} → (D → View) → List Named → (shelf : ℕ) → D → Result (Shelf D N) (BeginFault × D × N) → Type 0
-LeavesOwn view scripts shelf disk result =
-    HasOwnImages scripts shelf (view disk) → StaysOwnThroughout scripts shelf (view disk) (view (disk_of result))
+abbrev pub LeavesOwn : {D N : Type 0} → (D → View) → (shelf : ℕ) → D → Result (Shelf D N) (BeginFault × D × N) → Type 0
+LeavesOwn view shelf disk result = HasOwnImages shelf (view disk) → StaysOwnThroughout shelf (view disk) (view (disk_of result))
 
 -- On a disk that tells no bytes, a shelf whose book has no instance is an own one: so is one on a file that was just made.
-abbrev pub OpensOwnIfEmpty : {D N : Type 0} → (D → View) → Bool → List Named → Result (Shelf D N) (BeginFault × D × N) → Type 0
-OpensOwnIfEmpty view tells scripts result =
-    (IsTrue tells → ⊥) → IfOk result (λ s. s.book.instances.things.items ≡ [] → IsOwnShelf view tells scripts s)
+abbrev pub OpensOwnIfEmpty : {D N : Type 0} → (D → View) → Bool → Result (Shelf D N) (BeginFault × D × N) → Type 0
+OpensOwnIfEmpty view tells result =
+    (IsTrue tells → ⊥) → IfOk result (λ s. s.book.instances.things.items ≡ [] → IsOwnShelf view tells s)
 
 -- the disk's bytes are at fault where the opening says so
 abbrev pub TellsFault : {D N : Type 0} → (D → View) → List Named → (shelf : ℕ) → D → Result (Shelf D N) (BeginFault × D × N) → Type 0
@@ -167,39 +250,39 @@ TellsFault view scripts shelf disk result = IsFault scripts shelf (view disk) (f
 abbrev pub TellsCause : {D N : Type 0} → (D → View) → D → Result (Shelf D N) (BeginFault × D × N) → Type 0
 TellsCause view disk result = IsErrOf (fault_of result) fault.DiskFault → Rose (view disk).faults (view (disk_of result)).faults
 
--- unless an opening tells a fault of the disk, nothing was lost on the disk
+-- unless an opening tells a fault of the disk, nothing was lost on the disk, and nothing was added but what the opening tells there
 abbrev pub KeepsDisk : {D N : Type 0} → (D → View) → List Named → (shelf : ℕ) → D → Result (Shelf D N) (BeginFault × D × N) → Type 0
 KeepsDisk view scripts shelf disk result =
-    (IsErrOf (fault_of result) fault.DiskFault → ⊥) → KeepsRecords scripts shelf (view disk) (view (disk_of result))
+    (IsErrOf (fault_of result) fault.DiskFault → ⊥)
+    → KeepsRecords (added_by scripts shelf (making_on shelf (view disk)) (fault_of result)) (view disk) (view (disk_of result))
 
 -- the book is the one after the event crash, by which what was in doubt is lost or kept
 abbrev pub IsCrashed : Rules → Book → (nonce : ℕ) → List Named → Fate → Book → Type 0
 IsCrashed rules b nonce scripts fate c = step rules b nonce (crash scripts) fate ≡ (live (length c.instances), c)
 
--- What is opened on a disk that a crash left of an own shelf in order is the shelf after the event crash.
+-- What is opened with a setup on a disk that a crash left of an own shelf in order is the shelf after the event crash.
 abbrev pub AReopenedShelfHasCrashed : {D : Type 0} → (D → View) → Type 0
 AReopenedShelfHasCrashed {D} view =
-    (scripts : List Named) (shelf : ℕ) (rules : Rules) (b c : Book) (nonce : ℕ) (old new : D) → b.scripts ≡ scripts
-    → StandsMeasured rules scripts shelf (view old) b → AreAmong (view new).images (view old).images
-    → IsOneOf scripts shelf (view new) c
+    (scripts : List Named) (shelf : ℕ) (rules : Rules) (b c : Book) (nonce : ℕ) (old new : D) → AreOver rules shelf
+    → StandsMeasured rules shelf (view old) b → AreAmong (view new).images (view old).images
+    → IsOneOf setup_of_texts shelf scripts (view new) c
     → IsCrashed rules b nonce scripts lost c ⊎ IsCrashed rules b nonce scripts kept c
 
 -- What is opened on a disk that a crash left of an own shelf in order whose book is sound has a sound book.
 abbrev pub AReopenedShelfIsSound : {D : Type 0} → (D → View) → Type 0
 AReopenedShelfIsSound {D} view =
-    (scripts : List Named) (shelf : ℕ) (rules : Rules) (b c : Book) (old new : D) → IsSound b
-    → StandsMeasured rules scripts shelf (view old) b → AreAmong (view new).images (view old).images
-    → IsOneOf scripts shelf (view new) c → IsSound c
+    (scripts : List Named) (shelf : ℕ) (rules : Rules) (b c : Book) (old new : D) → IsSound b → AreOver rules shelf
+    → StandsMeasured rules shelf (view old) b → AreAmong (view new).images (view old).images
+    → IsOneOf setup_of_texts shelf scripts (view new) c → IsSound c
 
--- the outside failed: nothing is told of what stands on the disk
-abbrev pub IsOutside : BeginFault → Type 0
-IsOutside (fault.Damaged place) = ⊥
-IsOutside (fault.Other place) = ⊥
-IsOutside fault.DiskFault = ⊤
-IsOutside fault.Memory = ⊤
+-- a fault that tells neither damage nor another shelf
+abbrev pub IsOfNoRecord : BeginFault → Type 0
+IsOfNoRecord (fault.Damaged place) = ⊥
+IsOfNoRecord (fault.Other place) = ⊥
+IsOfNoRecord _ = ⊤
 
 -- A disk that a crash left of a shelf in order is neither damaged nor another shelf's.
 abbrev pub AStandingDiskOpens : {D : Type 0} → (D → View) → Type 0
 AStandingDiskOpens {D} view =
-    (scripts : List Named) (shelf : ℕ) (b : Book) (old new : D) (e : BeginFault) → Stands scripts shelf (view old) b
-    → AreAmong (view new).images (view old).images → IsFaultOf scripts shelf (view new) e → IsOutside e
+    (scripts : List Named) (shelf : ℕ) (b : Book) (old new : D) (e : BeginFault) → Stands setup_of_texts shelf (view old) b
+    → AreAmong (view new).images (view old).images → IsFaultOf scripts shelf (view new) e → IsOfNoRecord e

@@ -1,8 +1,8 @@
 -- Disks whose records have the states of their pages' chains.
 use Rattle.std.specs.Prelude.{◌≡◌, ℕ, List, ◌++◌, Option}
-use Rattle.script_nodes.specs.Setup.{Named}
 use Rattle.web_disk.specs.View.{View, LeavesOnly}
 use Rattle.page_journal.specs.Records.{Intact, records}
+use Rattle.setup_reader.specs.Texts.{setup_of_texts}
 use Rattle.replay_spec.specs.Book.{Book}
 use Rattle.replay_spec.specs.Rules.{Rules}
 use Rattle.journal_spec.specs.Laws.{MeasuresDoubt}
@@ -10,38 +10,38 @@ use Rattle.journal_spec.specs.Owning.{AreOwn}
 use Rattle.journal_spec.specs.Standing.{flight, HasRoom, Hold, Between, HoldIn, if_kept}
 
 -- the whole records of these bytes are own ones; an empty disk has none
-abbrev pub IsOwnImage : List Named → (shelf : ℕ) → List ℕ → Type 0
-IsOwnImage scripts shelf image = (bodies : List (List ℕ)) → records image ≡ Intact bodies → AreOwn scripts shelf bodies
+abbrev pub IsOwnImage : (shelf : ℕ) → List ℕ → Type 0
+IsOwnImage shelf image = (bodies : List (List ℕ)) → records image ≡ Intact bodies → AreOwn setup_of_texts shelf bodies
 
 -- own records, of which the last may be in flight
-pub record OwnRecords (scripts : List Named) (shelf : ℕ) : Type 0 where
+pub record OwnRecords (shelf : ℕ) : Type 0 where
   pub bodies : List (List ℕ)
   pub more : Option (List ℕ)
   pub room : HasRoom bodies more
-  pub own : AreOwn scripts shelf (bodies ++ flight more)
+  pub own : AreOwn setup_of_texts shelf (bodies ++ flight more)
 
 -- bytes hold these own records, whatever becomes of them in a recovery that crashes, too
-abbrev pub HoldOwn : {scripts : List Named} {shelf : ℕ} → OwnRecords scripts shelf → List ℕ → Type 0
+abbrev pub HoldOwn : {shelf : ℕ} → OwnRecords shelf → List ℕ → Type 0
 HoldOwn o image = Hold o.bodies o.more image
 
 -- bytes hold some own records, whatever becomes of them in a recovery that crashes, too
-abbrev pub HoldsOwnRecords : List Named → (shelf : ℕ) → List ℕ → Type 0
-HoldsOwnRecords scripts shelf image = (o : OwnRecords scripts shelf) × HoldOwn o image
+abbrev pub HoldsOwnRecords : (shelf : ℕ) → List ℕ → Type 0
+HoldsOwnRecords shelf image = (o : OwnRecords shelf) × HoldOwn o image
 
 -- whatever a crash leaves now holds the same own records
-abbrev pub HasOwnImages : List Named → (shelf : ℕ) → View → Type 0
-HasOwnImages scripts shelf v = (o : OwnRecords scripts shelf) × ((image : List ℕ) → v.images image → HoldOwn o image)
+abbrev pub HasOwnImages : (shelf : ℕ) → View → Type 0
+HasOwnImages shelf v = (o : OwnRecords shelf) × ((image : List ℕ) → v.images image → HoldOwn o image)
 
 -- whatever a crash leaves at a moment of a call holds some own records
-abbrev pub StaysOwnThroughout : List Named → (shelf : ℕ) → View → View → Type 0
-StaysOwnThroughout scripts shelf old new = LeavesOnly old new (HoldsOwnRecords scripts shelf)
+abbrev pub StaysOwnThroughout : (shelf : ℕ) → View → View → Type 0
+StaysOwnThroughout shelf old new = LeavesOnly old new (HoldsOwnRecords shelf)
 
 -- a crash now leaves what makes the book, with what is in doubt or without it, whose record is as long as the rules measure it
-abbrev pub StandsMeasured : Rules → List Named → (shelf : ℕ) → View → Book → Type 0
-StandsMeasured rules scripts shelf v b =
-    (n : ℕ) × ((k : Between scripts shelf b (if_kept n b)) × (HoldIn k v.images × MeasuresDoubt rules n b))
+abbrev pub StandsMeasured : Rules → (shelf : ℕ) → View → Book → Type 0
+StandsMeasured rules shelf v b =
+    (n : ℕ) × ((k : Between setup_of_texts shelf b (if_kept n b)) × (HoldIn k v.images × MeasuresDoubt rules n b))
 
 -- the disk of an own shelf
-pub record StandsOwn (rules : Rules) (scripts : List Named) (shelf : ℕ) (v : View) (b : Book) : Type 0 where
-  pub images : HasOwnImages scripts shelf v
-  pub stands : StandsMeasured rules scripts shelf v b
+pub record StandsOwn (rules : Rules) (shelf : ℕ) (v : View) (b : Book) : Type 0 where
+  pub images : HasOwnImages shelf v
+  pub stands : StandsMeasured rules shelf v b

@@ -1,5 +1,5 @@
 -- How the record of a change is measured and written.
-use Rattle.std.specs.Prelude.{◌≡◌, ◌≤◌, ◌<◌, ◌+◌, ℕ, Bool, List, length, Option, Some, None, Result, Ok, Err, IsTrue, IfSome, IfOk, option_map, nat_lt, ⊤}
+use Rattle.std.specs.Prelude.{◌≡◌, ◌≤◌, ◌+◌, ℕ, Bool, false, List, length, Option, Some, None, Result, Ok, Err, IsTrue, IfSome, IfOk, option_map, nat_lt, ⊤}
 use Rattle.script_value.specs.declared.outcome.Reply.{Reply}
 use Rattle.script_value.specs.declared.outcome.Reply.TheVariants as reply
 use Rattle.replay_spec.specs.Admission.{when, or_else, ◌>>=◌}
@@ -7,9 +7,11 @@ use Rattle.replay_spec.specs.Step as step
 use Rattle.replay_spec.specs.Step.{oversize, journal_full, most_of_record, most_of_journal}
 use Rattle.script_value.specs.Val.{Val}
 use Rattle.journal_records.specs.Fields.{is_shallow}
-use Rattle.journal_records.specs.Records.{Record, begins, changes, body_of, IsInGrammar, record_length, PartsFit}
-use Rattle.script_nodes.specs.declared.setup.Setup.{Setup}
-use Rattle.script_nodes.specs.Views.{scripts_of}
+use Rattle.journal_records.specs.Records.{Record, changes, body_of, IsInGrammar, record_length, PartsFit}
+use Rattle.script_nodes.specs.Setup.{Library}
+use Rattle.replay_spec.specs.Book.{Change as SpecChange, opens, extends, ends, finishes, sweeps}
+use Rattle.replay_spec.specs.Admission.{Place}
+use Rattle.replay_spec.specs.Recovery.{page_of_numbers}
 use Rattle.instance_book.specs.declared.book.Book.{Book}
 use Rattle.instance_book.specs.declared.ticket.Ticket.{Ticket}
 use Rattle.instance_book.specs.declared.prepared.Change.{Change}
@@ -19,16 +21,18 @@ use Rattle.instance_book.specs.Views.{reply_of}
 use Rattle.instance_book.specs.Places.{given, kept_at}
 use Rattle.instance_book.specs.Makes.{HasStatesFrom}
 use Rattle.instance_book.specs.Prepares.{IsKeptOfTicket}
-use Rattle.instance_book.specs.Told.{AnswersGiven}
+use Rattle.instance_book.specs.Admissions.{book_under}
+use Rattle.instance_book.specs.Fits.{GoesOnGiven}
 use Rattle.machine_states.specs.Machine.{Suspended}
 use Rattle.std.specs.Borrow.{Bor}
 use Rattle.machine_states.specs.Views.{origin_of, suspended_of}
 use Rattle.machine_states.specs.declared.frame.Suspended as stored
+use Rattle.machine_states.specs.declared.segment.Origin.{Origin}
 use Rattle.frame_codec.specs.Forms.{BindsBefore}
 use Rattle.frame_codec.specs.declared.difference.Delta.{Delta}
-use Rattle.kept_states.specs.Kept.{Form, IsAlone, IsBehind, IsKeptFrom}
+use Rattle.kept_states.specs.Kept.{Form, bytes_of, IsKeptFrom}
 use Rattle.kept_states.specs.Links.{behind_at}
-use Rattle.journal_spec.specs.Lengths.{told_bytes}
+use Rattle.journal_spec.specs.Lengths.{is_shallow_state, told_bytes}
 
 -- why a record of this length can't be added to a journal of this one
 abbrev pub refusal_of_size : (journal size : ℕ) → Option step.Reply
@@ -43,8 +47,8 @@ pub record IsShort (journal size : ℕ) : Type 0 where
 
 -- what a record tells of can be written, where it is short
 abbrev pub CanBeWritten : (journal : ℕ) → Record → Type 0
-CanBeWritten journal (begins shelf scripts) = ⊥
 CanBeWritten journal (changes c state) = IsShort journal (record_length c state) → PartsFit c → IsInGrammar (changes c state)
+CanBeWritten journal _ = ⊥
 
 -- the bytes are the body of the record, which can be spelled and is short
 pub record IsBody (journal : ℕ) (r : Record) (size : ℕ) (body : List ℕ) : Type 0 where
@@ -54,10 +58,10 @@ pub record IsBody (journal : ℕ) (r : Record) (size : ℕ) (body : List ℕ) : 
 
 -- the record is written as its body, or told why it can't be added; want of memory may stand for either
 abbrev pub IsWritten : (journal : ℕ) → Record → Result (List ℕ) Reply → Type 0
-IsWritten journal (begins shelf scripts) result = ⊤
 IsWritten journal (changes c state) (Ok body) = IsBody journal (changes c state) (record_length c state) body
 IsWritten journal (changes c state) (Err reply.Memory) = ⊤
 IsWritten journal (changes c state) (Err r) = refusal_of_size journal (record_length c state) ≡ Some (reply_of r)
+IsWritten journal _ result = ⊤
 
 -- the state of the page that a change shows
 abbrev pub state_in : Change → Option Suspended
@@ -84,16 +88,17 @@ IsStateFor (Ends e) state = state ≡ None
 IsStateFor (Finishes f) state = state ≡ None
 IsStateFor _ state = ⊤
 
--- the state that another one is written behind, if any
-abbrev pub state_of : Option (Bor stored.Suspended) → Option Suspended
-state_of before = option_map (λ p. suspended_of p.now) before
+-- the bytes are those that are kept of a state; there are none only where a value nests too deep to be written
+abbrev pub IsKeptAs : Suspended → Form → Option (List ℕ) → Type 0
+IsKeptAs d f (Some bytes) = bytes_of f ≡ Some bytes
+IsKeptAs d f None = is_shallow_state d ≡ false
 
--- the bytes are those that are told of a state behind that one
-abbrev pub IsToldAs : (before : Option Suspended) → Suspended → Option (List ℕ) → Type 0
-IsToldAs before d bytes = bytes ≡ told_bytes before d
+-- the bytes that are lent, if any, are those that are kept of a state
+abbrev pub IsLentAs : Suspended → Form → Option (Bor (List ℕ)) → Type 0
+IsLentAs d f bytes = IsKeptAs d f (lent bytes)
 
 -- where bytes are told, this holds
-abbrev pub WhereTold : {E : Type 0} → Result (Option (List ℕ)) E → Type 0 → Type 0
+abbrev pub WhereTold : {A E : Type 0} → Result (Option A) E → Type 0 → Type 0
 WhereTold result holds = IfOk result (λ bytes. IfSome bytes (λ _. holds))
 
 -- where a test tells that this holds, it does
@@ -103,11 +108,6 @@ WhereTrue result holds = IfOk result (λ test. IsTrue test → holds)
 -- where this holds, the test tells that it does
 abbrev pub IsTrueWhere : {E : Type 0} → Result Bool E → Type 0 → Type 0
 IsTrueWhere result holds = IfOk result (λ test. holds → IsTrue test)
-
--- the state is kept by itself, or behind another one
-abbrev pub IsKeptForm : (before : Option Suspended) → Suspended → Form → Type 0
-IsKeptForm None d f = IsAlone d f
-IsKeptForm (Some p) d f = IsBehind p d f
 
 -- what is kept of the state of the page that a change shows is that of its ticket
 abbrev pub IsKeptIn : Ticket → Change → Type 0
@@ -127,25 +127,37 @@ AreAsLong d e = (length d.env ≡ length e.env) × (length d.frames.items ≡ le
 abbrev pub IsAllShared : stored.Suspended → Delta → Type 0
 IsAllShared d x = (x.env_shared ≡ length d.env) × (x.frames_shared ≡ length d.frames.items)
 
--- two tickets go on from the same, and their pages have as many links
-pub record GoOnAlike (one other : Ticket) : Type 0 where
-  pub from : origin_of one.from ≡ origin_of other.from
-  pub links : one.links ≡ other.links
+-- the ticket goes on from this, and its page has so many links
+pub record GoesOnFrom (before : Origin) (most : ℕ) (t : Ticket) : Type 0 where
+  pub from : origin_of t.from ≡ origin_of before
+  pub links : t.links ≡ most
+
+-- the numbers of the instance and of the page that a change's page answers, if it shows one and that is no start's
+abbrev pub answered_in : SpecChange → Option (ℕ × ℕ)
+answered_in (opens o) = None
+answered_in (extends x) = Some (x.instance, x.page)
+answered_in (ends e) = None
+answered_in (finishes f) = None
+answered_in (sweeps tick) = None
+
+-- the ticket goes on from the state that is given to the page of these numbers, and the links of its own page are those of an answer to it
+pub record AnswersGiven (library : Library) (b : Book) (instance page : ℕ) (states : ℕ → Option Suspended) (t : Ticket) : Type 0 where
+  pub at : Place
+  pub found : page_of_numbers (book_under library b) instance page ≡ Some at
+  pub goes : GoesOnGiven states at t
+
+-- whichever states are given to the pages of the book, the ticket goes on from that of the page of these numbers
+abbrev pub GoesOnFromBook : Library → Book → Ticket → (answered : ℕ × ℕ) → Type 0
+GoesOnFromBook library b t n =
+    (states : ℕ → Option Suspended) → HasStatesFrom (given states) library.all b → AnswersGiven library b n.0 n.1 states t
 
 -- whichever states are given to the pages of the book, the ticket of an answer goes on from that of the page that is answered
-abbrev pub GoesOnAsGiven : Setup → Book → Ticket → Change → Type 0
-GoesOnAsGiven setup b t (Extends x) =
-    (states : ℕ → Option Suspended) → HasStatesFrom (given states) (scripts_of setup) b → AnswersGiven setup b x.instance x.answered states t
-GoesOnAsGiven setup b t _ = ⊤
+abbrev pub GoesOnAsGiven : Library → Book → Ticket → Change → Type 0
+GoesOnAsGiven library b t c = IfSome (answered_in (change_of c)) (GoesOnFromBook library b t)
 
 -- whether the value of a binding of a web cell nests no deeper than one may that is written
 abbrev pub is_shallow_shadow : ℕ × Val → Bool
 is_shallow_shadow s = is_shallow s.1
-
--- one byte tells the script of a start
-abbrev pub IsOfByte : Change → Type 0
-IsOfByte (Opens o) = o.instance.script < 256
-IsOfByte _ = ⊤
 
 -- the record of a change can be written with the state that it tells, where it is short
 abbrev pub CanBeTold : (journal : ℕ) → Ticket → Change → Type 0

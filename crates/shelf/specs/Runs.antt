@@ -19,8 +19,8 @@ use Rattle.instance_book.specs.Laws.{KeepsStateOver}
 
 -- the segment of the ticket over these cells, which goes on from what the ticket goes on from
 abbrev pub IsRunOver : List Named → (fuel : ℕ) → Ticket → (cells : List Val) → Segment → Type 0
-IsRunOver scripts fuel t cells r =
-    (named : Named) → slice_get scripts t.script ≡ Some named
+IsRunOver all fuel t cells r =
+    (named : Named) → slice_get all t.script ≡ Some named
     → Replays t.from (arena_of named.script) (newest (meaning t.answer) t.number t.url cells fuel) r
 
 -- A segment is what a visit comes to over these cells; a page that it shows has its state kept over the visit's tape, and is inside
@@ -33,5 +33,5 @@ pub record IsRunAs (v : Visit) (cells : List Val) (fuel : ℕ) (r : Segment) : T
 
 -- the segment is what each visit that the ticket is for comes to over these cells
 abbrev pub IsRunOfItsVisit : List Named → (fuel : ℕ) → Ticket → (cells : List Val) → Segment → Type 0
-IsRunOfItsVisit scripts fuel t cells r =
-    (v : Visit) → v.ticket ≡ ticket_of t → IsFor scripts t v → IsRunAs v cells fuel r
+IsRunOfItsVisit all fuel t cells r =
+    (v : Visit) → v.ticket ≡ ticket_of t → IsFor all t v → IsRunAs v cells fuel r

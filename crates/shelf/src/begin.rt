@@ -1,22 +1,31 @@
-ghost use Rattle.std.specs.Prelude.{◌≡◌, ◌≤◌, ◌++◌, ◌∷◌, [], false, length, IsTrue, IfOk, OnOk};
-ghost use Rattle.script_nodes.specs.Views.{named_of, scripts_of};
-ghost use Rattle.page_journal.specs.Settled.{IsSettled, IsSound, view_of, bodies_in, is_broken};
-ghost use Rattle.journal_records.specs.Records.{IsInGrammar, begin_of};
-ghost use Rattle.journal_spec.specs.Keeping.{IsWhole, AreWhole, first_body};
+ghost use Rattle.std.specs.Prelude.{◌≡◌, ◌≤◌, ◌<◌, ◌^◌, [], false, length, IsTrue, IfOk, OnOk};
+ghost use Rattle.script_nodes.specs.Views.{named_of, scripts_of, library_of};
+ghost use Rattle.setup_reader.specs.Texts.{IsReadSetup};
+ghost use Rattle.page_journal.specs.Settled.{IsSettled, IsSound, length_with, is_broken};
+ghost use Rattle.journal_records.specs.Records.{IsInGrammar, begin_of, renewal_of, body_of};
+ghost use Rattle.journal_records.specs.Views.{recorded_of};
+ghost use Rattle.journal_spec.specs.Opening.{first_body, renewal_body};
+ghost use Rattle.journal_spec.specs.Whole.{IsWhole, AreWhole};
+ghost use Rattle.instance_book.specs.Makes.{HasItsStates};
 ghost use Rattle.book_recovery.specs.Found.{IsBookInOrder};
 ghost use Rattle.shelf.specs.Faults.{begin_fault};
-ghost use Rattle.shelf.specs.Opening.{HasOwnRecords, OpensOwn, LeavesOwnRecords, HasFirstLength, IsDoneUnlessOutside, TellsFailure, IsMadeOf, CanGoOnWith, TellsReadFault, IsReadAlone, KeepsUnlessFailed, IsUntouchedIfShort};
+ghost use Rattle.shelf.specs.Opening.{HasOwnRecords, OpensOwn, Opens, TellsSetup, TellsFull, IsLibraryOf, with_book, WasFound};
 ghost use Rattle.shelf.specs.Ranges.{AreInRange};
-ghost use Rattle.shelf.specs.Views.{TellsStates};
 
+use crate::file::FilePast;
+use crate::present::is_present;
 use crate::recording::added;
 use crate::rules::Rules;
 use crate::shelf::Shelf;
 use book_recovery::{Found, read_book};
 use instance_book::Book;
-use journal_records::{encode_begin, records_are_exact};
+use journal_records::{Recorded, body_length, encode, records_are_exact};
+use journal_spec::{
+    a_setup_is_its_texts, fresh_journals_are_kept, openings_stay, recoveries_find_one,
+    renewals_are_kept, renewals_stand_between,
+};
 use page_journal::{Journal, JournalFault, MAX_LEN};
-use script_nodes::{NamedScript, Setup};
+use script_nodes::{Library, NamedScript, Setup};
 use std::alloc::Global;
 use web_disk::Disk;
 use web_outside::Nonces;
@@ -26,11 +35,13 @@ use web_outside::Nonces;
 pub enum BeginFault {
     /// What stands at this place is no record that a shelf writes there.
     Damaged { place: u64 },
-    /// The journal is another shelf's, or of other scripts.
+    /// The journal is another shelf's.
     Other { place: u64 },
+    /// The journal has no room for the names and the texts of the scripts: with them it would have so many bytes.
+    Full { len: u64 },
     /// A call of the disk failed.
     DiskFault,
-    /// There was no memory, or a journal has no room for the scripts.
+    /// There was no memory.
     Memory,
 }
 
@@ -44,35 +55,34 @@ fn fault_by(fault: JournalFault) -> BeginFault
     }
 }
 
-// Adds the first record, which tells the shelf's number and the scripts.
-fn start<D: Disk>(
+// How long the journal is with a record more.
+fn with_record<D: Disk>(journal: &Journal<D>, line: &Recorded<'_>) -> u64
+    requires sound { IsSound journal.now }
+    requires counted { length (body_of (recorded_of line.now)) < 2 ^ 63 }
+    ensures { result ≡ length_with journal.now (body_of (recorded_of line.now)) }
+{
+    journal.len() + 5 + body_length(line)
+}
+
+// Adds the record of a setup, for which the journal has room.
+fn tell<D: Disk>(
     alloc: Global,
     journal: &mut Journal<D>,
-    setup: &Setup,
-    number: u32,
+    line: &Recorded<'_>,
 ) -> Result<(), BeginFault>
     requires sound { IsSound journal.old }
     requires whole { is_broken journal.old ≡ false }
     requires settled { IsTrue D.tells → IsSettled D.view journal.old }
-    requires begins { IsInGrammar (begin_of number (scripts_of setup.now)) }
-    ensures bodies { IsTrue D.tells → OnOk result (IsSettled D.view journal.new
-        × (bodies_in D.view journal.new ≡ bodies_in D.view journal.old ++ first_body (scripts_of setup.now) number ∷ [])) }
-    ensures len { OnOk result (HasFirstLength (scripts_of setup.now) number journal.old journal.new) }
+    requires spelled { IsInGrammar (recorded_of line.now) }
+    requires short { length_with journal.old (body_of (recorded_of line.now)) ≤ 2 ^ 30 }
+    ensures told { TellsSetup D.view D.tells journal.old journal.new
+        (body_of (recorded_of line.now)) result }
     ensures sound { IsSound journal.new }
     ensures whole { OnOk result (is_broken journal.new ≡ false) }
-    ensures own_moments { IsTrue D.tells → bodies_in D.view journal.old ≡ []
-        → LeavesOwnRecords D.view (scripts_of setup.now) number journal.old journal.new }
-    ensures refused { IsDoneUnlessOutside result }
-    ensures untouched { IsUntouchedIfShort D.view journal.old journal.new result }
-    ensures cause { TellsFailure D.view journal.old journal.new result }
-    ensures later { (view_of D.view journal.old).faults ≤ (view_of D.view journal.new).faults }
 {
-    let Ok(body) = encode_begin(alloc, number, setup) else {
+    let Ok(body) = encode(alloc, line) else {
         return Err(BeginFault::Memory);
     };
-    if journal.len() + 5 + body.len() as u64 > MAX_LEN {
-        return Err(BeginFault::Memory);
-    }
     if journal.room(body.len() as u32).is_err() {
         return Err(BeginFault::Memory);
     }
@@ -82,52 +92,154 @@ fn start<D: Disk>(
     }
 }
 
-// Makes the book of the records; a journal without records gets its first one.
+// Adds the first record, which tells the shelf's number and the scripts.
+fn start<D: Disk>(
+    alloc: Global,
+    journal: &mut Journal<D>,
+    setup: &Setup,
+    number: u32,
+) -> Result<Library, BeginFault>
+    requires sound { IsSound journal.old }
+    requires whole { is_broken journal.old ≡ false }
+    requires settled { IsTrue D.tells → IsSettled D.view journal.old }
+    requires read { IsReadSetup (scripts_of setup.now) }
+    requires begins { IsInGrammar (begin_of number (scripts_of setup.now)) }
+    ensures told { length_with journal.old (first_body (scripts_of setup.now) number) ≤ 2 ^ 30
+        → TellsSetup D.view D.tells journal.old journal.new
+        (first_body (scripts_of setup.now) number) result }
+    ensures full { 2 ^ 30 < length_with journal.old (first_body (scripts_of setup.now) number)
+        → TellsFull journal.old journal.new (first_body (scripts_of setup.now) number) result }
+    ensures library { IfOk result (IsLibraryOf [] (scripts_of setup.now)) }
+    ensures sound { IsSound journal.new }
+    ensures whole { OnOk result (is_broken journal.new ≡ false) }
+{
+    let line = Recorded::Begin {
+        shelf: number,
+        setup,
+    };
+    let len = with_record(journal, &line);
+    if len > MAX_LEN {
+        return Err(BeginFault::Full { len });
+    }
+    let Ok(scripts) = setup.try_clone(alloc) else {
+        return Err(BeginFault::Memory);
+    };
+    match tell(alloc, journal, &line) {
+        Ok(()) => Ok(Library::of(scripts)),
+        Err(fault) => Err(fault),
+    }
+}
+
+// Adds the record of another setup, which is the present one from then on.
+fn renew<D: Disk>(
+    alloc: Global,
+    journal: &mut Journal<D>,
+    setup: &Setup,
+    library: &mut Library,
+) -> Result<(), BeginFault>
+    requires sound { IsSound journal.old }
+    requires whole { is_broken journal.old ≡ false }
+    requires settled { IsTrue D.tells → IsSettled D.view journal.old }
+    requires read { IsReadSetup (scripts_of setup.now) }
+    requires renews { IsInGrammar (renewal_of (scripts_of setup.now)) }
+    ensures told { length_with journal.old (renewal_body (scripts_of setup.now)) ≤ 2 ^ 30
+        → TellsSetup D.view D.tells journal.old journal.new
+        (renewal_body (scripts_of setup.now)) result }
+    ensures full { 2 ^ 30 < length_with journal.old (renewal_body (scripts_of setup.now))
+        → TellsFull journal.old journal.new (renewal_body (scripts_of setup.now)) result }
+    ensures library { OnOk result
+        (IsLibraryOf (library_of library.old).all (scripts_of setup.now) library.new) }
+    ensures sound { IsSound journal.new }
+    ensures whole { OnOk result (is_broken journal.new ≡ false) }
+{
+    let line = Recorded::Texts { setup };
+    let len = with_record(journal, &line);
+    if len > MAX_LEN {
+        return Err(BeginFault::Full { len });
+    }
+    let Ok(scripts) = setup.try_clone(alloc) else {
+        return Err(BeginFault::Memory);
+    };
+    if library.renew(scripts).is_err() {
+        return Err(BeginFault::Memory);
+    }
+    tell(alloc, journal, &line)
+}
+
+// A shelf goes on with a setup, whose book was read: where it has other names or texts than the present one, it is told.
+fn go_on<D: Disk>(
+    alloc: Global,
+    journal: &mut Journal<D>,
+    setup: &Setup,
+    number: u32,
+    book: &Book,
+    library: &mut Library,
+) -> Result<(), BeginFault>
+    requires sound { IsSound journal.old }
+    requires whole { is_broken journal.old ≡ false }
+    requires settled { IsTrue D.tells → IsSettled D.view journal.old }
+    requires read { IsReadSetup (scripts_of setup.now) }
+    requires can_run { AreWhole (scripts_of setup.now) }
+    requires begins { IsInGrammar (begin_of number (scripts_of setup.now)) }
+    requires found { IsTrue D.tells
+        → WasFound D.view number journal.old book.now (library_of library.old) }
+    requires in_order { IsBookInOrder number book.now (library_of library.old) }
+    ensures opened { Opens D.view D.tells (scripts_of setup.now) number journal.old journal.new
+        (with_book book.now library.new result) }
+    ensures own { IsTrue D.tells → HasOwnRecords D.view number journal.old
+        → HasItsStates (library_of library.old).all book.now
+        → IfOk (with_book book.now library.new result) (OpensOwn D.view number journal.new) }
+    ensures sound { IsSound journal.new }
+    ensures whole { OnOk result (is_broken journal.new ≡ false) }
+{
+    records_are_exact();
+    a_setup_is_its_texts();
+    renewals_are_kept();
+    renewals_stand_between();
+    if is_present(library, setup) {
+        Ok(())
+    } else {
+        renew(alloc, journal, setup, library)
+    }
+}
+
+// Makes the book of the records; a journal without records gets its first one, and one of another setup that of this one.
 fn open<D: Disk>(
     alloc: Global,
     journal: &mut Journal<D>,
     setup: &Setup,
     number: u32,
-) -> Result<Book, BeginFault>
+) -> Result<(Book, Library), BeginFault>
     requires sound { IsSound journal.old }
     requires whole { is_broken journal.old ≡ false }
     requires settled { IsTrue D.tells → IsSettled D.view journal.old }
+    requires read { IsReadSetup (scripts_of setup.now) }
     requires begins { IsInGrammar (begin_of number (scripts_of setup.now)) }
-    ensures begun { IsTrue D.tells
-        → IfOk result (IsMadeOf D.view (scripts_of setup.now) number journal.old journal.new) }
-    ensures fit { IsTrue D.tells
-        → IfOk result (CanGoOnWith D.view (scripts_of setup.now) number journal.new) }
-    ensures told { IsTrue D.tells
-        → IfOk result (TellsStates D.view (scripts_of setup.now) number journal.new) }
-    ensures in_order { IfOk result (λ b. IsBookInOrder (scripts_of setup.now) number b) }
+    ensures opened { Opens D.view D.tells (scripts_of setup.now) number journal.old journal.new result }
+    ensures own { IsTrue D.tells → HasOwnRecords D.view number journal.old
+        → IfOk result (OpensOwn D.view number journal.new) }
     ensures sound { IsSound journal.new }
     ensures whole { OnOk result (is_broken journal.new ≡ false) }
-    ensures own { IsTrue D.tells → HasOwnRecords D.view (scripts_of setup.now) number journal.old
-        → IfOk result (OpensOwn D.view (scripts_of setup.now) number journal.new) }
-    ensures own_moments { IsTrue D.tells
-        → HasOwnRecords D.view (scripts_of setup.now) number journal.old
-        → LeavesOwnRecords D.view (scripts_of setup.now) number journal.old journal.new }
-    ensures refused { IsTrue D.tells
-        → TellsReadFault D.view (scripts_of setup.now) number journal.old result }
-    ensures quiet { IsTrue D.tells
-        → IsReadAlone D.view (scripts_of setup.now) number journal.old journal.new }
-    ensures keeps { IsTrue D.tells
-        → KeepsUnlessFailed D.view (scripts_of setup.now) number journal.old journal.new result }
-    ensures cause { TellsFailure D.view journal.old journal.new result }
-    ensures later { (view_of D.view journal.old).faults ≤ (view_of D.view journal.new).faults }
 {
     records_are_exact();
+    fresh_journals_are_kept();
     scripts_are_whole(setup);
-    let Ok(found) = read_book(alloc, journal, setup, number) else {
+    let Ok(found) = read_book(alloc, journal, number) else {
         return Err(BeginFault::DiskFault);
     };
     match found {
-        Found::Made(book) => Ok(book),
+        Found::Made { book, library } => {
+            let mut library = library;
+            match go_on(alloc, journal, setup, number, &book, &mut library) {
+                Ok(()) => Ok((book, library)),
+                Err(fault) => Err(fault),
+            }
+        }
         Found::Damaged { place } => Err(BeginFault::Damaged { place }),
         Found::Other { place } => Err(BeginFault::Other { place }),
         Found::Memory => Err(BeginFault::Memory),
         Found::Nothing => match start(alloc, journal, setup, number) {
-            Ok(()) => Ok(Book::empty(alloc, number)),
+            Ok(library) => Ok((Book::empty(alloc, number), library)),
             Err(fault) => Err(fault),
         },
     }
@@ -157,12 +269,15 @@ impl<D: Disk, N: Nonces + Drop> Shelf<D, N> {
     ghost use Rattle.shelf.specs.Opening.{MakesShelf, IsOpenedAnew, OpensOneOf, StandsThroughout, OpensOwnIfEmpty, LeavesOwn, TellsFault, TellsCause, KeepsDisk, disk_of, nonces_of};
 
     /// Opens the shelf of these limits, which are in their ranges, on a disk: its book is what the records of the journal make,
-    /// as after a crash. A disk without a record gets the first, which tells the shelf's number and its scripts. A disk that is
-    /// refused is handed back, with what stands on it, but where one of its calls failed. Where the records that are read are own
-    /// ones, as those of an empty disk are, the shelf is an own one; on a disk that tells no bytes it is where its book has no
-    /// instance. Where a disk holds own records, a crash at any moment of the opening leaves some.
+    /// as after a crash. A disk without a record gets the first, which tells the shelf's number and its scripts. Where the setup has
+    /// other names or texts than the last one that the journal tells, it is told behind the others; instances go on with the scripts
+    /// with which they began. A disk that is refused is handed back, with what stands on it, but where one of its calls failed. Where
+    /// the records that are read are own ones, as those of an empty disk are, the shelf is an own one; on a disk that tells no bytes
+    /// it is where its book has no instance. Where a disk holds own records, a crash at any moment of the opening leaves some.
     ///
-    /// It asks for scripts that such a record can tell.
+    /// Damage and another shelf's number are told before all else, then that the journal has no room for the setup.
+    ///
+    /// It asks for a setup that is what its names and texts are read as, which records can tell.
     pub fn begin(
         alloc: Global,
         disk: D,
@@ -171,22 +286,20 @@ impl<D: Disk, N: Nonces + Drop> Shelf<D, N> {
         rules: Rules,
     ) -> Result<Shelf<D, N>, (BeginFault, D, N)>
         requires range { AreInRange rules }
-        requires few { length (scripts_of setup.now) ≤ 256 }
+        requires read { IsReadSetup (scripts_of setup.now) }
         requires begins { IsInGrammar (begin_of rules.number (scripts_of setup.now)) }
         ensures book { IsTrue D.tells
-            → MakesShelf (scripts_of setup.now) rules.number (D.view disk) result }
-        ensures opened { IfOk result (IsOpenedAnew (scripts_of setup.now)) }
+            → MakesShelf D.view (scripts_of setup.now) rules.number disk result }
+        ensures opened { IfOk result (IsOpenedAnew D.view (scripts_of setup.now)) }
         ensures one_of { IsTrue D.tells
-            → OpensOneOf (scripts_of setup.now) rules.number (D.view disk) result }
+            → OpensOneOf D.view (scripts_of setup.now) rules.number disk result }
         ensures any_moment { IsTrue D.tells
             → StandsThroughout D.view (scripts_of setup.now) rules.number disk result }
-        ensures in_order { IfOk result (λ s. IsInOrder D.view D.tells (scripts_of setup.now) s) }
-        ensures own { IsTrue D.tells
-            → IsOwnImage (scripts_of setup.now) rules.number (D.view disk).seen
-            → IfOk result (IsOwnShelf D.view D.tells (scripts_of setup.now)) }
-        ensures own_if_empty { OpensOwnIfEmpty D.view D.tells (scripts_of setup.now) result }
-        ensures own_moments { IsTrue D.tells
-            → LeavesOwn D.view (scripts_of setup.now) rules.number disk result }
+        ensures in_order { IfOk result (λ s. IsInOrder D.view D.tells s) }
+        ensures own { IsTrue D.tells → IsOwnImage rules.number (D.view disk).seen
+            → IfOk result (IsOwnShelf D.view D.tells) }
+        ensures own_if_empty { OpensOwnIfEmpty D.view D.tells result }
+        ensures own_moments { IsTrue D.tells → LeavesOwn D.view rules.number disk result }
         ensures rules { IfOk result (λ s. s.rules ≡ rules) }
         ensures nonces { nonces_of result ≡ nonces }
         ensures refused { IsTrue D.tells
@@ -196,18 +309,25 @@ impl<D: Disk, N: Nonces + Drop> Shelf<D, N> {
         ensures cause { TellsCause D.view disk result }
         ensures later { (D.view disk).faults ≤ (D.view (disk_of result)).faults }
     {
+        openings_stay::<D>();
+        recoveries_find_one::<D>();
         let mut journal = match Journal::begin(alloc, disk) {
             Ok(journal) => journal,
             Err((fault, disk)) => return Err((fault_by(fault), disk, nonces)),
         };
         match open(alloc, &mut journal, setup, rules.number) {
-            Ok(book) => Ok(Shelf {
-                journal,
-                book,
-                down: None,
-                nonces,
-                rules,
-            }),
+            Ok((book, library)) => {
+                let file = FilePast::read(rules.number, &journal);
+                Ok(Shelf {
+                    journal,
+                    book,
+                    library,
+                    down: None,
+                    nonces,
+                    rules,
+                    file,
+                })
+            }
             Err(fault) => Err((fault, journal.close(), nonces)),
         }
     }

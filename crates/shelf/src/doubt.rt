@@ -2,12 +2,12 @@ ghost use Rattle.std.specs.Prelude.{◌≡◌, option_map};
 
 use instance_book::{Change, Prepared};
 
-/// A change whose record was being added when the disk failed.
+/// Work on the journal in which the disk failed.
 #[derive(Drop)]
-pub enum Doubted {
-    /// That of a visit.
+pub enum Work {
+    /// The change of a visit was being recorded.
     Visits(Change),
-    /// Time went on to this tick, in seconds.
+    /// It was being recorded that time went on to this tick, in seconds.
     Sweeps(u64),
 }
 
@@ -16,7 +16,7 @@ pub enum Doubted {
 pub struct Doubt {
     /// How often a call of the disk had failed then.
     pub(crate) count: u64,
-    pub(crate) change: Doubted,
+    pub(crate) work: Work,
 }
 
 impl Doubt {
@@ -30,7 +30,7 @@ impl Doubt {
         let change = change?;
         Some(Doubt {
             count,
-            change: Doubted::Visits(change),
+            work: Work::Visits(change),
         })
     }
 }

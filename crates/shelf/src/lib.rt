@@ -8,8 +8,10 @@ ghost use Rattle.shelf.specs.Opening.{AReopenedShelfHasCrashed, AReopenedShelfIs
 mod begin;
 mod body;
 mod doubt;
+mod file;
 mod nesting;
 mod prepare;
+mod present;
 mod publish;
 mod recording;
 mod rules;
@@ -21,7 +23,8 @@ mod sweep;
 mod take;
 
 pub use begin::BeginFault;
-pub use doubt::{Doubt, Doubted};
+pub use doubt::{Doubt, Work};
+pub use file::FilePast;
 use replay_spec::{orderly_books_stay, pages_stay};
 pub use rules::Rules;
 pub use run::run_ticket;
@@ -37,8 +40,8 @@ pub fn tickets_go_on_to_fit()
     pages_stay();
 }
 
-/// A shelf that is opened on what a crash left of a shelf in order is that shelf behind the event crash, what was in doubt
-/// lost or kept.
+/// A shelf that is opened on what a crash left of a shelf in order, with whichever setup, is that shelf behind the event crash that
+/// gives this setup, what was in doubt lost or kept.
 pub fn a_reopened_shelf_has_crashed<D: Disk>()
     ensures { AReopenedShelfHasCrashed D.view }
 {}
@@ -49,8 +52,8 @@ pub fn a_reopened_shelf_is_sound<D: Disk>()
     ensures { AReopenedShelfIsSound D.view }
 {}
 
-/// A disk that a crash left of a shelf in order is neither damaged nor another shelf's, so opening it fails for the outside
-/// alone.
+/// A disk that a crash left of a shelf in order is neither damaged nor another shelf's, so opening it fails for the outside, or
+/// where the journal has no room for another setup.
 pub fn a_standing_disk_opens<D: Disk>()
     ensures { IsTrue D.tells → AStandingDiskOpens D.view }
 {}

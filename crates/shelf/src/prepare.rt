@@ -1,8 +1,8 @@
 ghost use Rattle.std.specs.Prelude.{◌≤◌, IfOk, Contains};
-ghost use Rattle.script_nodes.specs.Views.{scripts_of};
+ghost use Rattle.script_nodes.specs.Views.{library_of};
 ghost use Rattle.server_limits.specs.Limits.{most_fuel, most_life};
 ghost use Rattle.replay_spec.specs.Invariant.{IsOrderly};
-ghost use Rattle.instance_book.specs.Admissions.{book_under, refusal_for, FitsIn};
+ghost use Rattle.instance_book.specs.Admissions.{book_under, FitsIn};
 ghost use Rattle.instance_book.specs.Changes.{HasRoomFor};
 ghost use Rattle.instance_book.specs.Fits.{IsRunnable};
 ghost use Rattle.instance_book.specs.Makes.{HasPlaces, StaysSame, KeepsPlaces, KeepsStates};
@@ -12,7 +12,7 @@ ghost use Rattle.shelf.specs.Preparing.{IsDecided, IsDecidedIfHeld, IsRefused, W
 use crate::rules::Rules;
 use crate::second::segment_now;
 use instance_book::{Book, Prepared, Ticket, a_shown_page_has_its_state};
-use script_nodes::Setup;
+use script_nodes::Library;
 use script_value::Reply;
 use send_suspend::Segment;
 use std::alloc::Global;
@@ -24,41 +24,41 @@ pub fn prepared(
     alloc: Global,
     book: &mut Book,
     rules: Rules,
-    setup: &Setup,
+    library: &Library,
     ticket: &Ticket,
     segment: Option<Segment>,
 ) -> Result<Prepared, Reply>
     requires fuel { rules.fuel ≤ most_fuel }
     requires life { rules.life ≤ most_life }
-    requires placed { HasPlaces (scripts_of setup.now) book.old }
-    requires orderly { IsOrderly (book_under setup.now book.old) }
+    requires placed { HasPlaces (library_of library.now).all book.old }
+    requires orderly { IsOrderly (book_under (library_of library.now) book.old) }
     requires out { Contains book.old.out.items ticket.now.number }
-    requires runs { IsRunnable (scripts_of setup.now) ticket.now }
-    requires script { HasTargetScript (scripts_of setup.now) ticket.now }
-    requires segment { IsRunIfAny (scripts_of setup.now) rules.fuel ticket.now segment }
+    requires runs { IsRunnable (library_of library.now).all ticket.now }
+    requires script { HasTargetScript (library_of library.now) ticket.now }
+    requires segment { IsRunIfAny (library_of library.now).all rules.fuel ticket.now segment }
     ensures book { StaysSame book.old book.new }
     ensures placed { KeepsPlaces book.old book.new }
     ensures states { KeepsStates book.old book.new }
     ensures room { IfOk result (λ p. HasRoomFor p.change book.new) }
-    ensures landed { IfOk result (CanBeLanded (scripts_of setup.now) book.old ticket.now) }
-    ensures shown { FitsIn setup.now book.old ticket.now.target ticket.now
-        → IfOk result (ShowsState setup.now book.old) }
-    ensures decided { FitsIn setup.now book.old ticket.now.target ticket.now
-        → IsDecided setup.now rules book.old ticket.now result }
-    ensures held { FitsIn setup.now book.old ticket.now.target ticket.now
-        → IsDecidedIfHeld setup.now rules book.old ticket.now segment result }
-    ensures refused { IsRefused setup.now book.old ticket.now.target result }
+    ensures landed { IfOk result (CanBeLanded (library_of library.now) book.old ticket.now) }
+    ensures shown { FitsIn (library_of library.now) book.old ticket.now.target ticket.now
+        → IfOk result (ShowsState (library_of library.now) book.old) }
+    ensures decided { FitsIn (library_of library.now) book.old ticket.now.target ticket.now
+        → IsDecided (library_of library.now) rules book.old ticket.now result }
+    ensures held { FitsIn (library_of library.now) book.old ticket.now.target ticket.now
+        → IsDecidedIfHeld (library_of library.now) rules book.old ticket.now segment result }
+    ensures refused { IsRefused (library_of library.now) book.old ticket.now.target result }
     ensures tells { TellsOfRun result }
-    ensures none { WantsMemory setup.now book.old ticket.now segment result }
+    ensures none { WantsMemory (library_of library.now) book.old ticket.now segment result }
 {
     a_shown_page_has_its_state();
-    if let Err(refusal) = book.admit(setup, &ticket.target) {
+    if let Err(refusal) = book.admit(library, &ticket.target) {
         return Err(Reply::Refused(refusal));
     }
     let Some(first) = segment else {
         return Err(Reply::Memory);
     };
-    match segment_now(alloc, book, setup, ticket, first, rules.fuel) {
+    match segment_now(alloc, book, library, ticket, first, rules.fuel) {
         Ok(segment) => book.prepare(
             alloc,
             ticket,

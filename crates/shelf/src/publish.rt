@@ -1,5 +1,5 @@
 ghost use Rattle.std.specs.Prelude.{◌≡◌, None, IsTrue};
-ghost use Rattle.script_nodes.specs.Views.{scripts_of};
+ghost use Rattle.script_nodes.specs.Views.{library_of};
 ghost use Rattle.instance_book.specs.Changes.{HasRoomFor};
 ghost use Rattle.instance_book.specs.Fits.{IsRunnable};
 ghost use Rattle.instance_book.specs.Views.{reply_of};
@@ -14,7 +14,6 @@ use journal_records::records_are_exact;
 use journal_spec::{
     events_are_kept, events_stand_between, landings_are_kept, landings_stand_between,
 };
-use script_nodes::Setup;
 use script_value::Reply;
 use send_suspend::Segment;
 use std::alloc::Global;
@@ -43,38 +42,33 @@ impl<D: Disk, N: Nonces + Drop> Shelf<D, N> {
     /// It asks for a number that is out, for a ticket that can be run, and for the segment of its run over its own cells. On an own
     /// shelf, where the ticket is for the visit of its target wherever that is admitted now, the publish is one event. Whatever the
     /// ticket is for, the shelf stays in order: what recovery would not take in again is not recorded, and told as want of memory.
-    pub fn publish(
-        &mut self,
-        alloc: Global,
-        setup: &Setup,
-        ticket: Ticket,
-        segment: Option<Segment>,
-    ) -> Reply
-        requires in_order { IsInOrder D.view D.tells (scripts_of setup.now) self.old }
-        requires out { IsOut setup.now self.old ticket }
-        requires runs { IsRunnable (scripts_of setup.now) ticket }
-        requires script { HasTargetScript (scripts_of setup.now) ticket }
-        requires segment { IsRunFor setup.now self.old ticket segment }
-        ensures event { IsOwnVisit D.view D.tells setup.now self.old ticket
-            → IsPublish N.nonce setup.now self.old self.new ticket result }
-        ensures in_order { IsInOrder D.view D.tells (scripts_of setup.now) self.new }
-        ensures own { IsOwnVisit D.view D.tells setup.now self.old ticket
-            → IsOwnShelf D.view D.tells (scripts_of setup.now) self.new }
-        ensures spent { SpendsNumber setup.now self.old self.new ticket }
+    pub fn publish(&mut self, alloc: Global, ticket: Ticket, segment: Option<Segment>) -> Reply
+        requires in_order { IsInOrder D.view D.tells self.old }
+        requires out { IsOut D.view self.old ticket }
+        requires runs { IsRunnable (library_of self.old.library).all ticket }
+        requires script { HasTargetScript (library_of self.old.library) ticket }
+        requires segment { IsRunFor self.old ticket segment }
+        ensures event { IsOwnVisit D.view D.tells self.old ticket
+            → IsPublish D.view N.nonce self.old self.new ticket result }
+        ensures in_order { IsInOrder D.view D.tells self.new }
+        ensures own { IsOwnVisit D.view D.tells self.old ticket
+            → IsOwnShelf D.view D.tells self.new }
+        ensures spent { SpendsNumber D.view self.old self.new ticket }
         ensures any_moment { IsTrue D.tells
-            → HasMoments D.view (scripts_of setup.now) self.old self.new }
+            → HasMoments D.view self.old self.new }
         ensures own_moments { IsTrue D.tells
-            → IsOwnVisit D.view D.tells setup.now self.old ticket
-            → HasOwnMoments D.view (scripts_of setup.now) self.old self.new }
-        ensures refused { TellsRefusal setup.now self.old ticket.target result }
-        ensures none { WantsIfNone setup.now self.old ticket segment result }
-        ensures held { IsOwnVisit D.view D.tells setup.now self.old ticket
-            → IsToldIfHeld setup.now self.old ticket segment result }
-        ensures memory { SpendsOnly setup.now self.old self.new ticket result }
+            → IsOwnVisit D.view D.tells self.old ticket
+            → HasOwnMoments D.view self.old self.new }
+        ensures refused { TellsRefusal D.view self.old ticket.target result }
+        ensures none { WantsIfNone D.view self.old ticket segment result }
+        ensures held { IsOwnVisit D.view D.tells self.old ticket
+            → IsToldIfHeld D.view self.old ticket segment result }
+        ensures memory { SpendsOnly D.view self.old self.new ticket result }
         ensures cause { TellsFaults D.view self.old self.new (reply_of result) }
         ensures quiet { LeavesItsDisk D.view self.old self.new (reply_of result) }
         ensures later { CountsOn D.view self.old self.new }
         ensures nonces { self.new.nonces ≡ self.old.nonces }
+        ensures library { self.new.library ≡ self.old.library }
         ensures rules { self.new.rules ≡ self.old.rules }
     {
         events_are_kept();
@@ -83,8 +77,15 @@ impl<D: Disk, N: Nonces + Drop> Shelf<D, N> {
             self.book.spend(ticket.number);
             return Reply::Down(count);
         }
-        match prepared(alloc, &mut self.book, self.rules, setup, &ticket, segment) {
-            Ok(prepared) => self.land(alloc, setup, &ticket, prepared),
+        match prepared(
+            alloc,
+            &mut self.book,
+            self.rules,
+            &self.library,
+            &ticket,
+            segment,
+        ) {
+            Ok(prepared) => self.land(alloc, &ticket, prepared),
             Err(reply) => {
                 self.book.spend(ticket.number);
                 reply
@@ -95,36 +96,37 @@ impl<D: Disk, N: Nonces + Drop> Shelf<D, N> {
     // Makes a prepared change, once its record is on the disk, and gives its reply.
     //
     // Whatever the ticket is for, the shelf stays in order; for an own visit this is what the visit comes to.
-    fn land(&mut self, alloc: Global, setup: &Setup, ticket: &Ticket, prepared: Prepared) -> Reply
-        requires in_order { IsInOrder D.view D.tells (scripts_of setup.now) self.old }
+    fn land(&mut self, alloc: Global, ticket: &Ticket, prepared: Prepared) -> Reply
+        requires in_order { IsInOrder D.view D.tells self.old }
         requires up { self.old.down ≡ None }
-        requires out { IsOut setup.now self.old ticket.now }
-        requires script { HasTargetScript (scripts_of setup.now) ticket.now }
+        requires out { IsOut D.view self.old ticket.now }
+        requires script { HasTargetScript (library_of self.old.library) ticket.now }
         requires room { HasRoomFor prepared.change self.old.book }
         requires plain { fate_by (reply_of prepared.reply) ≡ plain }
-        requires landed { CanBeLanded (scripts_of setup.now) self.old.book ticket.now prepared }
-        requires shown { IsOwnVisit D.view D.tells setup.now self.old ticket.now
-            → ShowsItsState setup.now self.old prepared.change }
-        requires decided { IsOwnVisit D.view D.tells setup.now self.old ticket.now
-            → CarriesOut setup.now self.old ticket.now prepared }
-        ensures event { IsOwnVisit D.view D.tells setup.now self.old ticket.now
-            → IsPublish N.nonce setup.now self.old self.new ticket.now result }
-        ensures in_order { IsInOrder D.view D.tells (scripts_of setup.now) self.new }
-        ensures own { IsOwnVisit D.view D.tells setup.now self.old ticket.now
-            → IsOwnShelf D.view D.tells (scripts_of setup.now) self.new }
-        ensures spent { SpendsNumber setup.now self.old self.new ticket.now }
+        requires landed { CanBeLanded (library_of self.old.library) self.old.book ticket.now prepared }
+        requires shown { IsOwnVisit D.view D.tells self.old ticket.now
+            → ShowsItsState self.old prepared.change }
+        requires decided { IsOwnVisit D.view D.tells self.old ticket.now
+            → CarriesOut D.view self.old ticket.now prepared }
+        ensures event { IsOwnVisit D.view D.tells self.old ticket.now
+            → IsPublish D.view N.nonce self.old self.new ticket.now result }
+        ensures in_order { IsInOrder D.view D.tells self.new }
+        ensures own { IsOwnVisit D.view D.tells self.old ticket.now
+            → IsOwnShelf D.view D.tells self.new }
+        ensures spent { SpendsNumber D.view self.old self.new ticket.now }
         ensures any_moment { IsTrue D.tells
-            → HasMoments D.view (scripts_of setup.now) self.old self.new }
+            → HasMoments D.view self.old self.new }
         ensures own_moments { IsTrue D.tells
-            → IsOwnVisit D.view D.tells setup.now self.old ticket.now
-            → HasOwnMoments D.view (scripts_of setup.now) self.old self.new }
-        ensures told { IsOwnVisit D.view D.tells setup.now self.old ticket.now
-            → TellsReply (decision_of setup.now self.old ticket.now) (reply_of result) }
-        ensures memory { SpendsOnly setup.now self.old self.new ticket.now result }
+            → IsOwnVisit D.view D.tells self.old ticket.now
+            → HasOwnMoments D.view self.old self.new }
+        ensures told { IsOwnVisit D.view D.tells self.old ticket.now
+            → TellsReply (decision_of D.view self.old ticket.now) (reply_of result) }
+        ensures memory { SpendsOnly D.view self.old self.new ticket.now result }
         ensures cause { TellsFaults D.view self.old self.new (reply_of result) }
         ensures quiet { LeavesItsDisk D.view self.old self.new (reply_of result) }
         ensures later { CountsOn D.view self.old self.new }
         ensures nonces { self.new.nonces ≡ self.old.nonces }
+        ensures library { self.new.library ≡ self.old.library }
         ensures rules { self.new.rules ≡ self.old.rules }
     {
         // A nonce has 64 bits.
@@ -138,7 +140,14 @@ impl<D: Disk, N: Nonces + Drop> Shelf<D, N> {
         let Some(change) = &prepared.change else {
             return self.book.install(prepared);
         };
-        let body = match told_body(alloc, &mut self.journal, &self.book, setup, ticket, change) {
+        let body = match told_body(
+            alloc,
+            &mut self.journal,
+            &self.book,
+            &self.library,
+            ticket,
+            change,
+        ) {
             Ok(body) => body,
             Err(reply) => {
                 drop(prepared);
@@ -146,7 +155,10 @@ impl<D: Disk, N: Nonces + Drop> Shelf<D, N> {
             }
         };
         match added(&mut self.journal, body.as_slice()) {
-            Ok(()) => self.book.install(prepared),
+            Ok(()) => {
+                self.file.visit(change, body.len() as u64);
+                self.book.install(prepared)
+            }
             Err(count) => {
                 self.down = Doubt::of_visit(count, prepared);
                 Reply::DiskFault(count)

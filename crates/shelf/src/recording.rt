@@ -5,61 +5,38 @@ ghost use Rattle.page_journal.specs.Holding.{MayHold};
 ghost use Rattle.page_journal.specs.Settled.{IsSettled, IsReady, IsSound, view_of, bodies_in, length_of, length_with, is_broken};
 ghost use Rattle.journal_records.specs.Records.{changes};
 ghost use Rattle.journal_records.specs.Views.{recorded_of};
-ghost use Rattle.script_nodes.specs.Views.{scripts_of};
+ghost use Rattle.script_nodes.specs.Views.{library_of};
 ghost use Rattle.instance_book.specs.Makes.{HasPlaces, HasSomeStates};
 ghost use Rattle.instance_book.specs.Views.{reply_of};
 ghost use Rattle.instance_book.specs.Changes.{change_of, IsSpelledIn};
-ghost use Rattle.frame_codec.specs.Spelling.{StateHasBytes};
-ghost use Rattle.frame_codec.specs.Forms.{BindsBefore};
-ghost use Rattle.kept_states.specs.Kept.{form_byte, kept_of};
+ghost use Rattle.kept_states.specs.Kept.{kept_of};
 ghost use Rattle.machine_states.specs.Views.{suspended_of};
 ghost use Rattle.shelf.specs.Holding.{FitsIfSpelled, IsWhole, IsWholeIn};
-ghost use Rattle.shelf.specs.Recording.{refusal_of_size, CanBeWritten, IsWritten, IsOfByte, IsStateFor, IsKeptForm, IsKeptIn, IsToldAs, WhereTold, WhereTrue, IsTrueWhere, BindsIn, GoesOnAsGiven, GoOnAlike, told_in, state_of, lent};
+ghost use Rattle.shelf.specs.Recording.{refusal_of_size, CanBeWritten, IsWritten, IsStateFor, IsLentAs, IsKeptIn, WhereTold, WhereTrue, IsTrueWhere, BindsIn, GoesOnFrom, GoesOnAsGiven, answered_in, told_in, lent};
 
 use crate::nesting::nests_shallow;
 use crate::same::{are_same_names, are_same_states};
-use frame_codec::{ALONE, BEHIND, is_spelled, is_stored, with_form};
+use frame_codec::{is_spelled, is_stored};
 use instance_book::{Book, Change, Ticket};
-use journal_records::{
-    Recorded, RecordedEnded, RecordedFinish, RecordedOrigin, RecordedPage, encode, record_length,
-};
+use journal_records::{Origin as Begun, Recorded, encode, record_length};
 use kept_states::{KeptState, kept_are_written};
 use machine_states::{Origin, Suspended};
 use page_journal::{AppendFault, Journal, MAX_LEN};
-use script_nodes::{Script, Setup};
-use script_value::{Bytes, Reply, TxName, Value};
+use script_nodes::{Library, Script};
+use script_value::{Bytes, Reply, TxName};
 use std::alloc::{AllocError, Global};
 use web_disk::Disk;
 
 /// The greatest length of a record's body, in bytes.
 pub const MOST_OF_RECORD: u64 = 1_048_576;
 
-// The byte of the form that is due: behind another state, or by itself.
-fn form_byte(before: Option<&Suspended>) -> u8
-    ensures { result ≡ form_byte (state_of before.entry) }
-{
-    match before {
-        Some(_) => BEHIND,
-        None => ALONE,
-    }
-}
-
-// The bytes of a state as it is kept, behind another one or by itself; none where a value nests too deep to be written. One that is
+// The bytes that are kept of a state, behind another one or by itself; none where a value nests too deep to be written. One that is
 // kept as it is for another cause is told as want of memory.
-fn state_bytes(
-    alloc: Global,
-    before: Option<&Suspended>,
-    kept: &KeptState,
-    state: &Suspended,
-) -> Result<Option<Bytes>, AllocError>
-    requires { IsKeptForm (state_of before) (suspended_of state.now) (kept_of kept.now).form }
-    ensures told { IfOk result (IsToldAs (state_of before.entry) (suspended_of state.now)) }
-    ensures spelled { WhereTold result (StateHasBytes (suspended_of state.now)) }
-    ensures binds { WhereTold result (BindsBefore (state_of before.entry) (suspended_of state.now)) }
+fn state_bytes<'k>(kept: &'k KeptState, state: &Suspended) -> Result<Option<&'k [u8]>, AllocError>
+    ensures { IfOk result (IsLentAs (suspended_of state.now) (kept_of kept.now).form) }
 {
-    kept_are_written();
     if let Some(bytes) = kept.bytes() {
-        return Ok(Some(with_form(alloc, form_byte(before), bytes)?));
+        return Ok(Some(bytes));
     }
     if nests_shallow(state) {
         return Err(AllocError);
@@ -74,17 +51,38 @@ fn fits_if_spelled(script: &Script, state: &Suspended) -> bool
     is_stored(script, state) || !is_spelled(state)
 }
 
-// Whether two tickets go on from the same, and their pages have as many links.
-fn go_on_alike(alloc: Global, one: &Ticket, other: &Ticket) -> Result<bool, AllocError>
-    ensures { WhereTrue result (GoOnAlike one.now other.now) }
+// The numbers of the instance and of the page that a change's page answers, if it shows one and that is no start's.
+fn answered(change: &Change) -> Option<(u64, u64)>
+    ensures { result ≡ answered_in (change_of change.now) }
 {
-    if one.links != other.links {
+    let record = match change {
+        Change::Opens(opening) => &opening.record,
+        Change::Extends(extension) => &extension.record,
+        Change::Ends(_) => return None,
+        Change::Finishes(_) => return None,
+    };
+    match &record.origin {
+        Begun::Start { .. } => None,
+        Begun::Answer { instance, page, .. } => Some((*instance, *page)),
+    }
+}
+
+// Whether a ticket goes on from this state, and its page has so many links.
+fn goes_on_from(
+    alloc: Global,
+    from: &Origin,
+    links: u8,
+    ticket: &Ticket,
+) -> Result<bool, AllocError>
+    ensures { WhereTrue result (GoesOnFrom from.now links ticket.now) }
+{
+    if ticket.links != links {
         return Ok(false);
     }
-    let (Origin::Page(one), Origin::Page(other)) = (&one.from, &other.from) else {
+    let (Origin::Page(there), Origin::Page(here)) = (from, &ticket.from) else {
         return Ok(false);
     };
-    are_same_states(alloc, one, other)
+    are_same_states(alloc, there, here)
 }
 
 // Whether the ticket of an answer goes on from the state that the book has of the page, so its own page can be kept and written behind
@@ -92,30 +90,21 @@ fn go_on_alike(alloc: Global, one: &Ticket, other: &Ticket) -> Result<bool, Allo
 fn goes_on_from_book(
     alloc: Global,
     book: &Book,
-    setup: &Setup,
+    library: &Library,
     ticket: &Ticket,
     change: &Change,
 ) -> Result<bool, AllocError>
-    requires placed { HasPlaces (scripts_of setup.now) book.now }
-    requires kept { HasSomeStates (scripts_of setup.now) book.now }
-    ensures { WhereTrue result (GoesOnAsGiven setup.now book.now ticket.now change.now) }
+    requires placed { HasPlaces (library_of library.now).all book.now }
+    requires kept { HasSomeStates (library_of library.now).all book.now }
+    ensures { WhereTrue result (GoesOnAsGiven (library_of library.now) book.now ticket.now change.now) }
 {
-    let Change::Extends(extension) = change else {
+    let Some((instance, page)) = answered(change) else {
         return Ok(true);
     };
-    let Some(there) = book.told_answer(
-        alloc,
-        setup,
-        extension.instance,
-        extension.answered,
-        Value::Truth(false),
-        ticket.number,
-        ticket.nonce,
-    )?
-    else {
+    let Some((from, links)) = book.before(alloc, library, instance, page)? else {
         return Ok(false);
     };
-    go_on_alike(alloc, &there, ticket)
+    goes_on_from(alloc, &from, links, ticket)
 }
 
 // Whether a page with this state is inside the transactions of the state's frames, and the state fits the script where it has a
@@ -141,20 +130,20 @@ fn is_whole(
 fn shows_whole(
     alloc: Global,
     book: &Book,
-    setup: &Setup,
+    library: &Library,
     change: &Change,
 ) -> Result<bool, AllocError>
-    requires { HasPlaces (scripts_of setup.now) book.now }
-    ensures { WhereTrue result (IsWholeIn (scripts_of setup.now) book.now change.now) }
+    requires { HasPlaces (library_of library.now).all book.now }
+    ensures { WhereTrue result (IsWholeIn (library_of library.now).all book.now change.now) }
 {
     let (named, state, inside) = match change {
         Change::Opens(opening) => (
-            setup.get(opening.instance.script),
+            library.get(opening.instance.script),
             &opening.state,
             &opening.page.item.inside,
         ),
         Change::Extends(extension) => (
-            book.script(setup, extension.instance),
+            book.script(library, extension.instance),
             &extension.state,
             &extension.show.page.item.inside,
         ),
@@ -173,92 +162,55 @@ fn shows_whole(
 /// too deep to be written.
 ///
 /// What recovery would not read back as this page is told as want of memory: a change of an own shelf is none of these.
-pub fn told_state(
+pub fn told_state<'c>(
     alloc: Global,
     book: &Book,
-    setup: &Setup,
+    library: &Library,
     ticket: &Ticket,
-    change: &Change,
-) -> Result<Option<Bytes>, AllocError>
-    requires placed { HasPlaces (scripts_of setup.now) book.now }
-    requires states { HasSomeStates (scripts_of setup.now) book.now }
+    change: &'c Change,
+) -> Result<Option<&'c [u8]>, AllocError>
+    requires placed { HasPlaces (library_of library.now).all book.now }
+    requires states { HasSomeStates (library_of library.now).all book.now }
     requires kept { IsKeptIn ticket.now change.now }
-    ensures told { IfOk result (λ bytes. bytes ≡ told_in ticket.now change.now) }
+    ensures told { IfOk result (λ bytes. lent bytes ≡ told_in ticket.now change.now) }
     ensures binds { WhereTold result (BindsIn ticket.now change.now) }
-    ensures goes { OnOk result (GoesOnAsGiven setup.now book.now ticket.now change.now) }
-    ensures whole { OnOk result (IsWholeIn (scripts_of setup.now) book.now change.now) }
+    ensures goes { OnOk result (GoesOnAsGiven (library_of library.now) book.now ticket.now change.now) }
+    ensures whole { OnOk result (IsWholeIn (library_of library.now).all book.now change.now) }
     ensures spelled { WhereTold result (IsSpelledIn change.now) }
 {
-    if !shows_whole(alloc, book, setup, change)? {
+    kept_are_written();
+    if !shows_whole(alloc, book, library, change)? {
         return Err(AllocError);
     }
-    if !goes_on_from_book(alloc, book, setup, ticket, change)? {
+    if !goes_on_from_book(alloc, book, library, ticket, change)? {
         return Err(AllocError);
     }
     match change {
-        Change::Opens(opening) => {
-            state_bytes(alloc, None, &opening.page.item.state, &opening.state)
+        Change::Opens(opening) => state_bytes(&opening.page.item.state, &opening.state),
+        Change::Extends(extension) => {
+            state_bytes(&extension.show.page.item.state, &extension.state)
         }
-        Change::Extends(extension) => state_bytes(
-            alloc,
-            ticket.behind(),
-            &extension.show.page.item.state,
-            &extension.state,
-        ),
         Change::Ends(_) => Ok(None),
         Change::Finishes(_) => Ok(None),
     }
 }
 
 /// What the record of a visit's change says, where these are the bytes of its state.
-pub fn recorded<'r>(change: &'r Change, state: Option<&'r Bytes>) -> Recorded<'r>
-    requires byte { IsOfByte change.now }
-    requires state { IsStateFor change.now (lent state) }
+pub fn recorded<'r>(change: &'r Change, state: Option<&'r [u8]>) -> Recorded<'r>
+    requires { IsStateFor change.now (lent state) }
     ensures { recorded_of result ≡ changes (change_of change.now) (lent state.entry) }
 {
-    let state = state.map(|bytes| bytes.as_slice());
     match change {
-        Change::Opens(opening) => Recorded::Page(RecordedPage {
-            ticket: opening.page.number,
-            nonce: opening.page.item.nonce,
-            origin: RecordedOrigin::Start {
-                script: opening.instance.script as u8,
-            },
-            effects: opening.effects.as_slice(),
-            left: opening.left.as_slice(),
-            kind: opening.kind,
-            deadline: opening.page.item.deadline,
+        Change::Opens(opening) => Recorded::Page {
+            page: &opening.record,
             state,
-        }),
-        Change::Extends(extension) => Recorded::Page(RecordedPage {
-            ticket: extension.show.page.number,
-            nonce: extension.show.page.item.nonce,
-            origin: RecordedOrigin::Answer {
-                instance: extension.instance,
-                page: extension.answered,
-                answer: &extension.answer,
-            },
-            effects: extension.effects.as_slice(),
-            left: extension.left.as_slice(),
-            kind: extension.kind,
-            deadline: extension.show.page.item.deadline,
+        },
+        Change::Extends(extension) => Recorded::Page {
+            page: &extension.record,
             state,
-        }),
-        Change::Ends(ending) => Recorded::Ended(RecordedEnded {
-            ticket: ending.number,
-            instance: ending.instance,
-            page: ending.answered,
-            answer: &ending.answer,
-            effects: ending.effects.as_slice(),
-            left: ending.left.as_slice(),
-        }),
-        Change::Finishes(finish) => Recorded::Finish(RecordedFinish {
-            ticket: finish.number,
-            instance: finish.instance,
-            page: finish.answered,
-            answer: &finish.answer,
-            effects: finish.effects.as_slice(),
-        }),
+        },
+        Change::Ends(ending) => Recorded::Ended(&ending.record),
+        Change::Finishes(finish) => Recorded::Finish(&finish.record),
     }
 }
 
@@ -282,12 +234,12 @@ fn refused(journal: u64, size: u64) -> Option<Reply>
 pub fn written<D: Disk>(
     alloc: Global,
     journal: &mut Journal<D>,
-    record: &Recorded<'_>,
+    line: &Recorded<'_>,
 ) -> Result<Bytes, Reply>
     requires sound { IsSound journal.old }
     requires settled { IsTrue D.tells → IsSettled D.view journal.old }
-    requires spelled { CanBeWritten (length_of journal.old) (recorded_of record.now) }
-    ensures written { IsWritten (length_of journal.old) (recorded_of record.now) result }
+    requires spelled { CanBeWritten (length_of journal.old) (recorded_of line.now) }
+    ensures written { IsWritten (length_of journal.old) (recorded_of line.now) result }
     ensures ready { IfOk result (λ body. IsReady D.view journal.new (length body)) }
     ensures sound { IsSound journal.new }
     ensures settled { IsTrue D.tells → IsSettled D.view journal.new }
@@ -298,11 +250,11 @@ pub fn written<D: Disk>(
     ensures time { Elapses (view_of D.view journal.old) (view_of D.view journal.new) }
     ensures faults { (view_of D.view journal.new).faults ≡ (view_of D.view journal.old).faults }
 {
-    let size = record_length(record);
+    let size = record_length(line);
     if let Some(reply) = refused(journal.len(), size) {
         return Err(reply);
     }
-    let Ok(body) = encode(alloc, record) else {
+    let Ok(body) = encode(alloc, line) else {
         return Err(Reply::Memory);
     };
     match journal.room(body.len() as u32) {

@@ -1,7 +1,7 @@
 //! The run of a ticket's segment.
 ghost use Rattle.std.specs.Prelude.{◌≡◌, ◌<◌, ◌^◌, IfOk};
 ghost use Rattle.script_value.specs.Views.{meaning};
-ghost use Rattle.script_nodes.specs.Views.{scripts_of};
+ghost use Rattle.script_nodes.specs.Views.{library_of};
 ghost use Rattle.send_suspend.specs.Segments.{newest, FitsFrom, Replays};
 ghost use Rattle.instance_book.specs.Fits.{IsRunnable};
 ghost use Rattle.shelf.specs.Runs.{IsRunOver, IsRunOfItsVisit};
@@ -9,7 +9,7 @@ ghost use Rattle.shelf.specs.Runs.{IsRunOver, IsRunOfItsVisit};
 use instance_book::Ticket;
 use instance_cells::Cells;
 use replay_spec::effects_are_on_cells;
-use script_nodes::{Script, Setup};
+use script_nodes::{Library, Script};
 use send_suspend::{Origin, Segment, Steps, run_segment};
 use std::alloc::{AllocError, Global};
 use std::marker::Brand;
@@ -50,22 +50,23 @@ fn uncounted<L: Ledger>(
 
 /// Runs the segment of a ticket over these cells, from the state that the ticket goes on from.
 ///
-/// It asks that the ticket's script is one of the setup and that what it goes on from fits it. Where the ticket is for a visit, the
+/// It asks that the ticket's script is one of the library and that what it goes on from fits it. Where the ticket is for a visit, the
 /// segment is what the visit comes to.
 pub fn run_ticket(
     alloc: Global,
-    setup: &Setup,
+    library: &Library,
     ticket: &Ticket,
     cells: &Cells,
     fuel: u64,
 ) -> Result<Segment, AllocError>
-    requires fits { IsRunnable (scripts_of setup.now) ticket.now }
+    requires fits { IsRunnable (library_of library.now).all ticket.now }
     requires fuel { fuel < 2 ^ 63 }
-    ensures run { IfOk result (IsRunOver (scripts_of setup.now) fuel ticket.now cells.now) }
-    ensures visit { IfOk result (IsRunOfItsVisit (scripts_of setup.now) fuel ticket.now cells.now) }
+    ensures run { IfOk result (IsRunOver (library_of library.now).all fuel ticket.now cells.now) }
+    ensures visit { IfOk result
+        (IsRunOfItsVisit (library_of library.now).all fuel ticket.now cells.now) }
 {
     effects_are_on_cells();
-    let Some(named) = setup.get(ticket.script) else {
+    let Some(named) = library.get(ticket.script) else {
         unreachable!()
     };
     // A script's root tells that its nodes are its tree's.

@@ -1,5 +1,5 @@
-ghost use Rattle.std.specs.Prelude.{◌≡◌, ◌<◌, ◌^◌, ◌↔◌, IsTrue, IfOk, Ok, None, map};
-ghost use Rattle.script_nodes.specs.Views.{scripts_of};
+ghost use Rattle.std.specs.Prelude.{◌≡◌, ◌<◌, ◌^◌, ◌↔◌, IsTrue, IfOk, Ok, map};
+ghost use Rattle.script_nodes.specs.Views.{library_of};
 ghost use Rattle.instance_cells.specs.Views.{effect_of};
 ghost use Rattle.instance_book.specs.Admissions.{book_under};
 ghost use Rattle.instance_book.specs.Fits.{IsRunnable};
@@ -13,7 +13,7 @@ use instance_book::{Book, Ticket};
 use instance_cells::{Cells, Effect};
 use page_names::Target;
 use replay_spec::{effects_are_on_cells, effects_hold, effects_hold_run_same};
-use script_nodes::Setup;
+use script_nodes::Library;
 use send_suspend::Segment;
 use std::alloc::{AllocError, Global};
 
@@ -40,17 +40,17 @@ fn held(cells: &Cells, segment: Segment) -> Result<Segment, AllocError>
 // The segment of a ticket that is run again over these cells, where its effects hold over them.
 fn run_again(
     alloc: Global,
-    setup: &Setup,
+    library: &Library,
     ticket: &Ticket,
     cells: &Cells,
     fuel: u64,
 ) -> Result<Segment, AllocError>
-    requires runs { IsRunnable (scripts_of setup.now) ticket.now }
+    requires runs { IsRunnable (library_of library.now).all ticket.now }
     requires fuel { fuel < 2 ^ 63 }
-    ensures run { IfOk result (IsRunOver (scripts_of setup.now) fuel ticket.now cells.now) }
+    ensures run { IfOk result (IsRunOver (library_of library.now).all fuel ticket.now cells.now) }
     ensures held { IfOk result (λ r. AreHeld (map effect_of r.effects.items) cells.now) }
 {
-    let second = run_ticket(alloc, setup, ticket, cells, fuel)?;
+    let second = run_ticket(alloc, library, ticket, cells, fuel)?;
     held(cells, second)
 }
 
@@ -62,26 +62,27 @@ fn run_again(
 pub fn segment_now(
     alloc: Global,
     book: &Book,
-    setup: &Setup,
+    library: &Library,
     ticket: &Ticket,
     first: Segment,
     fuel: u64,
 ) -> Result<Segment, AllocError>
-    requires runs { IsRunnable (scripts_of setup.now) ticket.now }
-    requires script { HasTargetScript (scripts_of setup.now) ticket.now }
-    requires segment { IsRunOf (scripts_of setup.now) fuel ticket.now first }
-    requires cells { HaveTheirCells (book_under setup.now book.now) }
+    requires runs { IsRunnable (library_of library.now).all ticket.now }
+    requires script { HasTargetScript (library_of library.now) ticket.now }
+    requires segment { IsRunOf (library_of library.now).all fuel ticket.now first }
+    requires cells { HaveTheirCells (book_under (library_of library.now) book.now) }
     requires fuel { fuel < 2 ^ 63 }
-    ensures segment { IsForItsVisit setup.now book.now ticket.now
-        → IfOk result (IsSegmentNow fuel (book_under setup.now book.now) ticket.now) }
-    ensures state { IsForItsVisit setup.now book.now ticket.now
-        → IfOk result (KeepsStateNow (book_under setup.now book.now) ticket.now) }
-    ensures first { IsForItsVisit setup.now book.now ticket.now
-        → HoldNow (book_under setup.now book.now) ticket.now first → result ≡ Ok first }
+    ensures segment { IsForItsVisit (library_of library.now) book.now ticket.now
+        → IfOk result (IsSegmentNow fuel (book_under (library_of library.now) book.now) ticket.now) }
+    ensures state { IsForItsVisit (library_of library.now) book.now ticket.now
+        → IfOk result (KeepsStateNow (book_under (library_of library.now) book.now) ticket.now) }
+    ensures first { IsForItsVisit (library_of library.now) book.now ticket.now
+        → HoldNow (book_under (library_of library.now) book.now) ticket.now first
+        → result ≡ Ok first }
     ensures on { IfOk result (λ r. AreOnCells book.now ticket.now (map effect_of r.effects.items)) }
     ensures held { IfOk result (AreHeldNow book.now ticket.now) }
 {
-    let Some(named) = setup.get(ticket.script) else {
+    let Some(named) = library.get(ticket.script) else {
         unreachable!()
     };
     // A script's root tells that the cells that its nodes name are there.
@@ -98,5 +99,5 @@ pub fn segment_now(
     if are_held(cells, &first.effects) {
         return Ok(first);
     }
-    run_again(alloc, setup, ticket, cells, fuel)
+    run_again(alloc, library, ticket, cells, fuel)
 }

@@ -1,9 +1,11 @@
 ghost use Rattle.std.specs.Prelude.{◌≡◌, ◌<◌, ◌^◌};
 
 use crate::doubt::Doubt;
+use crate::file::FilePast;
 use crate::rules::Rules;
 use instance_book::Book;
 use page_journal::Journal;
+use script_nodes::Library;
 use web_disk::Disk;
 
 /// One shelf: its book in memory, and on a disk the journal of what made it.
@@ -11,15 +13,19 @@ use web_disk::Disk;
 pub struct Shelf<D: Disk, N> {
     pub(crate) journal: Journal<D>,
     pub(crate) book: Book,
+    // The scripts that the journal told, the present setup last.
+    pub(crate) library: Library,
     // What may have happened when the disk failed.
     pub(crate) down: Option<Doubt>,
     pub(crate) nonces: N,
     pub(crate) rules: Rules,
+    pub(crate) file: FilePast<D>,
 }
 
 // What stands in memory is let go.
-fn forget(book: Book, down: Option<Doubt>) {
+fn forget(book: Book, library: Library, down: Option<Doubt>) {
     drop(book);
+    drop(library);
     drop(down);
 }
 
@@ -32,6 +38,13 @@ impl<D: Disk, N> Shelf<D, N> {
         ensures { result.now ≡ self.now.book }
     {
         &self.book
+    }
+
+    /// The scripts that the journal told.
+    pub fn library(&self) -> &Library
+        ensures { result.now ≡ self.now.library }
+    {
+        &self.library
     }
 
     /// How many instances are live.
@@ -72,11 +85,13 @@ impl<D: Disk, N> Shelf<D, N> {
         let Shelf {
             journal,
             book,
+            library,
             down,
             nonces,
             rules: _,
+            file: _,
         } = self;
-        forget(book, down);
+        forget(book, library, down);
         (journal.close(), nonces)
     }
 }

@@ -1,6 +1,6 @@
 ghost use Rattle.std.specs.Prelude.{◌≡◌, ◌<◌, ◌^◌, IsTrue};
 
-use crate::doubt::{Doubt, Doubted};
+use crate::doubt::{Doubt, Work};
 use crate::recording::{added, written};
 use crate::shelf::Shelf;
 use journal_records::{Recorded, records_are_exact};
@@ -11,25 +11,27 @@ use web_disk::Disk;
 use web_outside::Nonces;
 
 impl<D: Disk, N: Nonces + Drop> Shelf<D, N> {
-    ghost use Rattle.shelf.specs.Views.{IsInSomeOrder, StaysInOrder, StaysOwn, swept_of};
-    ghost use Rattle.shelf.specs.Events.{IsSweep, HasAllMoments, HasAllOwnMoments, TellsFaults, LeavesItsDisk, CountsOn};
+    ghost use Rattle.shelf.specs.Views.{IsInOrder, IsOwnShelf, swept_of};
+    ghost use Rattle.shelf.specs.Events.{IsSweep, HasMoments, HasOwnMoments, TellsFaults, LeavesItsDisk, CountsOn};
 
-    /// Goes on to a tick and frees each instance whose pages are all expired then, once this is on the disk; a tick at or below
-    /// the clock does nothing. It tells how many instances were freed.
+    /// Goes on to a tick and frees each instance whose pages are all expired then or evicted, once this is on the disk; a tick at
+    /// or below the clock does nothing. It tells how many instances were freed.
     ///
-    /// It asks for a shelf in order, under whatever setup. A reply that tells neither a sweep nor a fault of the disk leaves the disk alone.
+    /// A reply that tells neither a sweep nor a fault of the disk leaves the disk alone.
     pub fn sweep(&mut self, alloc: Global, tick: u64) -> Result<u32, Reply>
         requires tick { tick < 2 ^ 62 }
-        requires in_order { IsInSomeOrder D.view D.tells self.old }
-        ensures event { IsSweep N.nonce self.old self.new tick result }
-        ensures in_order { StaysInOrder D.view D.tells self.old self.new }
-        ensures own { StaysOwn D.view D.tells self.old self.new }
-        ensures any_moment { IsTrue D.tells → HasAllMoments D.view D.tells self.old self.new }
-        ensures own_moments { IsTrue D.tells → HasAllOwnMoments D.view D.tells self.old self.new }
+        requires in_order { IsInOrder D.view D.tells self.old }
+        ensures event { IsSweep D.view N.nonce self.old self.new tick result }
+        ensures in_order { IsInOrder D.view D.tells self.new }
+        ensures own { IsOwnShelf D.view D.tells self.old → IsOwnShelf D.view D.tells self.new }
+        ensures any_moment { IsTrue D.tells → HasMoments D.view self.old self.new }
+        ensures own_moments { IsTrue D.tells → IsOwnShelf D.view D.tells self.old
+            → HasOwnMoments D.view self.old self.new }
         ensures cause { TellsFaults D.view self.old self.new (swept_of result) }
         ensures quiet { LeavesItsDisk D.view self.old self.new (swept_of result) }
         ensures later { CountsOn D.view self.old self.new }
         ensures nonces { self.new.nonces ≡ self.old.nonces }
+        ensures library { self.new.library ≡ self.old.library }
         ensures rules { self.new.rules ≡ self.old.rules }
     {
         events_are_kept();
@@ -47,11 +49,14 @@ impl<D: Disk, N: Nonces + Drop> Shelf<D, N> {
             Err(reply) => return Err(reply),
         };
         match added(&mut self.journal, body.as_slice()) {
-            Ok(()) => Ok(self.book.free_expired(tick)),
+            Ok(()) => {
+                self.file.sweep(tick, body.len() as u64);
+                Ok(self.book.free_expired(tick))
+            }
             Err(count) => {
                 self.down = Some(Doubt {
                     count,
-                    change: Doubted::Sweeps(tick),
+                    work: Work::Sweeps(tick),
                 });
                 Err(Reply::DiskFault(count))
             }

@@ -1,5 +1,5 @@
 ghost use Rattle.std.specs.Prelude.{◌≡◌, IfOk};
-ghost use Rattle.script_nodes.specs.Views.{scripts_of};
+ghost use Rattle.script_nodes.specs.Views.{library_of};
 ghost use Rattle.instance_book.specs.Admissions.{HasCellsBy};
 ghost use Rattle.instance_book.specs.Fits.{IsRunnable};
 ghost use Rattle.instance_book.specs.Makes.{HasItsStates};
@@ -8,7 +8,6 @@ use crate::shelf::Shelf;
 use instance_book::Ticket;
 use journal_spec::events_are_kept;
 use page_names::Target;
-use script_nodes::Setup;
 use script_value::{Reply, Value};
 use std::alloc::Global;
 use web_disk::Disk;
@@ -27,27 +26,21 @@ impl<D: Disk, N: Nonces + Drop> Shelf<D, N> {
     /// is. A take that is refused, or finds no memory, changes nothing and draws no nonce.
     ///
     /// The ticket can be run. Where each page of the shelf has the state of its chain, it is for the visit of the target.
-    pub fn take(
-        &mut self,
-        alloc: Global,
-        setup: &Setup,
-        target: &Target,
-        answer: Value,
-    ) -> Result<Ticket, Reply>
-        requires { IsInOrder D.view D.tells (scripts_of setup.now) self.old }
-        ensures event { IsTake N.nonce setup.now self.old self.new target.now answer result }
-        ensures in_order { IsInOrder D.view D.tells (scripts_of setup.now) self.new }
-        ensures own { IsOwnShelf D.view D.tells (scripts_of setup.now) self.old
-            → IsOwnShelf D.view D.tells (scripts_of setup.now) self.new }
-        ensures refused { TellsWhyNot setup.now self.old target.now result }
-        ensures ticket { IfOk result (IsTicketOf N.nonce setup.now self.old target.now answer) }
-        ensures fits { HasItsStates (scripts_of setup.now) self.old.book
-            → IfOk result (FitsNow setup.now self.new) }
-        ensures runs { IfOk result (IsRunnable (scripts_of setup.now)) }
-        ensures script { IfOk result (HasTargetScript (scripts_of setup.now)) }
-        ensures cells { IfOk result (HasCellsBy (admission_now setup.now self.old target.now)) }
-        ensures out { IfOk result (IsOut setup.now self.new) }
+    pub fn take(&mut self, alloc: Global, target: &Target, answer: Value) -> Result<Ticket, Reply>
+        requires { IsInOrder D.view D.tells self.old }
+        ensures event { IsTake D.view N.nonce self.old self.new target.now answer result }
+        ensures in_order { IsInOrder D.view D.tells self.new }
+        ensures own { IsOwnShelf D.view D.tells self.old → IsOwnShelf D.view D.tells self.new }
+        ensures refused { TellsWhyNot D.view self.old target.now result }
+        ensures ticket { IfOk result (IsTicketOf D.view N.nonce self.old target.now answer) }
+        ensures fits { HasItsStates (library_of self.old.library).all self.old.book
+            → IfOk result (FitsNow D.view self.new) }
+        ensures runs { IfOk result (IsRunnable (library_of self.new.library).all) }
+        ensures script { IfOk result (HasTargetScript (library_of self.new.library)) }
+        ensures cells { IfOk result (HasCellsBy (admission_now D.view self.old target.now)) }
+        ensures out { IfOk result (IsOut D.view self.new) }
         ensures journal { self.new.journal ≡ self.old.journal }
+        ensures library { self.new.library ≡ self.old.library }
         ensures rules { self.new.rules ≡ self.old.rules }
     {
         events_are_kept();
@@ -57,12 +50,15 @@ impl<D: Disk, N: Nonces + Drop> Shelf<D, N> {
         if self.book.drawn() == NUMBERS {
             return Err(Reply::Worn);
         }
-        if let Err(refusal) = self.book.admit(setup, target) {
+        if let Err(refusal) = self.book.admit(&self.library, target) {
             return Err(Reply::Refused(refusal));
         }
         let mut nonces = self.nonces.again();
         let nonce = nonces.next();
-        match self.book.ticket(alloc, setup, target, answer, nonce) {
+        match self
+            .book
+            .ticket(alloc, &self.library, target, answer, nonce)
+        {
             Ok(ticket) => {
                 self.nonces = nonces;
                 Ok(ticket)

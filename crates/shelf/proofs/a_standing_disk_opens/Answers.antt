@@ -1,4 +1,4 @@
-use Rattle.shelf.proofs.Openings.{standing_opens}
+use Rattle.shelf.proofs.Crashes.{standing_opens}
 use Rattle.shelf.proofs.a_standing_disk_opens.Goals as goal
 
 pub returns : goal.returns

@@ -1,147 +1,90 @@
-use Rattle.std.proofs.Common.{inr, ◌≡◌, ◌++◌, ◌∷◌, [], List, ℕ, sym, ◌∙◌, ap, subst, arith, None}
+use Rattle.std.proofs.Common.{◌≡◌, ◌∙◌, IsTrue, subst}
 use Rattle.script_nodes.specs.Views.{scripts_of}
-use Rattle.page_journal.specs.Records.{stored}
-use Rattle.page_journal.specs.Settled.{bodies_in, length_of}
-use Rattle.journal_records.specs.Records.{begun_length}
-use Rattle.journal_spec.specs.Before.{state_at}
-use Rattle.journal_spec.specs.Making.{nothing, begun, book_of}
-use Rattle.journal_spec.specs.Standing.{IsBook, Makes}
-use Rattle.journal_spec.specs.Keeping.{first_body}
+use Rattle.page_journal.specs.Settled.{length_of}
+use Rattle.journal_spec.specs.Making.{nothing}
 use Rattle.book_recovery.specs.declared.found.Found.{Found}
-use Rattle.book_recovery.specs.Found.{Finds, IsFoundInOrder, book_with}
-use Rattle.shelf.proofs.Openings.{none_read, nine, empty_in_order, begun_book, begun_fit, found_fit, found_begun, found_told}
-use Rattle.page_journal.proofs.Mending.{leaves_then}
-use Rattle.shelf.specs.Owning.{HoldsOwnRecords}
-use Rattle.shelf.proofs.OwnOpenings.{read_moments, begun_records}
+use Rattle.book_recovery.specs.Found.{Finds, HasStates}
+use Rattle.shelf.specs.Opening.{making_of}
+use Rattle.shelf.specs.declared.begin.BeginFault.TheVariants as fault
+use Rattle.shelf.proofs.Reading.{making_same, own_after, read_refused, opens_after}
+use Rattle.shelf.proofs.Beginning.{refused_opens, fresh_opens, fresh_own}
 use Rattle.shelf.proofs.begin.open.Goals as goal
 
-pub returns-in-Made-clause-begun : goal.returns-in-Made-clause-begun
-returns-in-Made-clause-begun g c = λ told.
-    let ss = scripts_of c.args.setup.now in
+pub returns-in_default-clause-opened : goal.returns-in_default-clause-opened
+returns-in_default-clause-opened g c =
+    read_refused g.D.Disk.view g.D.Disk.tells (scripts_of c.args.setup.now) c.args.number c.args.journal.now c.read_book.new.journal c.requires.settled c.read_book.ensures.quiet fault.DiskFault (λ told. tt) (λ e. c.in_default.ensures.cause)
+
+pub returns-in-Damaged-clause-opened : goal.returns-in-Damaged-clause-opened
+returns-in-Damaged-clause-opened g c =
+    let n = c.args.number in
     let j = c.args.journal.now in
-    let m = book_of ss c.args.number (bodies_in g.D.Disk.view j) in
-    let finds = subst (λ (f : Found). Finds ss c.args.number (length_of j) f m) c.in-Made.is (c.in-Ok.ensures.found told) in
-    subst (λ (n : ℕ). IsBook (begun ss c.args.number m) (book_with ss n c.in-Made.book)) (sym c.read_book.ensures.len) (found_begun ss c.args.number m (book_with ss (length_of j) c.in-Made.book) finds.book)
+    read_refused g.D.Disk.view g.D.Disk.tells (scripts_of c.args.setup.now) n j c.read_book.new.journal c.requires.settled c.read_book.ensures.quiet (fault.Damaged c.in-Damaged.place)
+    (λ told. subst (λ (f : Found). Finds n (length_of j) f (making_of g.D.Disk.view n j)) c.in-Damaged.is (c.in-Ok.ensures.found told)) (λ e. absurd (let no : ⊥ = cc e in no))
 
-pub returns-in-Made-clause-fit : goal.returns-in-Made-clause-fit
-returns-in-Made-clause-fit g c = λ told.
-    let ss = scripts_of c.args.setup.now in
+pub returns-in-Other-clause-opened : goal.returns-in-Other-clause-opened
+returns-in-Other-clause-opened g c =
+    let n = c.args.number in
     let j = c.args.journal.now in
-    let new = c.read_book.new.journal in
-    let view = g.D.Disk.view in
-    let m = book_of ss c.args.number (bodies_in view j) in
-    let finds = subst (λ (f : Found). Finds ss c.args.number (length_of j) f m) c.in-Made.is (c.in-Ok.ensures.found told) in
-    let bodies : bodies_in view j ≡ bodies_in view new = ap stored (sym c.read_book.ensures.quiet.seen) in
-    let order = subst (λ (f : Found). IsFoundInOrder ss c.args.number f) c.in-Made.is c.in-Ok.ensures.in_order in
-    let makes : Makes ss c.args.number (bodies_in view new) (book_with ss (length_of new) c.in-Made.book) =
-    subst (λ (bs : List (List ℕ)). Makes ss c.args.number bs (book_with ss (length_of new) c.in-Made.book)) bodies (subst (λ (n : ℕ). Makes ss c.args.number (bodies_in view j) (book_with ss n c.in-Made.book)) (sym c.read_book.ensures.len) finds.book) in
-    found_fit view ss c.args.number new (book_with ss (length_of new) c.in-Made.book) c.records_are_exact.ensures c.scripts_are_whole.ensures (c.read_book.ensures.settled told) makes (order.again (length_of new))
+    read_refused g.D.Disk.view g.D.Disk.tells (scripts_of c.args.setup.now) n j c.read_book.new.journal c.requires.settled c.read_book.ensures.quiet (fault.Other c.in-Other.place)
+    (λ told. subst (λ (f : Found). Finds n (length_of j) f (making_of g.D.Disk.view n j)) c.in-Other.is (c.in-Ok.ensures.found told)) (λ e. absurd (let no : ⊥ = cc e in no))
 
-pub returns-in-Ok-start-clause-begun : goal.returns-in-Ok-start-clause-begun
-returns-in-Ok-start-clause-begun g c = λ told.
-    let ss = scripts_of c.args.setup.now in
-    let j = c.args.journal.now in
-    let view = g.D.Disk.view in
-    let m = book_of ss c.args.number (bodies_in view j) in
-    let none : m ≡ nothing = subst (λ (f : Found). Finds ss c.args.number (length_of j) f m) c.in-Nothing.is (c.in-Ok.ensures.found told) in
-    let at_first = nine view j (c.requires.settled told) (none_read ss c.args.number (bodies_in view j) none) in
-    let long : length_of c.start.new.journal ≡ begun_length c.args.number ss = omega (arith, c.in-Ok-start.ensures.len, c.read_book.ensures.len, at_first) in
-    begun_book ss c.args.number c.empty.result c.empty.ensures.book (length_of c.start.new.journal) long m none
+pub returns-in-Memory-clause-opened : goal.returns-in-Memory-clause-opened
+returns-in-Memory-clause-opened g c =
+    read_refused g.D.Disk.view g.D.Disk.tells (scripts_of c.args.setup.now) c.args.number c.args.journal.now c.read_book.new.journal c.requires.settled c.read_book.ensures.quiet fault.Memory (λ told. tt)
+    (λ e. absurd (let no : ⊥ = cc e in no))
 
-pub returns-in-Ok-start-clause-fit : goal.returns-in-Ok-start-clause-fit
-returns-in-Ok-start-clause-fit g c = λ told.
-    let ss = scripts_of c.args.setup.now in
-    let j = c.args.journal.now in
-    let view = g.D.Disk.view in
-    let m = book_of ss c.args.number (bodies_in view j) in
-    let none : m ≡ nothing = subst (λ (f : Found). Finds ss c.args.number (length_of j) f m) c.in-Nothing.is (c.in-Ok.ensures.found told) in
-    let nothing_there = none_read ss c.args.number (bodies_in view j) none in
-    let at_first = nine view j (c.requires.settled told) nothing_there in
-    let long : length_of c.start.new.journal ≡ begun_length c.args.number ss = omega (arith, c.in-Ok-start.ensures.len, c.read_book.ensures.len, at_first) in
-    let both = c.in-Ok-start.ensures.bodies told in
-    let bodies : bodies_in view c.start.new.journal ≡ first_body ss c.args.number ∷ [] =
-    both.1 ∙ ap (λ (bs : List (List ℕ)). bs ++ first_body ss c.args.number ∷ []) (ap stored c.read_book.ensures.quiet.seen ∙ nothing_there) in
-    begun_fit ss c.args.number c.empty.result c.empty.ensures.book (length_of c.start.new.journal) long view c.start.new.journal c.records_are_exact.ensures c.scripts_are_whole.ensures c.requires.begins both.0 bodies
+pub returns-in-Ok-go_on-clause-opened : goal.returns-in-Ok-go_on-clause-opened
+returns-in-Ok-go_on-clause-opened g c =
+    opens_after g.D.Disk.view g.D.Disk.tells (scripts_of c.args.setup.now) c.args.number c.args.journal.now c.read_book.new.journal c.requires.settled c.read_book.ensures.quiet
+    c.go_on.new.journal _ c.in-Ok-go_on.ensures.opened
 
-pub returns-in-Ok-start-clause-in_order : goal.returns-in-Ok-start-clause-in_order
-returns-in-Ok-start-clause-in_order g c =
-    let ss = scripts_of c.args.setup.now in
-    empty_in_order ss c.args.number c.empty.result c.empty.ensures.book c.scripts_are_whole.ensures (c.empty.ensures.placed ss) ((λ n. None), c.empty.ensures.told (λ n. None) ss)
+pub returns-in-Err-clause-opened : goal.returns-in-Err-clause-opened
+returns-in-Err-clause-opened g c =
+    opens_after g.D.Disk.view g.D.Disk.tells (scripts_of c.args.setup.now) c.args.number c.args.journal.now c.read_book.new.journal c.requires.settled c.read_book.ensures.quiet
+    c.go_on.new.journal _ c.in-Err.ensures.opened
 
-pub returns-in_default-clause-own_moments : goal.returns-in_default-clause-own_moments
-returns-in_default-clause-own_moments g c = λ told own.
-    read_moments g.D.Disk.view (scripts_of c.args.setup.now) c.args.number c.args.journal.now c.read_book.new.journal (c.requires.settled told) own c.read_book.ensures.quiet
+pub returns-in-Ok-go_on-clause-own : goal.returns-in-Ok-go_on-clause-own
+returns-in-Ok-go_on-clause-own g c told own =
+    let own_there = own_after g.D.Disk.view g.D.Disk.tells (scripts_of c.args.setup.now) c.args.number c.args.journal.now c.read_book.new.journal c.requires.settled c.read_book.ensures.quiet own in
+    let states = subst HasStates c.in-Made.is (c.in-Ok.ensures.states told own) in
+    c.in-Ok-go_on.ensures.own told own_there states
 
-pub returns-in-Made-clause-own_moments : goal.returns-in-Made-clause-own_moments
-returns-in-Made-clause-own_moments g c = λ told own.
-    read_moments g.D.Disk.view (scripts_of c.args.setup.now) c.args.number c.args.journal.now c.read_book.new.journal (c.requires.settled told) own c.read_book.ensures.quiet
-
-pub returns-in-Damaged-clause-own_moments : goal.returns-in-Damaged-clause-own_moments
-returns-in-Damaged-clause-own_moments g c = λ told own.
-    read_moments g.D.Disk.view (scripts_of c.args.setup.now) c.args.number c.args.journal.now c.read_book.new.journal (c.requires.settled told) own c.read_book.ensures.quiet
-
-pub returns-in-Other-clause-own_moments : goal.returns-in-Other-clause-own_moments
-returns-in-Other-clause-own_moments g c = λ told own.
-    read_moments g.D.Disk.view (scripts_of c.args.setup.now) c.args.number c.args.journal.now c.read_book.new.journal (c.requires.settled told) own c.read_book.ensures.quiet
-
-pub returns-in-Memory-clause-own_moments : goal.returns-in-Memory-clause-own_moments
-returns-in-Memory-clause-own_moments g c = λ told own.
-    read_moments g.D.Disk.view (scripts_of c.args.setup.now) c.args.number c.args.journal.now c.read_book.new.journal (c.requires.settled told) own c.read_book.ensures.quiet
-
-pub returns-in-Ok-start-clause-own_moments : goal.returns-in-Ok-start-clause-own_moments
-returns-in-Ok-start-clause-own_moments g c = λ told own.
+pub returns-in-Ok-start-clause-opened : goal.returns-in-Ok-start-clause-opened
+returns-in-Ok-start-clause-opened g c =
+    let n = c.args.number in
     let ss = scripts_of c.args.setup.now in
     let j = c.args.journal.now in
     let view = g.D.Disk.view in
-    let m = book_of ss c.args.number (bodies_in view j) in
-    let none : m ≡ nothing = subst (λ (f : Found). Finds ss c.args.number (length_of j) f m) c.in-Nothing.is (c.in-Ok.ensures.found told) in
-    let read = read_moments view ss c.args.number j c.read_book.new.journal (c.requires.settled told) own c.read_book.ensures.quiet in
-    let begun = c.start.ensures.own_moments told (ap stored c.read_book.ensures.quiet.seen ∙ none_read ss c.args.number (bodies_in view j) none) in
-    leaves_then (view j.disk) (view c.read_book.new.journal.disk) (view c.start.new.journal.disk) (HoldsOwnRecords ss c.args.number) read begun
-
-pub returns-in-Err-clause-own_moments : goal.returns-in-Err-clause-own_moments
-returns-in-Err-clause-own_moments g c = λ told own.
-    let ss = scripts_of c.args.setup.now in
-    let j = c.args.journal.now in
-    let view = g.D.Disk.view in
-    let m = book_of ss c.args.number (bodies_in view j) in
-    let none : m ≡ nothing = subst (λ (f : Found). Finds ss c.args.number (length_of j) f m) c.in-Nothing.is (c.in-Ok.ensures.found told) in
-    let read = read_moments view ss c.args.number j c.read_book.new.journal (c.requires.settled told) own c.read_book.ensures.quiet in
-    let begun = c.start.ensures.own_moments told (ap stored c.read_book.ensures.quiet.seen ∙ none_read ss c.args.number (bodies_in view j) none) in
-    leaves_then (view j.disk) (view c.read_book.new.journal.disk) (view c.start.new.journal.disk) (HoldsOwnRecords ss c.args.number) read begun
+    let j1 = c.read_book.new.journal in
+    let quiet = c.read_book.ensures.quiet in
+    let none : IsTrue g.D.Disk.tells → making_of view n j1 ≡ nothing = λ told. making_same view g.D.Disk.tells ss n j j1 c.requires.settled quiet ∙ subst (λ (f : Found). Finds n (length_of j) f (making_of view n j)) c.in-Nothing.is (c.in-Ok.ensures.found told) in
+    opens_after view g.D.Disk.tells ss n j j1 c.requires.settled quiet c.start.new.journal _
+    (fresh_opens view g.D.Disk.tells ss n j1 c.read_book.ensures.settled (g.met.D.Disk.only_now j1.disk) none c.records_are_exact.ensures c.requires.read c.scripts_are_whole.ensures c.requires.begins
+    c.start.new.journal c.empty.result c.in-Ok-start.library c.in-Ok-start.ensures.library c.empty.ensures.book c.empty.ensures.placed c.empty.ensures.told c.empty.ensures.states c.fresh_journals_are_kept.ensures
+    c.in-Ok-start.ensures.told c.in-Ok-start.ensures.full)
 
 pub returns-in-Ok-start-clause-own : goal.returns-in-Ok-start-clause-own
-returns-in-Ok-start-clause-own g c = λ told own.
+returns-in-Ok-start-clause-own g c told own =
+    let n = c.args.number in
     let ss = scripts_of c.args.setup.now in
     let j = c.args.journal.now in
     let view = g.D.Disk.view in
-    let m = book_of ss c.args.number (bodies_in view j) in
-    let none : m ≡ nothing = subst (λ (f : Found). Finds ss c.args.number (length_of j) f m) c.in-Nothing.is (c.in-Ok.ensures.found told) in
-    let bodies : bodies_in view c.start.new.journal ≡ first_body ss c.args.number ∷ [] =
-    (c.in-Ok-start.ensures.bodies told).1 ∙ ap (λ (bs : List (List ℕ)). bs ++ first_body ss c.args.number ∷ []) (ap stored c.read_book.ensures.quiet.seen ∙ none_read ss c.args.number (bodies_in view j) none) in
-    record { records = begun_records view ss c.args.number c.start.new.journal (first_body ss c.args.number) bodies; states = c.empty.ensures.states ss }
+    let j1 = c.read_book.new.journal in
+    let quiet = c.read_book.ensures.quiet in
+    let none : IsTrue g.D.Disk.tells → making_of view n j1 ≡ nothing = λ told. making_same view g.D.Disk.tells ss n j j1 c.requires.settled quiet ∙ subst (λ (f : Found). Finds n (length_of j) f (making_of view n j)) c.in-Nothing.is (c.in-Ok.ensures.found told) in
+    fresh_own view g.D.Disk.tells ss n j1 c.read_book.ensures.settled (g.met.D.Disk.only_now j1.disk) none c.records_are_exact.ensures c.requires.read c.scripts_are_whole.ensures c.requires.begins
+    c.start.new.journal c.empty.result c.in-Ok-start.library c.in-Ok-start.ensures.library c.empty.ensures.book c.empty.ensures.placed c.empty.ensures.told c.empty.ensures.states c.fresh_journals_are_kept.ensures
+    c.in-Ok-start.ensures.told c.in-Ok-start.ensures.full told
 
-pub returns-in-Made-clause-told : goal.returns-in-Made-clause-told
-returns-in-Made-clause-told g c = λ told.
-    let ss = scripts_of c.args.setup.now in
-    let j = c.args.journal.now in
-    let new = c.read_book.new.journal in
-    let view = g.D.Disk.view in
-    let m = book_of ss c.args.number (bodies_in view j) in
-    let finds = subst (λ (f : Found). Finds ss c.args.number (length_of j) f m) c.in-Made.is (c.in-Ok.ensures.found told) in
-    let bodies : bodies_in view new ≡ bodies_in view j = ap stored c.read_book.ensures.quiet.seen in
-    found_told view ss c.args.number (length_of j) new m c.in-Made.book (ap (book_of ss c.args.number) bodies) finds
-
-pub returns-in-Ok-start-clause-told : goal.returns-in-Ok-start-clause-told
-returns-in-Ok-start-clause-told g c = λ told m is. c.empty.ensures.told (λ n. state_at n m.earlier.states) (scripts_of c.args.setup.now)
-
-pub returns-in-Ok-start-clause-keeps : goal.returns-in-Ok-start-clause-keeps
-returns-in-Ok-start-clause-keeps g c = λ told no.
+pub returns-in-Err-start-clause-opened : goal.returns-in-Err-start-clause-opened
+returns-in-Err-start-clause-opened g c =
+    let n = c.args.number in
     let ss = scripts_of c.args.setup.now in
     let j = c.args.journal.now in
     let view = g.D.Disk.view in
-    let m = book_of ss c.args.number (bodies_in view j) in
-    let none : m ≡ nothing = subst (λ (f : Found). Finds ss c.args.number (length_of j) f m) c.in-Nothing.is (c.in-Ok.ensures.found told) in
-    let nothing_there = none_read ss c.args.number (bodies_in view j) none in
-    let both = c.in-Ok-start.ensures.bodies told in
-    inr (nothing_there, both.0, both.1 ∙ ap (λ (bs : List (List ℕ)). bs ++ first_body ss c.args.number ∷ []) (ap stored c.read_book.ensures.quiet.seen ∙ nothing_there))
+    let j1 = c.read_book.new.journal in
+    let quiet = c.read_book.ensures.quiet in
+    let none : IsTrue g.D.Disk.tells → making_of view n j1 ≡ nothing = λ told. making_same view g.D.Disk.tells ss n j j1 c.requires.settled quiet ∙ subst (λ (f : Found). Finds n (length_of j) f (making_of view n j)) c.in-Nothing.is (c.in-Ok.ensures.found told) in
+    opens_after view g.D.Disk.tells ss n j j1 c.requires.settled quiet c.start.new.journal _
+    (refused_opens view g.D.Disk.tells ss n j1 c.read_book.ensures.settled (g.met.D.Disk.only_now j1.disk) none c.records_are_exact.ensures c.requires.read c.scripts_are_whole.ensures c.requires.begins
+    c.start.new.journal c.in-Err-start.fault c.in-Err-start.ensures.told c.in-Err-start.ensures.full)

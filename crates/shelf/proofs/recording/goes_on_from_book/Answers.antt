@@ -1,21 +1,21 @@
-use Rattle.std.proofs.Common.{Option, IfSome, subst, sym}
-use Rattle.instance_book.specs.declared.prepared.Change.{Change}
-use Rattle.instance_book.specs.declared.ticket.Ticket.{Ticket}
-use Rattle.instance_book.specs.Told.{AnswersGiven}
+use Rattle.std.proofs.Common.{◌∙◌, ℕ, Option, subst, sym}
+use Rattle.std.specs.Prelude.{IfSome}
+use Rattle.script_nodes.specs.Views.{library_of}
+use Rattle.machine_states.specs.declared.segment.Origin.{Origin}
+use Rattle.instance_book.specs.Before.{IsBefore}
 use Rattle.shelf.proofs.Replayed.{if_ok}
-use Rattle.shelf.specs.Recording.{GoesOnAsGiven}
-use Rattle.shelf.proofs.Written.{goes_alike}
+use Rattle.shelf.proofs.Written.{goes_from_there}
+use Rattle.shelf.specs.Recording.{GoesOnFromBook}
 use Rattle.shelf.proofs.recording.goes_on_from_book.Goals as goal
 
 pub returns : goal.returns
-returns c = if_ok c.go_on_alike.result c.go_on_alike.ensures (λ same alike goes.
-    let setup = c.args.setup.now in
+returns c =
+    let l = library_of c.args.library.now in
     let b = c.args.book.now in
     let t = c.args.ticket.now in
-    let x = c.in-Extends.extension in
-    subst (λ (change : Change). GoesOnAsGiven setup b t change) (sym c.in-Extends.is) (λ states has.
-    let given = subst (λ (o : Option Ticket). IfSome o (AnswersGiven setup b x.instance x.answered states)) c.in-Some.is (c.in_ok-there.ensures.told states has) in
-    goes_alike setup b x.instance x.answered states c.in-Some.there t (alike goes) given))
-
-pub told_answer-requires-clause-kept : goal.told_answer-requires-clause-kept
-told_answer-requires-clause-kept c = c.requires.kept
+    let n = c.in-Some.instance in
+    let m = c.in-Some.page in
+    if_ok c.goes_on_from.result c.goes_on_from.ensures (λ test h is.
+    subst (λ (o : Option (ℕ × ℕ)). IfSome o (GoesOnFromBook l b t)) (sym c.in-Some.is ∙ c.answered.ensures) (λ states has.
+    goes_from_there l b n m states c.in-Some-2.from c.in-Some-2.links t (h is)
+    (subst (λ (o : Option (Origin × ℕ)). IfSome o (λ x. IsBefore l b n m states x.0 x.1)) c.in-Some-2.is (c.in_ok-from.ensures.told states has))))

@@ -3,7 +3,7 @@ use Rattle.std.proofs.lemmas.Option.{same_Some}
 use Rattle.script_value.specs.Views.{meaning}
 use Rattle.script_nodes.specs.Arena.{Arena}
 use Rattle.script_nodes.specs.Setup.{Named}
-use Rattle.script_nodes.specs.Views.{scripts_of, named_of}
+use Rattle.script_nodes.specs.Views.{library_of, named_of}
 use Rattle.machine_states.specs.Machine.{Suspended}
 use Rattle.machine_states.specs.Views.{origin_of}
 use Rattle.send_suspend.specs.Segments.{newest, Replays}
@@ -37,9 +37,9 @@ returns-clause-visit c =
     let t = c.args.ticket.now in
     let rust = c.in-Some.named.now in
     let x = newest (meaning t.answer) t.number t.url c.args.cells.now c.args.fuel in
-    let scripts = scripts_of c.args.setup.now in
+    let all = (library_of c.args.library.now).all in
     if_ok c.uncounted.result c.uncounted.ensures (λ r is.
-    run_as scripts t rust.script c.root-root.ensures.script (named_of rust) refl (sym c.in-Some.ensures) c.effects_are_on_cells.ensures c.root-root.ensures.cells c.args.fuel c.args.cells.now r
+    run_as all t rust.script c.root-root.ensures.script (named_of rust) refl (sym c.in-Some.ensures) c.effects_are_on_cells.ensures c.root-root.ensures.cells c.args.fuel c.args.cells.now r
     (λ named found.
     let mine : named_of rust ≡ named = same_Some (named_of rust) named (c.in-Some.ensures ∙ found) in
     let arena : rust.script ≡ arena_of named.script = arena_is rust.script c.root-root.ensures.script ∙ ap (λ (n : Named). arena_of n.script) mine in

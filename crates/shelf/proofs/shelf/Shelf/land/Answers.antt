@@ -1,7 +1,6 @@
 use Rattle.std.proofs.Common.{◌≡◌, ◌∙◌, ap, sym, subst, refl, ℕ, ◌+◌, ◌<◌, ◌^◌, ◌++◌, ◌∷◌, [], List, length, arith}
 use Rattle.script_value.specs.declared.outcome.Reply.{Reply}
 use Rattle.script_value.specs.declared.outcome.Reply.TheVariants as reply
-use Rattle.script_nodes.specs.Views.{scripts_of}
 use Rattle.web_disk.specs.View.{LeavesOnly}
 use Rattle.page_journal.specs.Holding.{MayHold}
 use Rattle.page_journal.specs.Settled.{length_of, bodies_in}
@@ -9,7 +8,10 @@ use Rattle.journal_records.specs.Records.{changes, record_length}
 use Rattle.instance_book.specs.Makes.{shelf_from}
 use Rattle.instance_book.specs.Views.{reply_of, instances_of}
 use Rattle.instance_book.specs.Changes.{change_of, HasStateFrom}
-use Rattle.shelf.specs.Views.{fate_by}
+use Rattle.replay_spec.specs.Book.{changed}
+use Rattle.replay_spec.specs.Change.{with_line}
+use Rattle.shelf.specs.Files.{file_of}
+use Rattle.shelf.specs.Views.{library_in, fate_by}
 use Rattle.shelf.specs.Events.{decision_of, TellsReply}
 use Rattle.shelf.specs.Recording.{IsBody, told_in}
 use Rattle.shelf.proofs.Shelves.{some_kept}
@@ -25,20 +27,20 @@ use Rattle.shelf.proofs.shelf.Shelf.land.Goals.{In-Ok, In-Err, After-install, Af
 
 -- nothing is recorded
 
-idle : (g : _) (c : After-install g) → Publishes g.D.Disk.view g.D.Disk.tells g.N.Nonces.nonce c.args.setup.now c.args.self.now (record c.args.self.now { book = c.install.new.self }) c.args.ticket.now c.install.result
+idle : (g : _) (c : After-install g) → Publishes g.D.Disk.view g.D.Disk.tells g.N.Nonces.nonce c.args.self.now (record c.args.self.now { book = c.install.new.self }) c.args.ticket.now c.install.result
 idle g c =
     let view = g.D.Disk.view in
     let tells = g.D.Disk.tells in
-    let ss = scripts_of c.args.setup.now in
+    let l = library_in c.args.self.now in
     let s = c.args.self.now in
     let t = c.args.ticket.now in
     let p = c.args.prepared in
     let q = c.requires in
-    let is = landing.idle_book view tells ss s q.in_order t p q.up q.out q.script q.landed c.spend.new.self c.install.new.self c.spend.ensures.book c.install.ensures.book c.in_default.is in
-    spent_publishes view tells g.N.Nonces.nonce c.args.setup.now s (record s { book = c.install.new.self }) t c.install.result q.in_order c.events_are_kept.ensures (g.met.D.Disk.only_now s.journal.disk) q.out is refl refl (no_call view tells s.journal)
+    let is = landing.idle_book view tells s q.in_order t p q.up q.out q.script q.landed q.room c.spend.new.self c.install.new.self c.spend.ensures.book c.install.ensures.book c.in_default.is in
+    spent_publishes view tells g.N.Nonces.nonce s (record s { book = c.install.new.self }) t c.install.result q.in_order c.events_are_kept.ensures (g.met.D.Disk.only_now s.journal.disk) q.out is refl refl refl (no_call view tells s.journal)
     q.in_order.sound q.in_order.whole
-    (λ source all. c.install.ensures.states source ss (subst (HasStateFrom ss (shelf_from source c.spend.new.self.shelf) (instances_of ss c.spend.new.self.instances)) (sym c.in_default.is) tt) (c.spend.ensures.states source ss all))
-    (λ own. landing.idle_comes view tells ss s q.in_order t p q.up q.out q.script q.landed c.install.result c.install.ensures.reply c.in_default.is (q.decided own))
+    (λ source all. c.install.ensures.states source l.all (subst (HasStateFrom l.all (shelf_from source c.spend.new.self.shelf) (instances_of l.all c.spend.new.self.instances)) (sym c.in_default.is) tt) (c.spend.ensures.states source l.all all))
+    (λ own. landing.idle_comes view tells s q.in_order t p q.up q.out q.script q.landed q.room c.install.result c.install.ensures.reply c.in_default.is (q.decided own))
 
 pub returns-in_default-clause-event : goal.returns-in_default-clause-event
 returns-in_default-clause-event g c = (idle g c).event
@@ -61,8 +63,8 @@ returns-in_default-clause-own_moments g c = (idle g c).own_moments
 pub returns-in_default-clause-told : goal.returns-in_default-clause-told
 returns-in_default-clause-told g c own =
     let s = c.args.self.now in
-    subst (λ (x : Reply). TellsReply (decision_of c.args.setup.now s c.args.ticket.now) (reply_of x)) (sym c.install.ensures.reply)
-    (told_none (scripts_of c.args.setup.now) s.rules _ _ c.args.prepared (c.requires.decided own) c.in_default.is)
+    subst (λ (x : Reply). TellsReply (decision_of g.D.Disk.view s c.args.ticket.now) (reply_of x)) (sym c.install.ensures.reply)
+    (told_none (library_in s) s.rules _ _ c.args.prepared (c.requires.decided own) c.in_default.is)
 
 pub returns-in_default-clause-memory : goal.returns-in_default-clause-memory
 returns-in_default-clause-memory g c = (idle g c).memory
@@ -76,48 +78,43 @@ returns-in_default-clause-quiet g c = alone c.install.result (untouched (g.D.Dis
 -- what is asked of a change
 
 pub told_body-requires-clause-settled : goal.told_body-requires-clause-settled
-told_body-requires-clause-settled g c told = (c.requires.in_order.fit told).settled (landing.none_down g.D.Disk.view g.D.Disk.tells (scripts_of c.args.setup.now) c.args.self.now c.requires.in_order c.args.ticket.now c.args.prepared c.requires.up c.requires.out c.requires.script c.requires.landed)
+told_body-requires-clause-settled g c told = (c.requires.in_order.fit told).settled (landing.none_down g.D.Disk.view g.D.Disk.tells c.args.self.now c.requires.in_order c.args.ticket.now c.args.prepared c.requires.up c.requires.out c.requires.script c.requires.landed c.requires.room)
 
 pub told_body-requires-clause-states : goal.told_body-requires-clause-states
-told_body-requires-clause-states g c = some_kept (scripts_of c.args.setup.now) c.args.self.now.book c.spend.new.self c.spend.ensures.states c.requires.in_order.kept
+told_body-requires-clause-states g c = some_kept (library_in c.args.self.now).all c.args.self.now.book c.spend.new.self c.spend.ensures.states c.requires.in_order.kept
 
 pub told_body-requires-clause-placed : goal.told_body-requires-clause-placed
-told_body-requires-clause-placed g c = c.spend.ensures.placed (scripts_of c.args.setup.now) c.requires.in_order.placed
-
-pub told_body-requires-clause-byte : goal.told_body-requires-clause-byte
-told_body-requires-clause-byte g c =
-    let q = c.requires in
-    landing.of_byte g.D.Disk.view g.D.Disk.tells (scripts_of c.args.setup.now) c.args.self.now q.in_order c.args.ticket.now c.args.prepared q.up q.out q.script q.landed c.in-Some.change c.in-Some.is
+told_body-requires-clause-placed g c = c.spend.ensures.placed (library_in c.args.self.now).all c.requires.in_order.placed
 
 pub told_body-requires-clause-kept : goal.told_body-requires-clause-kept
 told_body-requires-clause-kept g c =
     let q = c.requires in
-    landing.kept_there g.D.Disk.view g.D.Disk.tells (scripts_of c.args.setup.now) c.args.self.now q.in_order c.args.ticket.now c.args.prepared q.up q.out q.script q.landed c.in-Some.change c.in-Some.is
+    landing.kept_there g.D.Disk.view g.D.Disk.tells c.args.self.now q.in_order c.args.ticket.now c.args.prepared q.up q.out q.script q.landed q.room c.in-Some.change c.in-Some.is
 
 pub told_body-requires-clause-spelled : goal.told_body-requires-clause-spelled
 told_body-requires-clause-spelled g c =
     let q = c.requires in
     let t = c.args.ticket.now in
     let nonce : t.nonce < 2 ^ 64 = omega arith in
-    landing.can_be_written g.D.Disk.view g.D.Disk.tells (scripts_of c.args.setup.now) c.args.self.now q.in_order t c.args.prepared q.up q.out q.script q.landed c.in-Some.change c.in-Some.is nonce
+    landing.can_be_written g.D.Disk.view g.D.Disk.tells c.args.self.now q.in_order t c.args.prepared q.up q.out q.script q.landed q.room c.in-Some.change c.in-Some.is nonce
 
 -- its record was not written
 
 unwritten : (g : _) (c : In-Err g)
-    → Publishes g.D.Disk.view g.D.Disk.tells g.N.Nonces.nonce c.args.setup.now c.args.self.now (record c.args.self.now { journal = c.told_body.new.journal; book = c.spend.new.self }) c.args.ticket.now c.in-Err.reply
+    → Publishes g.D.Disk.view g.D.Disk.tells g.N.Nonces.nonce c.args.self.now (record c.args.self.now { journal = c.told_body.new.journal; book = c.spend.new.self }) c.args.ticket.now c.in-Err.reply
 unwritten g c =
     let view = g.D.Disk.view in
     let tells = g.D.Disk.tells in
-    let ss = scripts_of c.args.setup.now in
+    let l = library_in c.args.self.now in
     let s = c.args.self.now in
     let t = c.args.ticket.now in
     let p = c.args.prepared in
     let q = c.requires in
     let told = c.told_body.ensures in
-    let is = landing.spent_book view tells ss s q.in_order t p q.up q.out q.script q.landed c.spend.new.self (length_of c.told_body.new.journal) c.spend.ensures.book told.len in
-    spent_publishes view tells g.N.Nonces.nonce c.args.setup.now s (record s { journal = c.told_body.new.journal; book = c.spend.new.self }) t c.in-Err.reply q.in_order c.events_are_kept.ensures (g.met.D.Disk.only_now s.journal.disk) q.out is refl refl
-    (record { settled = λ tells settled. told.settled tells; seen = told.seen; images = told.images; time = told.time }) told.sound (λ none. told.whole ∙ q.in_order.whole none) (λ source. c.spend.ensures.states source ss)
-    (λ own. landing.unwritten_comes view tells ss s q.in_order t p q.up q.out q.script q.landed c.in-Some.change c.in-Some.is own.fits (q.decided own) c.in-Err.reply c.in-Err.ensures.written)
+    let is = landing.spent_book view tells s q.in_order t p q.up q.out q.script q.landed q.room c.spend.new.self (length_of c.told_body.new.journal) c.spend.ensures.book told.len in
+    spent_publishes view tells g.N.Nonces.nonce s (record s { journal = c.told_body.new.journal; book = c.spend.new.self }) t c.in-Err.reply q.in_order c.events_are_kept.ensures (g.met.D.Disk.only_now s.journal.disk) q.out is refl refl refl
+    (record { settled = λ tells settled. told.settled tells; seen = told.seen; images = told.images; time = told.time }) told.sound (λ none. told.whole ∙ q.in_order.whole none) (λ source. c.spend.ensures.states source l.all)
+    (λ own. landing.unwritten_comes view tells s q.in_order t p q.up q.out q.script q.landed q.room c.in-Some.change c.in-Some.is own.fits (q.decided own) c.in-Err.reply c.in-Err.ensures.written)
 
 pub returns-in-Err-clause-event : goal.returns-in-Err-clause-event
 returns-in-Err-clause-event g c = (unwritten g (goal.at.returns-in-Err-clause-event g c).In-Err).event
@@ -138,7 +135,7 @@ pub returns-in-Err-clause-own_moments : goal.returns-in-Err-clause-own_moments
 returns-in-Err-clause-own_moments g c = (unwritten g (goal.at.returns-in-Err-clause-own_moments g c).In-Err).own_moments
 
 pub returns-in-Err-clause-told : goal.returns-in-Err-clause-told
-returns-in-Err-clause-told g c own = told_some (scripts_of c.args.setup.now) c.args.self.now.rules _ _ c.args.prepared (c.requires.decided own) c.in-Some.change _ c.in-Some.is
+returns-in-Err-clause-told g c own = told_some (library_in c.args.self.now) c.args.self.now.rules _ _ c.args.prepared (c.requires.decided own) c.in-Some.change _ c.in-Some.is
 
 pub returns-in-Err-clause-memory : goal.returns-in-Err-clause-memory
 returns-in-Err-clause-memory g c = (unwritten g (goal.at.returns-in-Err-clause-memory g c).In-Err).memory
@@ -166,13 +163,13 @@ pub added-requires-clause-short : goal.added-requires-clause-short
 added-requires-clause-short g c =
     let q = c.requires in
     let is = written g (goal.at.added-requires-clause-short g c).In-Ok in
-    let size = landing.long g.D.Disk.view g.D.Disk.tells (scripts_of c.args.setup.now) c.args.self.now q.in_order c.args.ticket.now c.args.prepared q.up q.out q.script q.landed c.in-Some.change c.in-Some.is c.in-Ok.body is in
+    let size = landing.long g.D.Disk.view g.D.Disk.tells c.args.self.now q.in_order c.args.ticket.now c.args.prepared q.up q.out q.script q.landed q.room c.in-Some.change c.in-Some.is c.in-Ok.body is in
     omega (arith, size, is.short.whole, c.told_body.ensures.len, ap (λ (x : List ℕ). length x) (c.as_slice.ensures ∙ is.is))
 
 -- it was added
 
 landed : (g : _) (c : After-install-in-Ok-added g)
-    → Publishes g.D.Disk.view g.D.Disk.tells g.N.Nonces.nonce c.args.setup.now c.args.self.now (record c.args.self.now { journal = c.added.new.journal; book = c.install-in-Ok-added.new.self }) c.args.ticket.now c.install-in-Ok-added.result
+    → Publishes g.D.Disk.view g.D.Disk.tells g.N.Nonces.nonce c.args.self.now (record c.args.self.now { journal = c.added.new.journal; book = c.install-in-Ok-added.new.self; file = c.visit.new.self }) c.args.ticket.now c.install-in-Ok-added.result
 landed g c =
     let view = g.D.Disk.view in
     let tells = g.D.Disk.tells in
@@ -183,7 +180,9 @@ landed g c =
     let new = c.added.new.journal in
     let body = c.in-Ok.body in
     let long : length_of new ≡ length_of s.journal + 5 + length body = omega (arith, c.in-Ok-added.ensures.len, told.len, ap (λ (x : List ℕ). length x) c.as_slice.ensures) in
-    landed_publishes view tells g.N.Nonces.nonce c.args.setup.now s q.in_order c.args.ticket.now c.args.prepared q.up q.out q.script q.landed q.plain q.shown q.decided
+    let filed : file_of view c.visit.new.self ≡ with_line (changed (change_of c.in-Some.change) (length body)) (file_of view s.file) =
+    c.visit.ensures ∙ ap (λ (n : ℕ). with_line (changed (change_of c.in-Some.change) n) (file_of view s.file)) c.len.ensures in
+    landed_publishes view tells g.N.Nonces.nonce s q.in_order c.args.ticket.now c.args.prepared q.up q.out q.script q.landed q.room q.plain q.shown q.decided
     (record {
       events = c.events_are_kept.ensures;
       between = c.events_stand_between.ensures;
@@ -195,7 +194,7 @@ landed g c =
     (record { settled = λ tells settled. told.settled tells; seen = told.seen; images = told.images; time = told.time })
     (λ tells. subst (λ (x : List ℕ). LeavesOnly (view mid.disk) (view new.disk) (MayHold (bodies_in view mid) x)) c.as_slice.ensures (c.added.ensures.any_moment tells)) c.added.ensures.sound
     (record { only_now = g.met.D.Disk.only_now s.journal.disk; counts_now = g.met.D.Disk.counts_now new.disk; reads = λ tells. g.met.D.Disk.reads_image s.journal.disk tells })
-    c.install-in-Ok-added.new.self c.install-in-Ok-added.ensures.book c.install-in-Ok-added.ensures.states c.install-in-Ok-added.result c.install-in-Ok-added.ensures.reply long c.in-Ok-added.ensures.whole
+    c.visit.new.self filed c.install-in-Ok-added.new.self c.install-in-Ok-added.ensures.book c.install-in-Ok-added.ensures.states c.install-in-Ok-added.result c.install-in-Ok-added.ensures.reply long c.in-Ok-added.ensures.whole
     (λ tells. let both = c.in-Ok-added.ensures.ok tells in (both.0, subst (λ (x : List ℕ). bodies_in view new ≡ bodies_in view mid ++ x ∷ []) c.as_slice.ensures both.1))
 
 pub returns-in-Ok-added-clause-event : goal.returns-in-Ok-added-clause-event
@@ -217,7 +216,7 @@ pub returns-in-Ok-added-clause-own_moments : goal.returns-in-Ok-added-clause-own
 returns-in-Ok-added-clause-own_moments g c = (landed g (goal.at.returns-in-Ok-added-clause-own_moments g c).After-install-in-Ok-added).own_moments
 
 pub returns-in-Ok-added-clause-told : goal.returns-in-Ok-added-clause-told
-returns-in-Ok-added-clause-told g c own = told_some (scripts_of c.args.setup.now) c.args.self.now.rules _ _ c.args.prepared (c.requires.decided own) c.in-Some.change _ c.in-Some.is
+returns-in-Ok-added-clause-told g c own = told_some (library_in c.args.self.now) c.args.self.now.rules _ _ c.args.prepared (c.requires.decided own) c.in-Some.change _ c.in-Some.is
 
 pub returns-in-Ok-added-clause-memory : goal.returns-in-Ok-added-clause-memory
 returns-in-Ok-added-clause-memory g c = (landed g (goal.at.returns-in-Ok-added-clause-memory g c).After-install-in-Ok-added).memory
@@ -228,7 +227,7 @@ returns-in-Ok-added-clause-cause g c = plain_count c.install-in-Ok-added.result 
 -- it is in doubt
 
 doubted : (g : _) (c : After-of_visit g)
-    → Publishes g.D.Disk.view g.D.Disk.tells g.N.Nonces.nonce c.args.setup.now c.args.self.now (record c.args.self.now { journal = c.added.new.journal; book = c.spend.new.self; down = c.of_visit.result }) c.args.ticket.now (reply.DiskFault c.in-Err-added.count)
+    → Publishes g.D.Disk.view g.D.Disk.tells g.N.Nonces.nonce c.args.self.now (record c.args.self.now { journal = c.added.new.journal; book = c.spend.new.self; down = c.of_visit.result }) c.args.ticket.now (reply.DiskFault c.in-Err-added.count)
 doubted g c =
     let view = g.D.Disk.view in
     let tells = g.D.Disk.tells in
@@ -237,7 +236,7 @@ doubted g c =
     let told = c.told_body.ensures in
     let mid = c.told_body.new.journal in
     let new = c.added.new.journal in
-    doubted_publishes view tells g.N.Nonces.nonce c.args.setup.now s q.in_order c.args.ticket.now c.args.prepared q.up q.out q.script q.landed q.plain q.shown q.decided
+    doubted_publishes view tells g.N.Nonces.nonce s q.in_order c.args.ticket.now c.args.prepared q.up q.out q.script q.landed q.room q.plain q.shown q.decided
     (record {
       events = c.events_are_kept.ensures;
       between = c.events_stand_between.ensures;
@@ -270,7 +269,7 @@ pub returns-clause-own_moments : goal.returns-clause-own_moments
 returns-clause-own_moments g c = (doubted g (goal.at.returns-clause-own_moments g c).After-of_visit).own_moments
 
 pub returns-clause-told : goal.returns-clause-told
-returns-clause-told g c own = told_some (scripts_of c.args.setup.now) c.args.self.now.rules _ _ c.args.prepared (c.requires.decided own) c.in-Some.change _ c.in-Some.is
+returns-clause-told g c own = told_some (library_in c.args.self.now) c.args.self.now.rules _ _ c.args.prepared (c.requires.decided own) c.in-Some.change _ c.in-Some.is
 
 pub returns-in-Ok-added-clause-quiet : goal.returns-in-Ok-added-clause-quiet
 returns-in-Ok-added-clause-quiet g c =
@@ -278,3 +277,6 @@ returns-in-Ok-added-clause-quiet g c =
     let view = g.D.Disk.view in
     subst (λ (x : Reply). LeavesDisk (view c.args.self.now.journal.disk) (view c.added.new.journal.disk) (reply_of x)) (sym c.install-in-Ok-added.ensures.reply)
     (told_page (view c.args.self.now.journal.disk) (view c.added.new.journal.disk) c.in-Some.change p.change p.reply c.in-Some.is c.requires.landed.itself.reply)
+
+pub install-requires-in-Ok-added : goal.install-requires-in-Ok-added
+install-requires-in-Ok-added g c = landing.room_same c.args.prepared.change c.args.self.now.book c.spend.new.self c.spend.ensures.instances c.requires.room

@@ -1,24 +1,20 @@
 use Rattle.std.proofs.Common.{◌≡◌, ◌∙◌, ap, sym, subst, refl, Option, Some, None, option_map, IfSome, Err, Contains}
 use Rattle.script_value.specs.declared.outcome.Reply.TheVariants as reply
-use Rattle.script_nodes.specs.Views.{scripts_of}
 use Rattle.page_names.specs.Views.{target_of}
-use Rattle.page_journal.specs.Settled.{length_of}
 use Rattle.replay_spec.specs.Book.{Book, spend}
 use Rattle.replay_spec.specs.Admission.{refusal_of, admit}
-use Rattle.replay_spec.specs.Invariant.{IsOrderly}
 use Rattle.replay_spec.specs.Step as step
 use Rattle.instance_book.specs.Admissions.{refusal_for, FitsIn}
 use Rattle.instance_book.specs.Fits.{FitsAs}
-use Rattle.instance_book.specs.Views.{book_of, ticket_of, reply_of}
-use Rattle.instance_book.specs.Prepares.{IsCarriedOut, Prepares}
+use Rattle.instance_book.specs.Views.{no_journal, book_of, ticket_of, reply_of}
+use Rattle.instance_book.specs.Prepares.{IsCarriedOut}
 use Rattle.shelf.specs.declared.doubt.Doubt as doubt_type
-use Rattle.shelf.specs.Views.{unmeasured, book_in, doubt_of, FitsNow}
-use Rattle.shelf.specs.Preparing.{Decides}
+use Rattle.shelf.specs.Views.{unmeasured, library_in, beside_of, book_in, doubt_of, FitsNow}
 use Rattle.shelf.specs.Events.{decision_of, TellsReply, no_publish}
 use Rattle.shelf.proofs.Beside.{admit_same, fits_at, holds_at, orderly_at}
 use Rattle.shelf.proofs.Steps.{replied, down_publish}
 use Rattle.shelf.proofs.Standing.{no_call}
-use Rattle.shelf.proofs.Shelves.{same_order, kept_told, some_kept, at_up}
+use Rattle.shelf.proofs.Shelves.{same_order, kept_told, some_kept}
 use Rattle.shelf.proofs.Publishing.{answered, told_answered, no_count, up_refusal, down_refusal, refused_ok, refused_err, not_refused_by, same_error}
 use Rattle.shelf.proofs.Fitting.{shown_at, landed_at}
 use Rattle.shelf.proofs.Leaving.{Publishes, spent_publishes, visit_anew, publishes_from}
@@ -33,17 +29,17 @@ down : (g : _) (c : After-spend g) → option_map doubt_of c.args.self.now.down 
 down g c = ap (λ (o : Option doubt_type.Doubt). option_map doubt_of o) c.in-Some.is
 
 turned : (g : _) (c : After-spend g)
-    → Publishes g.D.Disk.view g.D.Disk.tells g.N.Nonces.nonce c.args.setup.now c.args.self.now (record c.args.self.now { book = c.spend.new.self }) c.args.ticket (reply.Down c.in-Some.doubt.count)
+    → Publishes g.D.Disk.view g.D.Disk.tells g.N.Nonces.nonce c.args.self.now (record c.args.self.now { book = c.spend.new.self }) c.args.ticket (reply.Down c.in-Some.doubt.count)
 turned g c =
     let view = g.D.Disk.view in
     let tells = g.D.Disk.tells in
-    let ss = scripts_of c.args.setup.now in
+    let l = library_in c.args.self.now in
     let s = c.args.self.now in
     let t = c.args.ticket in
     let order = c.requires.in_order in
-    let answer = replied ss s.rules (book_in ss s) (ticket_of t) (step.down c.in-Some.doubt.count) (down_publish ss s.rules (book_in ss s) (ticket_of t) (doubt_of c.in-Some.doubt) (down g c)) in
-    spent_publishes view tells g.N.Nonces.nonce c.args.setup.now s (record s { book = c.spend.new.self }) t (reply.Down c.in-Some.doubt.count) order c.events_are_kept.ensures (g.met.D.Disk.only_now s.journal.disk) c.requires.out
-    (c.spend.ensures.book ss (length_of s.journal) (option_map doubt_of s.down)) refl refl (no_call view tells s.journal) order.sound order.whole (λ source. c.spend.ensures.states source ss) (λ own. answer)
+    let answer = replied s.rules (book_in g.D.Disk.view s) (ticket_of t) (step.down c.in-Some.doubt.count) (down_publish s.rules (book_in g.D.Disk.view s) (ticket_of t) (doubt_of c.in-Some.doubt) (down g c)) in
+    spent_publishes view tells g.N.Nonces.nonce s (record s { book = c.spend.new.self }) t (reply.Down c.in-Some.doubt.count) order c.events_are_kept.ensures (g.met.D.Disk.only_now s.journal.disk) c.requires.out
+    (c.spend.ensures.book l (beside_of view s)) refl refl refl (no_call view tells s.journal) order.sound order.whole (λ source. c.spend.ensures.states source l.all) (λ own. answer)
 
 pub returns-in-Some-clause-event : goal.returns-in-Some-clause-event
 returns-in-Some-clause-event g c = (turned g (goal.at.returns-in-Some-clause-event g c).After-spend).event
@@ -65,20 +61,20 @@ returns-in-Some-clause-own_moments g c = (turned g (goal.at.returns-in-Some-clau
 
 pub returns-in-Some-clause-refused : goal.returns-in-Some-clause-refused
 returns-in-Some-clause-refused g c =
-    let b = book_in (scripts_of c.args.setup.now) c.args.self.now in
+    let b = book_in g.D.Disk.view c.args.self.now in
     subst (λ (o : Option step.Reply). IfSome o (λ r. step.down c.in-Some.doubt.count ≡ r)) (sym (down_refusal b (target_of c.args.ticket.target) (doubt_of c.in-Some.doubt) (down g (goal.at.returns-in-Some-clause-refused g c).After-spend))) refl
 
 pub returns-in-Some-clause-none : goal.returns-in-Some-clause-none
 returns-in-Some-clause-none g c no_segment free =
-    let b = book_in (scripts_of c.args.setup.now) c.args.self.now in
+    let b = book_in g.D.Disk.view c.args.self.now in
     let told = sym (down_refusal b (target_of c.args.ticket.target) (doubt_of c.in-Some.doubt) (down g (goal.at.returns-in-Some-clause-none g c).After-spend)) ∙ free in
     absurd (let no : ⊥ = cc told in no)
 
 pub returns-in-Some-clause-held : goal.returns-in-Some-clause-held
 returns-in-Some-clause-held g c own r is held =
-    let ss = scripts_of c.args.setup.now in
+    let l = library_in c.args.self.now in
     let s = c.args.self.now in
-    let b = book_in ss s in
+    let b = book_in g.D.Disk.view s in
     let t = c.args.ticket in
     subst (λ (d : step.Decision). TellsReply d (step.down c.in-Some.doubt.count)) (sym (ap (λ (o : Option _). step.unless (step.down_by o) (step.decide (unmeasured s.rules) b (ticket_of t) (admit b (target_of t.target)))) (down g (goal.at.returns-in-Some-clause-held g c).After-spend))) refl
 
@@ -92,67 +88,67 @@ returns-in-Some-clause-quiet g c = untouched (g.D.Disk.view c.args.self.now.jour
 
 pub prepared-requires-clause-orderly : goal.prepared-requires-clause-orderly
 prepared-requires-clause-orderly g c =
-    let ss = scripts_of c.args.setup.now in
+    let l = library_in c.args.self.now in
     let s = c.args.self.now in
-    orderly_at ss s.book (length_of s.journal) 0 (subst (λ (o : Option doubt_type.Doubt). IsOrderly (book_of ss (length_of s.journal) (option_map doubt_of o) s.book)) c.in_default.is c.requires.in_order.orderly)
+    orderly_at l (beside_of g.D.Disk.view s) no_journal s.book (ap (λ (o : Option doubt_type.Doubt). option_map doubt_of o) c.in_default.is) c.requires.in_order.orderly
 
 -- it is prepared on the same book
 same_book : (g : _) (c : After-prepared g)
-    → let ss = scripts_of c.args.setup.now in let s = c.args.self.now in book_of ss (length_of s.journal) (option_map doubt_of s.down) c.prepared.new.book ≡ book_in ss s
-same_book g c = c.prepared.ensures.book (scripts_of c.args.setup.now) (length_of c.args.self.now.journal) (option_map doubt_of c.args.self.now.down)
+    → let s = c.args.self.now in book_of (library_in s) (beside_of g.D.Disk.view s) c.prepared.new.book ≡ book_in g.D.Disk.view s
+same_book g c = c.prepared.ensures.book (library_in c.args.self.now) (beside_of g.D.Disk.view c.args.self.now)
 
 pub land-requires-clause-in_order : goal.land-requires-clause-in_order
 land-requires-clause-in_order g c =
-    let ss = scripts_of c.args.setup.now in
+    let l = library_in c.args.self.now in
     let s = c.args.self.now in
-    same_order g.D.Disk.view g.D.Disk.tells ss s (record s { book = c.prepared.new.book }) c.requires.in_order (same_book g (goal.at.land-requires-clause-in_order g c).After-prepared) (some_kept ss s.book c.prepared.new.book c.prepared.ensures.states c.requires.in_order.kept) (kept_told ss s.book c.prepared.new.book c.prepared.ensures.states) refl refl refl
+    same_order g.D.Disk.view g.D.Disk.tells s (record s { book = c.prepared.new.book }) c.requires.in_order (same_book g (goal.at.land-requires-clause-in_order g c).After-prepared) (some_kept l.all s.book c.prepared.new.book c.prepared.ensures.states c.requires.in_order.kept) (kept_told l.all s.book c.prepared.new.book c.prepared.ensures.states) refl refl refl refl
 
 pub land-requires-clause-out : goal.land-requires-clause-out
 land-requires-clause-out g c = subst (λ (y : Book). Contains y.out c.args.ticket.number) (sym (same_book g (goal.at.land-requires-clause-out g c).After-prepared)) c.requires.out
 
 pub land-requires-clause-landed : goal.land-requires-clause-landed
-land-requires-clause-landed g c = landed_at (scripts_of c.args.setup.now) c.args.self.now.book c.prepared.new.book c.args.ticket c.in-Ok.prepared c.prepared.ensures.book c.in-Ok.ensures.landed
+land-requires-clause-landed g c = landed_at (library_in c.args.self.now) c.args.self.now.book c.prepared.new.book c.args.ticket c.in-Ok.prepared c.prepared.ensures.book c.in-Ok.ensures.landed
 
 -- a ticket that fits there fitted before
 fitted : (g : _) (c : After-prepared g)
-    → FitsNow c.args.setup.now (record c.args.self.now { book = c.prepared.new.book }) c.args.ticket → FitsIn c.args.setup.now c.args.self.now.book c.args.ticket.target c.args.ticket
+    → FitsNow g.D.Disk.view (record c.args.self.now { book = c.prepared.new.book }) c.args.ticket → FitsIn (library_in c.args.self.now) c.args.self.now.book c.args.ticket.target c.args.ticket
 fitted g c fits =
-    let ss = scripts_of c.args.setup.now in
+    let l = library_in c.args.self.now in
     let s = c.args.self.now in
     let t = c.args.ticket in
-    fits_at ss s.book (length_of s.journal) 0 (option_map doubt_of s.down) None t (target_of t.target) (subst (λ (y : Book). FitsAs ss y t (admit y (target_of t.target))) (same_book g c) fits)
+    fits_at l (beside_of g.D.Disk.view s) no_journal s.book t (target_of t.target) (subst (λ (y : Book). FitsAs l.all y t (admit y (target_of t.target))) (same_book g c) fits)
 
 pub land-requires-clause-shown : goal.land-requires-clause-shown
 land-requires-clause-shown g c own spelled =
-    let ss = scripts_of c.args.setup.now in
-    shown_at ss c.args.self.now.book c.prepared.new.book c.in-Ok.prepared.change (c.prepared.ensures.book ss 0 None) (c.in-Ok.ensures.shown (fitted g (goal.at.land-requires-clause-shown g c).After-prepared own.fits) spelled)
+    let l = library_in c.args.self.now in
+    shown_at l c.args.self.now.book c.prepared.new.book c.in-Ok.prepared.change (c.prepared.ensures.book l no_journal) (c.in-Ok.ensures.shown (fitted g (goal.at.land-requires-clause-shown g c).After-prepared own.fits) spelled)
 
 pub land-requires-clause-decided : goal.land-requires-clause-decided
 land-requires-clause-decided g c own =
-    let ss = scripts_of c.args.setup.now in
+    let l = library_in c.args.self.now in
     let s = c.args.self.now in
-    let l = length_of s.journal in
     let here = (goal.at.land-requires-clause-decided g c).After-prepared in
-    let P : Book → Type 0 = λ y. IsCarriedOut ss (unmeasured s.rules) y (step.publish_comes (unmeasured s.rules) y (ticket_of c.args.ticket)) c.in-Ok.prepared in
-    let decided : P (book_of ss l None s.book) = c.in-Ok.ensures.decided (fitted g here own.fits) l in
-    subst P (sym (same_book g here)) (at_up ss s P c.in_default.is decided)
+    let P : Book → Type 0 = λ y. IsCarriedOut l (unmeasured s.rules) y (step.publish_comes (unmeasured s.rules) y (ticket_of c.args.ticket)) c.in-Ok.prepared in
+    let up = ap (λ (o : Option doubt_type.Doubt). option_map doubt_of o) c.in_default.is in
+    let decided : P (book_in g.D.Disk.view s) = c.in-Ok.ensures.decided (fitted g here own.fits) (beside_of g.D.Disk.view s) up in
+    subst P (sym (same_book g here)) decided
 
 -- where there was no memory for the run of an admitted target, that is the answer
-wanting : (g : _) (c : After-prepared g) → let ss = scripts_of c.args.setup.now in let s = c.args.self.now in
-    c.args.segment ≡ None → no_publish (book_in ss s) (target_of c.args.ticket.target) ≡ None → c.prepared.result ≡ Err reply.Memory
+wanting : (g : _) (c : After-prepared g) → let s = c.args.self.now in
+    c.args.segment ≡ None → no_publish (book_in g.D.Disk.view s) (target_of c.args.ticket.target) ≡ None → c.prepared.result ≡ Err reply.Memory
 wanting g c no_segment free =
-    let ss = scripts_of c.args.setup.now in
+    let l = library_in c.args.self.now in
     let s = c.args.self.now in
-    let b = book_in ss s in
+    let b = book_in g.D.Disk.view s in
     let x = target_of c.args.ticket.target in
     let up = ap (λ (o : Option doubt_type.Doubt). option_map doubt_of o) c.in_default.is in
     let why : refusal_of (admit b x) ≡ None = not_refused_by (refusal_of (admit b x)) (sym (up_refusal b x up) ∙ free) in
-    c.prepared.ensures.none no_segment (ap refusal_of (admit_same ss s.book 0 (length_of s.journal) None (option_map doubt_of s.down) x) ∙ why)
+    c.prepared.ensures.none no_segment (ap refusal_of (admit_same (library_in s) no_journal (beside_of g.D.Disk.view s) s.book x) ∙ why)
 
-landed : (g : _) (c : After-land g) → Publishes g.D.Disk.view g.D.Disk.tells g.N.Nonces.nonce c.args.setup.now c.args.self.now c.land.new.self c.args.ticket c.land.result
+landed : (g : _) (c : After-land g) → Publishes g.D.Disk.view g.D.Disk.tells g.N.Nonces.nonce c.args.self.now c.land.new.self c.args.ticket c.land.result
 landed g c =
     let done = c.land.ensures in
-    publishes_from g.D.Disk.view g.D.Disk.tells c.args.setup.now c.args.self.now c.prepared.new.book c.prepared.ensures.book c.prepared.ensures.states c.args.ticket g.N.Nonces.nonce c.land.new.self c.land.result (record {
+    publishes_from g.D.Disk.view g.D.Disk.tells c.args.self.now c.prepared.new.book c.prepared.ensures.book c.prepared.ensures.states c.args.ticket g.N.Nonces.nonce c.land.new.self c.land.result (record {
       event = done.event;
       in_order = done.in_order;
       own = done.own;
@@ -179,14 +175,14 @@ returns-in-Ok-clause-own_moments g c = (landed g (goal.at.returns-in-Ok-clause-o
 
 pub returns-in-Ok-clause-refused : goal.returns-in-Ok-clause-refused
 returns-in-Ok-clause-refused g c =
-    let ss = scripts_of c.args.setup.now in
+    let l = library_in c.args.self.now in
     let s = c.args.self.now in
     let t = c.args.ticket in
-    let b = book_in ss s in
+    let b = book_in g.D.Disk.view s in
     let x = target_of t.target in
     let up = ap (λ (o : Option doubt_type.Doubt). option_map doubt_of o) c.in_default.is in
-    let none = refused_ok (refusal_for c.args.setup.now s.book t.target) c.prepared.result c.in-Ok.prepared c.prepared.ensures.refused c.in-Ok.is in
-    let why : refusal_of (admit b x) ≡ None = ap refusal_of (admit_same ss s.book (length_of s.journal) 0 (option_map doubt_of s.down) None x) ∙ none in
+    let none = refused_ok (refusal_for (library_in s) s.book t.target) c.prepared.result c.in-Ok.prepared c.prepared.ensures.refused c.in-Ok.is in
+    let why : refusal_of (admit b x) ≡ None = ap refusal_of (admit_same (library_in s) (beside_of g.D.Disk.view s) no_journal s.book x) ∙ none in
     if_none (no_publish b x) (λ r. reply_of c.land.result ≡ r) (up_refusal b x up ∙ ap step.refused_by why)
 
 pub returns-in-Ok-clause-none : goal.returns-in-Ok-clause-none
@@ -199,7 +195,7 @@ pub returns-in-Ok-clause-held : goal.returns-in-Ok-clause-held
 returns-in-Ok-clause-held g c own r is held =
     let s = c.args.self.now in
     subst (λ (y : Book). TellsReply (step.publish_comes (unmeasured s.rules) y (ticket_of c.args.ticket)) (reply_of c.land.result)) (same_book g (goal.at.returns-in-Ok-clause-held g c).After-prepared)
-    (c.land.ensures.told (visit_anew g.D.Disk.view g.D.Disk.tells c.args.setup.now s c.prepared.new.book c.prepared.ensures.book c.prepared.ensures.states c.args.ticket own))
+    (c.land.ensures.told (visit_anew g.D.Disk.view g.D.Disk.tells s c.prepared.new.book c.prepared.ensures.book c.prepared.ensures.states c.args.ticket own))
 
 pub returns-in-Ok-clause-memory : goal.returns-in-Ok-clause-memory
 returns-in-Ok-clause-memory g c = (landed g (goal.at.returns-in-Ok-clause-memory g c).After-land).memory
@@ -210,22 +206,22 @@ returns-in-Ok-clause-quiet g c = c.land.ensures.quiet
 -- what was refused, or found no memory
 
 refused : (g : _) (c : After-spend-in-Err g)
-    → Publishes g.D.Disk.view g.D.Disk.tells g.N.Nonces.nonce c.args.setup.now c.args.self.now (record c.args.self.now { book = c.spend-in-Err.new.self }) c.args.ticket c.in-Err.reply
+    → Publishes g.D.Disk.view g.D.Disk.tells g.N.Nonces.nonce c.args.self.now (record c.args.self.now { book = c.spend-in-Err.new.self }) c.args.ticket c.in-Err.reply
 refused g c =
     let view = g.D.Disk.view in
     let tells = g.D.Disk.tells in
-    let ss = scripts_of c.args.setup.now in
+    let l = library_in c.args.self.now in
     let s = c.args.self.now in
     let t = c.args.ticket in
-    let l = length_of s.journal in
-    let dn = option_map doubt_of s.down in
+    let here = beside_of g.D.Disk.view s in
+    let up = ap (λ (o : Option doubt_type.Doubt). option_map doubt_of o) c.in_default.is in
     let order = c.requires.in_order in
-    spent_publishes view tells g.N.Nonces.nonce c.args.setup.now s (record s { book = c.spend-in-Err.new.self }) t c.in-Err.reply order c.events_are_kept.ensures (g.met.D.Disk.only_now s.journal.disk) c.requires.out
-    (c.spend-in-Err.ensures.book ss l dn ∙ ap (spend t.number) (c.prepared.ensures.book ss l dn)) refl refl (no_call view tells s.journal) order.sound order.whole
-    (λ source all. c.spend-in-Err.ensures.states source ss (c.prepared.ensures.states source ss all))
+    spent_publishes view tells g.N.Nonces.nonce s (record s { book = c.spend-in-Err.new.self }) t c.in-Err.reply order c.events_are_kept.ensures (g.met.D.Disk.only_now s.journal.disk) c.requires.out
+    (c.spend-in-Err.ensures.book l here ∙ ap (spend t.number) (c.prepared.ensures.book l here)) refl refl refl (no_call view tells s.journal) order.sound order.whole
+    (λ source all. c.spend-in-Err.ensures.states source l.all (c.prepared.ensures.states source l.all all))
     (λ own.
-    let decided = c.in-Err.ensures.decided (fits_at ss s.book l 0 dn None t (target_of t.target) own.fits) l in
-    answered ss s.rules (book_in ss s) t c.in-Err.reply (at_up ss s (λ y. Decides ss (unmeasured s.rules) y (step.publish_comes (unmeasured s.rules) y (ticket_of t)) (Err c.in-Err.reply)) c.in_default.is decided))
+    let decided = c.in-Err.ensures.decided (fits_at l here no_journal s.book t (target_of t.target) own.fits) here up in
+    answered l s.rules (book_in g.D.Disk.view s) t c.in-Err.reply decided)
 
 pub returns-clause-event : goal.returns-clause-event
 returns-clause-event g c = (refused g (goal.at.returns-clause-event g c).After-spend-in-Err).event
@@ -247,14 +243,14 @@ returns-clause-own_moments g c = (refused g (goal.at.returns-clause-own_moments 
 
 pub returns-clause-refused : goal.returns-clause-refused
 returns-clause-refused g c =
-    let ss = scripts_of c.args.setup.now in
+    let l = library_in c.args.self.now in
     let s = c.args.self.now in
     let t = c.args.ticket in
-    let b = book_in ss s in
+    let b = book_in g.D.Disk.view s in
     let x = target_of t.target in
     let up = ap (λ (o : Option doubt_type.Doubt). option_map doubt_of o) c.in_default.is in
-    let told = refused_err (refusal_for c.args.setup.now s.book t.target) c.prepared.result c.in-Err.reply c.prepared.ensures.refused c.in-Err.is in
-    let why : refusal_for c.args.setup.now s.book t.target ≡ refusal_of (admit b x) = ap refusal_of (admit_same ss s.book 0 (length_of s.journal) None (option_map doubt_of s.down) x) in
+    let told = refused_err (refusal_for (library_in s) s.book t.target) c.prepared.result c.in-Err.reply c.prepared.ensures.refused c.in-Err.is in
+    let why : refusal_for (library_in s) s.book t.target ≡ refusal_of (admit b x) = ap refusal_of (admit_same (library_in s) no_journal (beside_of g.D.Disk.view s) s.book x) in
     subst (λ (o : Option step.Reply). IfSome o (λ r. reply_of c.in-Err.reply ≡ r)) (sym (up_refusal b x up ∙ ap step.refused_by (sym why))) told
 
 pub returns-clause-none : goal.returns-clause-none
@@ -262,15 +258,15 @@ returns-clause-none g c no_segment free = same_error c.prepared.result c.in-Err.
 
 pub returns-clause-held : goal.returns-clause-held
 returns-clause-held g c own r is held =
-    let ss = scripts_of c.args.setup.now in
+    let l = library_in c.args.self.now in
     let s = c.args.self.now in
     let t = c.args.ticket in
-    let l = length_of s.journal in
-    let dn = option_map doubt_of s.down in
-    let fits = fits_at ss s.book l 0 dn None t (target_of t.target) own.fits in
-    let here = holds_at ss s.book l 0 dn None (target_of t.target) _ held in
-    let prepares = at_up ss s (λ y. Prepares ss (unmeasured s.rules) y (step.publish_comes (unmeasured s.rules) y (ticket_of t)) (Err c.in-Err.reply)) c.in_default.is (c.in-Err.ensures.held fits r is here l) in
-    told_answered ss s.rules (book_in ss s) (decision_of c.args.setup.now s t) c.in-Err.reply prepares
+    let here = beside_of g.D.Disk.view s in
+    let up = ap (λ (o : Option doubt_type.Doubt). option_map doubt_of o) c.in_default.is in
+    let fits = fits_at l here no_journal s.book t (target_of t.target) own.fits in
+    let holds = holds_at l here no_journal s.book (target_of t.target) _ held in
+    let prepares = c.in-Err.ensures.held fits r is holds here up in
+    told_answered l s.rules (book_in g.D.Disk.view s) (decision_of g.D.Disk.view s t) c.in-Err.reply prepares
 
 pub returns-clause-memory : goal.returns-clause-memory
 returns-clause-memory g c = (refused g (goal.at.returns-clause-memory g c).After-spend-in-Err).memory

@@ -2,20 +2,19 @@ use Rattle.std.proofs.Common.{◌≡◌, ◌∙◌, ap, sym, subst, refl, ◌==�
 use Rattle.std.proofs.lemmas.Bool.Decides.{nat_tests}
 use Rattle.std.proofs.lemmas.List.Elements.{Contains-push}
 use Rattle.script_value.specs.Views.{meaning}
-use Rattle.script_nodes.specs.Views.{scripts_of}
 use Rattle.page_names.specs.Names.{Destination}
 use Rattle.page_names.specs.Views.{target_of}
 use Rattle.replay_spec.specs.Book.{Book, draw}
 use Rattle.replay_spec.specs.Admission.{refusal_of, admit}
 use Rattle.replay_spec.specs.Next as next
 use Rattle.replay_spec.specs.Step as step
-use Rattle.page_journal.specs.Settled.{length_of}
-use Rattle.journal_spec.specs.Keeping.{HasWholeScripts}
+use Rattle.journal_spec.specs.Whole.{HasWholeScripts}
 use Rattle.instance_book.specs.Fits.{FitsAs}
-use Rattle.instance_book.specs.Views.{book_of}
+use Rattle.instance_book.specs.Views.{no_journal}
+use Rattle.instance_book.specs.Admissions.{book_under}
 use Rattle.instance_book.specs.Prepares.{HasItsScript}
 use Rattle.shelf.specs.declared.doubt.Doubt as doubt_type
-use Rattle.shelf.specs.Views.{rules_of, book_in, shelf_of, doubt_of}
+use Rattle.shelf.specs.Views.{rules_of, library_in, beside_of, book_in, shelf_of, doubt_of}
 use Rattle.shelf.proofs.Beside.{admit_same, fits_at}
 use Rattle.shelf.proofs.Steps.{down_take, worn_take, refused_take, free_take, no_take, wanting_take, taken}
 use Rattle.shelf.proofs.Standing.{no_call}
@@ -27,134 +26,123 @@ use Rattle.shelf.proofs.shelf.Shelf.take.Goals as goal
 
 pub returns-in-Some-clause-event : goal.returns-in-Some-clause-event
 returns-in-Some-clause-event g c =
-    let ss = scripts_of c.args.setup.now in
     let s = c.args.self.now in
-    let b = book_in ss s in
+    let b = book_in g.D.Disk.view s in
     let d = target_of c.args.target.now in
     let v = meaning c.args.answer in
     let down = ap (λ (o : Option doubt_type.Doubt). option_map doubt_of o) c.in-Some.is in
-    let comes = no_take ss s.rules b d v (step.down c.in-Some.doubt.count) (down_take b d (doubt_of c.in-Some.doubt) down) refl in
-    quiet_event g.N.Nonces.nonce ss s s (step.take d v) (step.down c.in-Some.doubt.count) b refl refl refl (λ given. refl) comes.step
+    let comes = no_take s.rules b d v (step.down c.in-Some.doubt.count) (down_take b d (doubt_of c.in-Some.doubt) down) refl in
+    quiet_event g.D.Disk.view g.N.Nonces.nonce s s (step.take d v) (step.down c.in-Some.doubt.count) b refl refl refl (λ given. refl) comes.step
 
 pub returns-then-drawn-eq-NUMBERS-clause-event : goal.returns-then-drawn-eq-NUMBERS-clause-event
 returns-then-drawn-eq-NUMBERS-clause-event g c =
-    let ss = scripts_of c.args.setup.now in
     let s = c.args.self.now in
-    let b = book_in ss s in
+    let b = book_in g.D.Disk.view s in
     let d = target_of c.args.target.now in
     let v = meaning c.args.answer in
     let up = ap (λ (o : Option doubt_type.Doubt). option_map doubt_of o) c.in_default.is in
     let all : (b.drawn == 2 ^ 62) ≡ true = grind (arith, nat_tests, c.if-drawn-eq-NUMBERS.true, c.drawn.ensures) in
-    let comes = no_take ss s.rules b d v step.worn (worn_take b d up all) refl in
-    quiet_event g.N.Nonces.nonce ss s s (step.take d v) step.worn b refl refl refl (λ given. refl) comes.step
+    let comes = no_take s.rules b d v step.worn (worn_take b d up all) refl in
+    quiet_event g.D.Disk.view g.N.Nonces.nonce s s (step.take d v) step.worn b refl refl refl (λ given. refl) comes.step
 
 pub returns-in-Err-clause-event : goal.returns-in-Err-clause-event
 returns-in-Err-clause-event g c =
-    let ss = scripts_of c.args.setup.now in
     let s = c.args.self.now in
-    let b = book_in ss s in
+    let b = book_in g.D.Disk.view s in
     let d = target_of c.args.target.now in
     let v = meaning c.args.answer in
     let up = ap (λ (o : Option doubt_type.Doubt). option_map doubt_of o) c.in_default.is in
     let low : (b.drawn == 2 ^ 62) ≡ false = grind (arith, nat_tests, c.if-drawn-eq-NUMBERS.false, c.drawn.ensures) in
-    let why : refusal_of (admit b d) ≡ Some c.in-Err.refusal = ap refusal_of (admit_same ss s.book (length_of s.journal) 0 (option_map doubt_of s.down) None d) ∙ c.in-Err.ensures.refused in
-    let comes = no_take ss s.rules b d v (step.refusal c.in-Err.refusal) (refused_take b d c.in-Err.refusal up low why) refl in
-    quiet_event g.N.Nonces.nonce ss s s (step.take d v) (step.refusal c.in-Err.refusal) b refl refl refl (λ given. refl) comes.step
+    let why : refusal_of (admit b d) ≡ Some c.in-Err.refusal = ap refusal_of (admit_same (library_in s) (beside_of g.D.Disk.view s) no_journal s.book d) ∙ c.in-Err.ensures.refused in
+    let comes = no_take s.rules b d v (step.refusal c.in-Err.refusal) (refused_take b d c.in-Err.refusal up low why) refl in
+    quiet_event g.D.Disk.view g.N.Nonces.nonce s s (step.take d v) (step.refusal c.in-Err.refusal) b refl refl refl (λ given. refl) comes.step
 
 pub returns-in-Ok-clause-event : goal.returns-in-Ok-clause-event
 returns-in-Ok-clause-event g c =
-    let ss = scripts_of c.args.setup.now in
     let s = c.args.self.now in
-    let b = book_in ss s in
+    let b = book_in g.D.Disk.view s in
     let t = c.in-Ok.ticket in
     let d = target_of c.args.target.now in
     let v = meaning c.args.answer in
     let up = ap (λ (o : Option doubt_type.Doubt). option_map doubt_of o) c.in_default.is in
     let low : (b.drawn == 2 ^ 62) ≡ false = grind (arith, nat_tests, c.if-drawn-eq-NUMBERS.false, c.drawn.ensures) in
-    let why : refusal_of (admit b d) ≡ None = ap refusal_of (admit_same ss s.book (length_of s.journal) 0 (option_map doubt_of s.down) None d) ∙ c.in_default-admit.ensures.admitted in
+    let why : refusal_of (admit b d) ≡ None = ap refusal_of (admit_same (library_in s) (beside_of g.D.Disk.view s) no_journal s.book d) ∙ c.in_default-admit.ensures.admitted in
     let none = free_take b d up low why in
     let number : t.number ≡ b.drawn = ap (λ (x : next.Ticket). x.number) c.in-Ok.ensures.ticket in
     record {
       step = λ source given has.
           let first : g.N.Nonces.nonce s.nonces 0 ≡ source given = has 0 ∙ ap source (omega arith) in
           let nonce : t.nonce ≡ source given = ap (λ (x : next.Ticket). x.nonce) c.in-Ok.ensures.ticket ∙ (c.next-nonce.ensures.first ∙ (c.again-nonces.ensures 0 ∙ first)) in
-          let stepped : step.step (rules_of ss s.rules) b (source given) (step.take d v) step.plain ≡ (step.taken t.number t.nonce, draw b) =
-          taken ss s.rules b d v (source given) none
+          let stepped : step.step (rules_of s.rules) b (source given) (step.take d v) step.plain ≡ (step.taken t.number t.nonce, draw b) =
+          taken s.rules b d v (source given) none
           ∙ (ap (λ (n : ℕ). (step.taken n (source given), draw b)) (sym number) ∙ ap (λ (m : ℕ). (step.taken t.number m, draw b)) (sym nonce)) in
-          follows source (shelf_of ss given s) (step.take d v) (step.taken t.number t.nonce) (draw b) stepped
-          ∙ ap (λ (x : Book). (step.taken t.number t.nonce, record (shelf_of ss given s) { book = x; nonces = given + 1 })) (sym (c.in-Ok.ensures.drawn ss (length_of s.journal) (option_map doubt_of s.down)));
+          follows source (shelf_of g.D.Disk.view given s) (step.take d v) (step.taken t.number t.nonce) (draw b) stepped
+          ∙ ap (λ (x : Book). (step.taken t.number t.nonce, record (shelf_of g.D.Disk.view given s) { book = x; nonces = given + 1 })) (sym (c.in-Ok.ensures.drawn (library_in s) (beside_of g.D.Disk.view s)));
       nonces = λ source given has k. c.next-nonce.ensures.rest k ∙ (c.again-nonces.ensures (k + 1) ∙ (has (k + 1) ∙ ap source (omega arith)));
     }
 
 pub returns-in-Ok-clause-in_order : goal.returns-in-Ok-clause-in_order
 returns-in-Ok-clause-in_order g c =
-    let ss = scripts_of c.args.setup.now in
     let s = c.args.self.now in
-    let b = book_in ss s in
+    let b = book_in g.D.Disk.view s in
     let d = target_of c.args.target.now in
     let v = meaning c.args.answer in
     let up = ap (λ (o : Option doubt_type.Doubt). option_map doubt_of o) c.in_default.is in
     let low : (b.drawn == 2 ^ 62) ≡ false = grind (arith, nat_tests, c.if-drawn-eq-NUMBERS.false, c.drawn.ensures) in
-    let why : refusal_of (admit b d) ≡ None = ap refusal_of (admit_same ss s.book (length_of s.journal) 0 (option_map doubt_of s.down) None d) ∙ c.in_default-admit.ensures.admitted in
+    let why : refusal_of (admit b d) ≡ None = ap refusal_of (admit_same (library_in s) (beside_of g.D.Disk.view s) no_journal s.book d) ∙ c.in_default-admit.ensures.admitted in
     let scripts : HasWholeScripts (draw b) = record { setup = c.requires.scripts_are.setup; instances = c.requires.scripts_are.instances } in
-    quiet_order g.D.Disk.view g.D.Disk.tells ss s _ refl (draw b) (c.in-Ok.ensures.drawn ss (length_of s.journal) (option_map doubt_of s.down)) refl refl (no_call g.D.Disk.view g.D.Disk.tells s.journal)
-    c.requires (some_kept ss s.book c.ticket.new.self c.ticket.ensures.states) (kept_told ss s.book c.ticket.new.self c.ticket.ensures.states) c.requires.sound (step.take d v) step.plain (step.taken b.drawn 0) (taken ss s.rules b d v 0 (free_take b d up low why)) tt tt tt c.events_are_kept.ensures refl scripts c.requires.whole
+    quiet_order g.D.Disk.view g.D.Disk.tells s _ refl refl (draw b) (c.in-Ok.ensures.drawn (library_in s) (beside_of g.D.Disk.view s)) refl refl (no_call g.D.Disk.view g.D.Disk.tells s.journal)
+    c.requires (some_kept (library_in s).all s.book c.ticket.new.self c.ticket.ensures.states) (kept_told (library_in s).all s.book c.ticket.new.self c.ticket.ensures.states) c.requires.sound (step.take d v) step.plain (step.taken b.drawn 0) (taken s.rules b d v 0 (free_take b d up low why)) tt tt tt refl tt tt c.events_are_kept.ensures refl scripts c.requires.whole
 
 pub returns-in-Ok-clause-own : goal.returns-in-Ok-clause-own
 returns-in-Ok-clause-own g c =
-    let ss = scripts_of c.args.setup.now in
     let s = c.args.self.now in
-    let b = book_in ss s in
-    quiet_own g.D.Disk.view g.D.Disk.tells ss s _ refl (draw b) (c.in-Ok.ensures.drawn ss (length_of s.journal) (option_map doubt_of s.down)) refl refl (no_call g.D.Disk.view g.D.Disk.tells s.journal) (c.ticket.ensures.states (sources.own tt) ss)
+    let b = book_in g.D.Disk.view s in
+    quiet_own g.D.Disk.view g.D.Disk.tells s _ refl refl (draw b) (c.in-Ok.ensures.drawn (library_in s) (beside_of g.D.Disk.view s)) refl refl (no_call g.D.Disk.view g.D.Disk.tells s.journal) (c.ticket.ensures.states (sources.own tt) (library_in s).all)
 
 pub returns-in-Ok-clause-fits : goal.returns-in-Ok-clause-fits
 returns-in-Ok-clause-fits g c = λ states.
-    let ss = scripts_of c.args.setup.now in
     let s = c.args.self.now in
-    let b = book_in ss s in
+    let b = book_in g.D.Disk.view s in
     let t = c.in-Ok.ticket in
     let same : target_of t.target ≡ target_of c.args.target.now = ap (λ (x : next.Ticket). x.target) c.in-Ok.ensures.ticket in
-    let here = fits_at ss s.book 0 (length_of s.journal) None (option_map doubt_of s.down) t (target_of c.args.target.now) (c.in-Ok.ensures.fits states) in
-    fits_drawn ss b _ t (target_of t.target) (c.in-Ok.ensures.drawn ss (length_of s.journal) (option_map doubt_of s.down)) (subst (λ (d : Destination). FitsAs ss b t (admit b d)) (sym same) here)
+    let here = fits_at (library_in s) no_journal (beside_of g.D.Disk.view s) s.book t (target_of c.args.target.now) (c.in-Ok.ensures.fits states) in
+    fits_drawn (library_in s).all b _ t (target_of t.target) (c.in-Ok.ensures.drawn (library_in s) (beside_of g.D.Disk.view s)) (subst (λ (d : Destination). FitsAs (library_in s).all b t (admit b d)) (sym same) here)
 
 pub returns-in-Ok-clause-script : goal.returns-in-Ok-clause-script
 returns-in-Ok-clause-script g c =
-    let ss = scripts_of c.args.setup.now in
-    let b = book_of ss 0 None c.args.self.now.book in
+    let l = library_in c.args.self.now in
+    let b = book_under l c.args.self.now.book in
     let t = c.in-Ok.ticket in
     let d = target_of c.args.target.now in
     let same : target_of t.target ≡ d = ap (λ (x : next.Ticket). x.target) c.in-Ok.ensures.ticket in
-    subst (HasItsScript ss t) (sym same) (start_has_script ss b t d (admit b d) refl c.in_default-admit.ensures.admitted c.in-Ok.ensures.starts)
+    subst (HasItsScript l t) (sym same) (start_has_script l b t d (admit b d) refl refl c.in_default-admit.ensures.admitted c.in-Ok.ensures.starts)
 
 pub returns-in-Ok-clause-out : goal.returns-in-Ok-clause-out
 returns-in-Ok-clause-out g c =
-    let ss = scripts_of c.args.setup.now in
     let s = c.args.self.now in
-    let b = book_in ss s in
+    let b = book_in g.D.Disk.view s in
     let number : c.in-Ok.ticket.number ≡ b.drawn = ap (λ (x : next.Ticket). x.number) c.in-Ok.ensures.ticket in
-    let out : c.ticket.new.self.out.items ≡ b.out ++ b.drawn ∷ [] = ap (λ (d : Book). d.out) (c.in-Ok.ensures.drawn ss (length_of s.journal) (option_map doubt_of s.down)) in
+    let out : c.ticket.new.self.out.items ≡ b.out ++ b.drawn ∷ [] = ap (λ (d : Book). d.out) (c.in-Ok.ensures.drawn (library_in s) (beside_of g.D.Disk.view s)) in
     subst (λ (n : ℕ). Contains c.ticket.new.self.out.items n) (sym number) (subst (λ (ns : List ℕ). Contains ns b.drawn) (sym out) (Contains-push b.out b.drawn))
 
 pub returns-in-Err-ticket-clause-event : goal.returns-in-Err-ticket-clause-event
 returns-in-Err-ticket-clause-event g c =
-    let ss = scripts_of c.args.setup.now in
     let s = c.args.self.now in
-    let b = book_in ss s in
-    quiet_event g.N.Nonces.nonce ss s _ (step.take (target_of c.args.target.now) (meaning c.args.answer)) step.memory b refl refl (c.in-Err-ticket.ensures.err ss (length_of s.journal) (option_map doubt_of s.down)) (λ given. refl)
-    (wanting_take ss s.rules b (target_of c.args.target.now) (meaning c.args.answer)).step
+    let b = book_in g.D.Disk.view s in
+    quiet_event g.D.Disk.view g.N.Nonces.nonce s _ (step.take (target_of c.args.target.now) (meaning c.args.answer)) step.memory b refl refl (c.in-Err-ticket.ensures.err (library_in s) (beside_of g.D.Disk.view s)) (λ given. refl)
+    (wanting_take s.rules b (target_of c.args.target.now) (meaning c.args.answer)).step
 
 pub returns-in-Err-ticket-clause-in_order : goal.returns-in-Err-ticket-clause-in_order
 returns-in-Err-ticket-clause-in_order g c =
-    let ss = scripts_of c.args.setup.now in
     let s = c.args.self.now in
-    same_order g.D.Disk.view g.D.Disk.tells ss s _ c.requires (c.in-Err-ticket.ensures.err ss (length_of s.journal) (option_map doubt_of s.down)) (some_kept ss s.book c.ticket.new.self c.ticket.ensures.states c.requires.kept) (kept_told ss s.book c.ticket.new.self c.ticket.ensures.states) refl refl refl
+    same_order g.D.Disk.view g.D.Disk.tells s _ c.requires (c.in-Err-ticket.ensures.err (library_in s) (beside_of g.D.Disk.view s)) (some_kept (library_in s).all s.book c.ticket.new.self c.ticket.ensures.states c.requires.kept) (kept_told (library_in s).all s.book c.ticket.new.self c.ticket.ensures.states) refl refl refl refl
 
 pub returns-in-Err-ticket-clause-own : goal.returns-in-Err-ticket-clause-own
 returns-in-Err-ticket-clause-own g c =
-    let ss = scripts_of c.args.setup.now in
     let s = c.args.self.now in
-    let b = book_in ss s in
-    quiet_own g.D.Disk.view g.D.Disk.tells ss s _ refl b (c.in-Err-ticket.ensures.err ss (length_of s.journal) (option_map doubt_of s.down)) refl refl (no_call g.D.Disk.view g.D.Disk.tells s.journal) (c.ticket.ensures.states (sources.own tt) ss)
+    let b = book_in g.D.Disk.view s in
+    quiet_own g.D.Disk.view g.D.Disk.tells s _ refl refl b (c.in-Err-ticket.ensures.err (library_in s) (beside_of g.D.Disk.view s)) refl refl (no_call g.D.Disk.view g.D.Disk.tells s.journal) (c.ticket.ensures.states (sources.own tt) (library_in s).all)
 
 pub ticket-requires-clause-kept : goal.ticket-requires-clause-kept
 ticket-requires-clause-kept g c = c.requires.kept
