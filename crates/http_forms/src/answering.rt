@@ -1,4 +1,4 @@
-ghost use Rattle.std.specs.Prelude.{◌≡◌, ◌<◌, ◌^◌, ℕ, IfOk};
+ghost use Rattle.std.specs.Prelude.{◌<◌, ◌^◌, IfOk};
 ghost use Rattle.script_value.specs.Views.{meaning};
 ghost use Rattle.page_names.specs.Views.{target_of};
 ghost use Rattle.http_forms.specs.Passes.{PassRules, AreSwept, KeepsSkips, MaySkip, swept};

@@ -1,4 +1,4 @@
-ghost use Rattle.std.specs.Prelude.{◌≡◌, ◌≤◌, IfOk, length};
+ghost use Rattle.std.specs.Prelude.{◌≡◌, IfOk, length};
 ghost use Rattle.httparse.specs.Spans.{IsWithin};
 ghost use Rattle.http_forms.specs.Judged.{asked_of};
 ghost use Rattle.http_forms.specs.Outcomes.{visit_in, Is, Tells};

@@ -36,6 +36,7 @@ abbrev pub refusal_told : Refusal → Told
 refusal_told refusals.Unknown = word NotFound (codes "unknown")
 refusal_told refusals.Revoked = word Gone (codes "revoked")
 refusal_told (refusals.Closed name) = word Gone (codes "closed")
+refusal_told (refusals.Evicted successor) = word Gone (codes "evicted")
 refusal_told (refusals.Expired deadline) = word Gone (codes "expired")
 
 -- what a reply says
@@ -47,7 +48,6 @@ told (reply.Refused refusal) = refusal_told refusal
 told (reply.Fault fault) = word InternalServerError (fault_word fault)
 told (reply.Fuel cost) = word ServiceUnavailable (codes "fuel")
 told (reply.ShelfFull count) = word ServiceUnavailable (codes "shelf-full")
-told (reply.InstanceFull count) = word ServiceUnavailable (codes "instance-full")
 told (reply.Oversize size) = word InternalServerError (codes "oversize")
 told (reply.JournalFull size) = word ServiceUnavailable (codes "journal-full")
 told (reply.DiskFault count) = word ServiceUnavailable (codes "disk")

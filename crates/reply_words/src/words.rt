@@ -27,7 +27,6 @@ impl<'a> Told<'a> {
             Reply::Fault(fault) => Told::Word(ReplyStatus::InternalServerError, fault_word(*fault)),
             Reply::Fuel(_) => Told::Word(ReplyStatus::ServiceUnavailable, "fuel"),
             Reply::ShelfFull(_) => Told::Word(ReplyStatus::ServiceUnavailable, "shelf-full"),
-            Reply::InstanceFull(_) => Told::Word(ReplyStatus::ServiceUnavailable, "instance-full"),
             Reply::Oversize(_) => Told::Word(ReplyStatus::InternalServerError, "oversize"),
             Reply::JournalFull(_) => Told::Word(ReplyStatus::ServiceUnavailable, "journal-full"),
             Reply::DiskFault(_) => Told::Word(ReplyStatus::ServiceUnavailable, "disk"),
@@ -45,6 +44,7 @@ fn refusal_told(refusal: Refusal) -> Told<'static>
         Refusal::Unknown => Told::Word(ReplyStatus::NotFound, "unknown"),
         Refusal::Revoked => Told::Word(ReplyStatus::Gone, "revoked"),
         Refusal::Closed(_) => Told::Word(ReplyStatus::Gone, "closed"),
+        Refusal::Evicted(_) => Told::Word(ReplyStatus::Gone, "evicted"),
         Refusal::Expired(_) => Told::Word(ReplyStatus::Gone, "expired"),
     }
 }

@@ -1,4 +1,4 @@
-ghost use Rattle.std.specs.Prelude.{◌≡◌, ◌≤◌, ℕ, option_map, IfOk};
+ghost use Rattle.std.specs.Prelude.{◌≡◌, option_map, IfOk};
 ghost use Rattle.script_value.specs.Views.{meaning};
 ghost use Rattle.page_names.specs.Views.{target_of};
 ghost use Rattle.request_workers.specs.Scenes.{IsLater};

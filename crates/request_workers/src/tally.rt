@@ -1,4 +1,4 @@
-ghost use Rattle.std.specs.Prelude.{◌≡◌, ◌≤◌, ◌<◌, ◌+◌, ◌^◌, ℕ};
+ghost use Rattle.std.specs.Prelude.{◌≡◌, ◌≤◌, ◌<◌, ◌+◌};
 ghost use Rattle.request_workers.specs.Counting as spec;
 ghost use Rattle.request_workers.specs.Linking.{links_count};
 ghost use Rattle.request_workers.specs.Tallies.{count_of, IsBelow};

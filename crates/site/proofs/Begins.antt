@@ -1,16 +1,16 @@
 -- Shelves that are opened one after another, and handed back.
-use Rattle.std.proofs.Common.{◌≡◌, ◌≢◌, inl, ℕ, zero, suc, ◌<◌, ◌+◌, ◌-◌, Bool, List, [], ◌∷◌, ◌++◌, length, length-append, map, reverse, Some, slice_get, IsTrue, refl, ap, sym, ◌∙◌, subst, arith}
+use Rattle.std.proofs.Common.{◌≡◌, ◌≢◌, inl, inr, ℕ, zero, suc, ◌<◌, ◌+◌, ◌-◌, Bool, List, [], ◌∷◌, ◌++◌, length, length-append, map, reverse, Some, slice_get, IsTrue, refl, ap, sym, ◌∙◌, subst, arith}
+use Rattle.std.specs.Prelude.{option_map}
 use Rattle.std.specs.List.{AllZip}
 use Rattle.std.proofs.lemmas.List.{append-nil, reverse-reverse}
 use Rattle.std.proofs.lemmas.Option.{slice_get_within}
 use Rattle.web_disk.specs.View.{View}
 use Rattle.web_disk.proofs.Moments.{started}
-use Rattle.journal_spec.specs.Standing.{Held}
+use Rattle.journal_spec.specs.Standing.{HeldOpened}
 use Rattle.script_nodes.specs.Setup.{Named}
-use Rattle.script_nodes.specs.declared.setup.Setup.{Setup}
-use Rattle.script_nodes.specs.Views.{scripts_of}
+use Rattle.script_nodes.specs.Views.{library_of}
 use Rattle.web_outside.specs.Causes.{Rose}
-use Rattle.shelf.specs.Opening.{IsFaultOf, KeepsRecords}
+use Rattle.shelf.specs.Opening.{IsFaultOf}
 use Rattle.shelf.specs.Owning.{HoldsOwnRecords}
 use Rattle.shelf.specs.Views.{book_in}
 use Rattle.shelf.specs.declared.begin.BeginFault.{BeginFault}
@@ -27,7 +27,7 @@ use Rattle.site.specs.declared.kept.KeptShelf.{KeptShelf}
 use Rattle.site.specs.declared.opening.Opening.{Opening}
 use Rattle.site.specs.declared.site.Site.{Site}
 use Rattle.site.specs.Passes.{Spots}
-use Rattle.site.specs.Beginnings.{rules_for, IsOpenedOn, IsBegun, IsFreshOn, AreFreshOn, IsReturned, IsUnopened, AreUnopened, IsUnder, IsWhole, IsFirstPass, given_out, most_passes}
+use Rattle.site.specs.Beginnings.{AreCopies, LosesNothing, rules_for, IsOpenedOn, IsBegun, IsFreshOn, AreFreshOn, IsReturned, IsUnopened, AreUnopened, IsUnder, IsWhole, IsFirstPass, given_out, most_passes}
 
 module _ {A : Type 0} where
   pub at_here : (xs : List A) (x : A) (rest : List A) → slice_get (xs ++ x ∷ rest) (length xs) ≡ Some x
@@ -73,13 +73,16 @@ module _ {D : Type 0} (view : D → View) (tells : Bool) (scripts : List Named) 
   -- a disk that nothing was done to
   pub returned_same : OnlyNow → (k : ℕ) (d : D) → IsReturned view tells scripts k d d
   returned_same only_now k d = record {
-    any_moment = λ told before after between hold. started (view d) (Held between) (λ image left. hold image (only_now d image left));
-    own_moments = λ told own. started (view d) (HoldsOwnRecords scripts k) (λ image left. (own.0, own.1 image (only_now d image left)));
+    any_moment = λ told before after between hold. record {
+      moments = started (view d) (HeldOpened between scripts) (λ image left. inl (hold image (only_now d image left)));
+      stands = inl hold;
+    };
+    own_moments = λ told own. started (view d) (HoldsOwnRecords k) (λ image left. (own.0, own.1 image (only_now d image left)));
     later = omega arith;
   }
 
-  kept_same : (k : ℕ) (d : D) → KeepsRecords scripts k (view d) (view d)
-  kept_same k d = inl (refl, λ image left. left)
+  kept_same : (k : ℕ) (d : D) → LosesNothing scripts k (view d) (view d)
+  kept_same k d = inl (inl (refl, (refl, λ image left. left)))
 
   -- so disks that nothing was done to are handed back
   pub unopened_none : OnlyNow → (disks : List D) → 0 < length disks → AreUnopened view tells scripts disks disks 0 Memory
@@ -92,55 +95,55 @@ module _ {D : Type 0} (view : D → View) (tells : Bool) (scripts : List Named) 
     earlier = λ told k d lt e. absurd (omega arith);
     why = λ told d e. tt;
     cause = λ no. absurd (let other : ⊥ = cc no in other);
-    keep = λ told k d e d_is e_is sound. subst (λ (z : D). KeepsRecords scripts k (view d) (view z)) (one_of (sym d_is ∙ e_is)) (kept_same k d);
+    keep = λ told k d e d_is e_is sound. subst (λ (z : D). LosesNothing scripts k (view d) (view z)) (one_of (sym d_is ∙ e_is)) (kept_same k d);
   }
 
-module _ {D N : Type 0} (view : D → View) (tells : Bool) (coming : N → ℕ → ℕ) (setup : Setup) (rules : Rules) where
-  returned_opened : (k : ℕ) (d : D) (n : N) (s : KeptShelf D N) → IsFreshOn view tells coming setup (rules_for rules k) d n s → IsReturned view tells (scripts_of setup) k d (disk_in s)
+module _ {D N : Type 0} (view : D → View) (tells : Bool) (coming : N → ℕ → ℕ) (scripts : List Named) (rules : Rules) where
+  returned_opened : (k : ℕ) (d : D) (n : N) (s : KeptShelf D N) → IsFreshOn view tells coming scripts (rules_for rules k) d n s → IsReturned view tells scripts k d (disk_in s)
   returned_opened k d n s fresh = record { any_moment = fresh.shelf.any_moment; own_moments = fresh.shelf.own_moments; later = fresh.shelf.later }
 
   -- one more was opened
-  pub fresh_on : (disks : List D) (nonces : List N) (ks : List (KeptShelf D N)) (number : ℕ) (d : D) (n : N) (s : KeptShelf D N) → AreFreshOn view tells coming setup rules disks nonces ks → length ks ≡ number
-      → slice_get disks number ≡ Some d → slice_get nonces number ≡ Some n → IsFreshOn view tells coming setup (rules_for rules number) d n s → AreFreshOn view tells coming setup rules disks nonces (ks ++ s ∷ [])
+  pub fresh_on : (disks : List D) (nonces : List N) (ks : List (KeptShelf D N)) (number : ℕ) (d : D) (n : N) (s : KeptShelf D N) → AreFreshOn view tells coming scripts rules disks nonces ks → length ks ≡ number
+      → slice_get disks number ≡ Some d → slice_get nonces number ≡ Some n → IsFreshOn view tells coming scripts (rules_for rules number) d n s → AreFreshOn view tells coming scripts rules disks nonces (ks ++ s ∷ [])
   fresh_on disks nonces ks number d n s fresh many d_is n_is new k x m z x_is m_is z_is =
       snoc_each K ks s (λ i y e a b a_is b_is. fresh i a b y a_is b_is e) here k z z_is x m x_is m_is
     where
       K : ℕ → KeptShelf D N → Type 0
-      K i y = (a : D) (b : N) → slice_get disks i ≡ Some a → slice_get nonces i ≡ Some b → IsFreshOn view tells coming setup (rules_for rules i) a b y
+      K i y = (a : D) (b : N) → slice_get disks i ≡ Some a → slice_get nonces i ≡ Some b → IsFreshOn view tells coming scripts (rules_for rules i) a b y
 
       here : K (length ks) s
       here = subst (λ (i : ℕ). K i s) (sym many) (λ a b a_is b_is.
-          subst (λ (w : D). IsFreshOn view tells coming setup (rules_for rules number) w b s) (one_of (sym d_is ∙ a_is))
-          (subst (λ (w : N). IsFreshOn view tells coming setup (rules_for rules number) d w s) (one_of (sym n_is ∙ b_is)) new))
+          subst (λ (w : D). IsFreshOn view tells coming scripts (rules_for rules number) w b s) (one_of (sym d_is ∙ a_is))
+          (subst (λ (w : N). IsFreshOn view tells coming scripts (rules_for rules number) d w s) (one_of (sym n_is ∙ b_is)) new))
 
   -- the same of lists that were turned
   pub turned_fresh : (disks turned_d : List D) (nonces turned_n : List N) (ks : List (KeptShelf D N)) → turned_d ≡ reverse disks → turned_n ≡ reverse nonces
-      → AreFreshOn view tells coming setup rules (reverse turned_d) (reverse turned_n) ks → AreFreshOn view tells coming setup rules disks nonces ks
+      → AreFreshOn view tells coming scripts rules (reverse turned_d) (reverse turned_n) ks → AreFreshOn view tells coming scripts rules disks nonces ks
   turned_fresh disks turned_d nonces turned_n ks d_is n_is fresh =
-      subst (λ (l : List D). AreFreshOn view tells coming setup rules l nonces ks) (ap reverse d_is ∙ reverse-reverse disks)
-      (subst (λ (l : List N). AreFreshOn view tells coming setup rules (reverse turned_d) l ks) (ap reverse n_is ∙ reverse-reverse nonces) fresh)
+      subst (λ (l : List D). AreFreshOn view tells coming scripts rules l nonces ks) (ap reverse d_is ∙ reverse-reverse disks)
+      (subst (λ (l : List N). AreFreshOn view tells coming scripts rules (reverse turned_d) l ks) (ap reverse n_is ∙ reverse-reverse nonces) fresh)
 
-  module _ (disks : List D) (nonces : List N) (ks : List (KeptShelf D N)) (long : length nonces ≡ length disks) (fresh : AreFreshOn view tells coming setup rules disks nonces ks) where
+  module _ (disks : List D) (nonces : List N) (ks : List (KeptShelf D N)) (long : length nonces ≡ length disks) (fresh : AreFreshOn view tells coming scripts rules disks nonces ks) where
     -- the shelf of a place, of those that were opened
-    fresh_at : (k : ℕ) (d : D) (s : KeptShelf D N) → slice_get disks k ≡ Some d → slice_get ks k ≡ Some s → (n : N) × IsFreshOn view tells coming setup (rules_for rules k) d n s
+    fresh_at : (k : ℕ) (d : D) (s : KeptShelf D N) → slice_get disks k ≡ Some d → slice_get ks k ≡ Some s → (n : N) × IsFreshOn view tells coming scripts (rules_for rules k) d n s
     fresh_at k d s d_is s_is =
         let within = slice_get_within disks k d d_is in
         let n = get_there nonces k (omega arith) in (n.0, fresh k d n.0 s d_is n.1 s_is)
 
-    returned_at : (k : ℕ) (d e : D) → slice_get disks k ≡ Some d → slice_get (map disk_in ks) k ≡ Some e → IsReturned view tells (scripts_of setup) k d e
+    returned_at : (k : ℕ) (d e : D) → slice_get disks k ≡ Some d → slice_get (map disk_in ks) k ≡ Some e → IsReturned view tells scripts k d e
     returned_at k d e d_is e_is =
         let s = map_get disk_in ks k e e_is in
         let f = fresh_at k d s.0 d_is s.1 in
-        subst (IsReturned view tells (scripts_of setup) k d) s.2 (returned_opened k d f.0 s.0 f.1)
+        subst (IsReturned view tells scripts k d) s.2 (returned_opened k d f.0 s.0 f.1)
 
-    keeps_at : IsTrue tells → (k : ℕ) (d e : D) → slice_get disks k ≡ Some d → slice_get (map disk_in ks) k ≡ Some e → KeepsRecords (scripts_of setup) k (view d) (view e)
+    keeps_at : IsTrue tells → (k : ℕ) (d e : D) → slice_get disks k ≡ Some d → slice_get (map disk_in ks) k ≡ Some e → LosesNothing scripts k (view d) (view e)
     keeps_at told k d e d_is e_is =
         let s = map_get disk_in ks k e e_is in
         let f = fresh_at k d s.0 d_is s.1 in
-        subst (λ (z : D). KeepsRecords (scripts_of setup) k (view d) (view z)) s.2 (f.1.shelf.keeps told)
+        subst (λ (z : D). LosesNothing scripts k (view d) (view z)) s.2 (inr (f.1.shelf.keeps told))
 
     -- all were opened, and are handed back
-    pub unopened_after : length ks ≡ length disks → 0 < length disks → AreUnopened view tells (scripts_of setup) disks (map disk_in ks) 0 Memory
+    pub unopened_after : length ks ≡ length disks → 0 < length disks → AreUnopened view tells scripts disks (map disk_in ks) 0 Memory
     unopened_after many some = record {
       returned = record { many = map_length disk_in ks ∙ many; each = returned_at };
       within = some;
@@ -161,15 +164,15 @@ module _ {D N : Type 0} (view : D → View) (tells : Bool) (coming : N → ℕ �
         sym s.2 ∙ (fresh k d.0 y s.0 d.1 y_is s.1).shelf.nonces_are)
 
     -- the shelf at a place
-    pub fresh_there : length ks ≡ length disks → (k : ℕ) (s : KeptShelf D N) → slice_get ks k ≡ Some s → (d : D) × (n : N) × IsFreshOn view tells coming setup (rules_for rules k) d n s
+    pub fresh_there : length ks ≡ length disks → (k : ℕ) (s : KeptShelf D N) → slice_get ks k ≡ Some s → (d : D) × (n : N) × IsFreshOn view tells coming scripts (rules_for rules k) d n s
     fresh_there many k s s_is =
         let within = slice_get_within ks k s s_is in
         let d = get_there disks k (omega arith) in
         let n = get_there nonces k (omega arith) in
         (d.0, n.0, fresh k d.0 n.0 s d.1 n.1 s_is)
 
-    -- a site of these shelves, under this setup and with this fuel
-    module _ (many : length ks ≡ length disks) (site : Site D N) (setup_is : site.setup ≡ setup) (fuel_is : site.fuel ≡ rules.fuel) (homes : map (λ (h : Home (Opening D N)). h.opening) site.row.homes ≡ map (λ (k : KeptShelf D N). k.opened ∷ []) ks) where
+    -- a site of these shelves, with copies of what their journals told, and with this fuel
+    module _ (many : length ks ≡ length disks) (site : Site D N) (libraries : AreCopies ks site.libraries) (fuel_is : site.fuel ≡ rules.fuel) (homes : map (λ (h : Home (Opening D N)). h.opening) site.row.homes ≡ map (λ (k : KeptShelf D N). k.opened ∷ []) ks) where
       pub shelf_at : (k : ℕ) (h : Home (Opening D N)) → slice_get site.row.homes k ≡ Some h → (s : KeptShelf D N) × (slice_get ks k ≡ Some s) × (h.opening ≡ s.opened ∷ [])
       shelf_at k h h_is =
           let s = map_get (λ (z : KeptShelf D N). z.opened ∷ []) ks k h.opening (ap (λ l. slice_get l k) (sym homes) ∙ get_map (λ (z : Home (Opening D N)). z.opening) site.row.homes k h h_is) in
@@ -178,9 +181,8 @@ module _ {D N : Type 0} (view : D → View) (tells : Bool) (coming : N → ℕ �
       pub as_many : length site.row.homes ≡ length disks
       as_many = sym (map_length (λ (h : Home (Opening D N)). h.opening) site.row.homes) ∙ (ap length homes ∙ (map_length (λ (z : KeptShelf D N). z.opened ∷ []) ks ∙ many))
 
-      pub begun_of : IsBegun view tells setup rules disks nonces site
+      pub begun_of : IsBegun view tells scripts rules disks nonces site
       begun_of = record {
-        setup_is = setup_is;
         fuel_is = fuel_is;
         many = as_many;
         each = λ k d n h d_is n_is h_is.
@@ -189,55 +191,56 @@ module _ {D N : Type 0} (view : D → View) (tells : Bool) (coming : N → ℕ �
             record {
               opening = s.0.opened;
               opening_is = s.2;
-              setup_is = f.setup_is;
-              shelf = subst (λ (z : Shelf D N). IsOpenedOn view tells (scripts_of setup) (rules_for rules k) d n z) (sym f.opened_is) f.shelf;
+              shelf = subst (λ (z : Shelf D N). IsOpenedOn view tells scripts (rules_for rules k) d n z) (sym f.opened_is) f.shelf;
             };
       }
 
-      pub under_of : (k : ℕ) (h : Home (Opening D N)) → slice_get site.row.homes k ≡ Some h → IsUnder site h
+      pub under_of : (k : ℕ) (h : Home (Opening D N)) → slice_get site.row.homes k ≡ Some h → IsUnder site k h
       under_of k h h_is =
           let s = shelf_at k h h_is in
           let f = fresh_there many k s.0 s.1 in
+          let told = map_get library_of site.libraries.items k (library_of s.0.shelf.library)
+          (ap (λ l. slice_get l k) libraries ∙ get_map (λ (z : KeptShelf D N). library_of z.shelf.library) ks k s.0 s.1) in
           record {
             opening = s.0.opened;
             opening_is = s.2;
-            setup_is = f.2.setup_is ∙ sym setup_is;
+            library_is = ap (λ l. option_map library_of l) told.1 ∙ (ap (λ l. Some l) told.2 ∙ ap (λ (z : Shelf D N). Some (library_of z.library)) (sym f.2.opened_is));
             fuel_is = ap (λ (z : Shelf D N). z.rules.fuel) f.2.opened_is ∙ (ap (λ (r : Rules). r.fuel) f.2.shelf.rules_are ∙ sym fuel_is);
           }
 
     -- one was not opened, behind these
-    pub unopened_at : OnlyNow view tells (scripts_of setup) → (front rest : List D) (d e : D) (number : ℕ) (fault : BeginFault) → disks ≡ front ++ d ∷ rest → length front ≡ number → length ks ≡ number
-        → IsUnopened view tells (scripts_of setup) number d e fault → AreUnopened view tells (scripts_of setup) disks (map disk_in ks ++ e ∷ rest) number fault
+    pub unopened_at : OnlyNow view tells scripts → (front rest : List D) (d e : D) (number : ℕ) (fault : BeginFault) → disks ≡ front ++ d ∷ rest → length front ≡ number → length ks ≡ number
+        → IsUnopened view tells scripts number d e fault → AreUnopened view tells scripts disks (map disk_in ks ++ e ∷ rest) number fault
     unopened_at only_now front rest d e number fault is len many unopened =
         let mapped = map_length disk_in ks in
         let whole : length disks ≡ length front + length (d ∷ rest) = ap length is ∙ length-append front (d ∷ rest) in
         let back = length-append (map disk_in ks) (e ∷ rest) in
         let here : slice_get disks number ≡ Some d = ap (λ l. slice_get l number) is ∙ subst (λ (n : ℕ). slice_get (front ++ d ∷ rest) n ≡ Some d) len (at_here front d rest) in
         let home : slice_get (map disk_in ks ++ e ∷ rest) number ≡ Some e = subst (λ (n : ℕ). slice_get (map disk_in ks ++ e ∷ rest) n ≡ Some e) (mapped ∙ many) (at_here (map disk_in ks) e rest) in
-        let fronts : (k : ℕ) (x y : D) → slice_get front k ≡ Some x → slice_get (map disk_in ks) k ≡ Some y → IsReturned view tells (scripts_of setup) k x y =
+        let fronts : (k : ℕ) (x y : D) → slice_get front k ≡ Some x → slice_get (map disk_in ks) k ≡ Some y → IsReturned view tells scripts k x y =
         λ k x y x_is y_is. returned_at k x y (ap (λ l. slice_get l k) is ∙ get_front front (d ∷ rest) k x x_is) y_is in
         record {
           returned = record {
             many = omega arith;
             each = λ k x y x_is y_is.
-                pairs_of (IsReturned view tells (scripts_of setup)) front (map disk_in ks) rest d e (len ∙ sym (mapped ∙ many)) fronts
-                (subst (λ (n : ℕ). IsReturned view tells (scripts_of setup) n d e) (sym len) unopened.returned) (returned_same view tells (scripts_of setup) only_now) k x y
+                pairs_of (IsReturned view tells scripts) front (map disk_in ks) rest d e (len ∙ sym (mapped ∙ many)) fronts
+                (subst (λ (n : ℕ). IsReturned view tells scripts n d e) (sym len) unopened.returned) (returned_same view tells scripts only_now) k x y
                 (ap (λ l. slice_get l k) (sym is) ∙ x_is) y_is;
           };
           within = omega arith;
           earlier = λ told k x lt x_is.
               let s = get_there ks k (omega arith) in
               let f = fresh_at k x s.0 x_is s.1 in
-              (book_in (scripts_of setup) s.0.shelf, f.1.shelf.book told);
-          why = λ told x x_is. subst (λ (z : D). IsFaultOf (scripts_of setup) number (view z) fault) (one_of (sym here ∙ x_is)) (unopened.why told);
+              (book_in view s.0.shelf, (f.1.shelf.book told, f.1.shelf.in_order.sound));
+          why = λ told x x_is. subst (λ (z : D). IsFaultOf scripts number (view z) fault) (one_of (sym here ∙ x_is)) (unopened.why told);
           cause = λ was x y x_is y_is.
               subst (λ (z : D). Rose (view z).faults (view y).faults) (one_of (sym here ∙ x_is))
               (subst (λ (z : D). Rose (view d).faults (view z).faults) (one_of (sym home ∙ y_is)) (unopened.cause was));
           keep = λ told k x y x_is y_is.
-              pairs_of (λ (n : ℕ) (a b : D). (n ≡ number → fault ≢ DiskFault) → KeepsRecords (scripts_of setup) n (view a) (view b)) front (map disk_in ks) rest d e (len ∙ sym (mapped ∙ many))
+              pairs_of (λ (n : ℕ) (a b : D). (n ≡ number → fault ≢ DiskFault) → LosesNothing scripts n (view a) (view b)) front (map disk_in ks) rest d e (len ∙ sym (mapped ∙ many))
               (λ n a b a_is b_is sound. keeps_at told n a b (ap (λ l. slice_get l n) is ∙ get_front front (d ∷ rest) n a a_is) b_is)
-              (λ sound. subst (λ (n : ℕ). KeepsRecords (scripts_of setup) n (view d) (view e)) (sym len) (unopened.keeps told (sound len)))
-              (λ n a sound. kept_same view tells (scripts_of setup) n a) k x y
+              (λ sound. subst (λ (n : ℕ). LosesNothing scripts n (view d) (view e)) (sym len) (inl (unopened.keeps told (sound len))))
+              (λ n a sound. kept_same view tells scripts n a) k x y
               (ap (λ l. slice_get l k) (sym is) ∙ x_is) y_is;
         }
 
@@ -280,7 +283,7 @@ module _ {D N : Type 0} where
               record {
                 opening = u.opening;
                 opening_is = ap (λ (z : Home (Opening D N)). z.opening) same ∙ u.opening_is;
-                setup_is = u.setup_is;
+                library_is = u.library_is;
                 fuel_is = u.fuel_is;
                 caller_is = (new k a a_is).0 ∙ sym worker;
               };
@@ -293,7 +296,7 @@ module _ {D N : Type 0} where
   whole_given site n whole = record {
     fuel = whole.fuel;
     some = whole.some;
-    under = λ k h h_is. let u = whole.under k h h_is in record { opening = u.opening; opening_is = u.opening_is; setup_is = u.setup_is; fuel_is = u.fuel_is };
+    under = λ k h h_is. let u = whole.under k h h_is in record { opening = u.opening; opening_is = u.opening_is; library_is = u.library_is; fuel_is = u.fuel_is };
     room = record {
       no_disks = whole.room.no_disks;
       no_nonces = whole.room.no_nonces;

@@ -54,7 +54,7 @@ module _ {D N : Type 0} where
             record {
               opening = seat.opening;
               opening_is = f.3 ∙ seat.opening_is;
-              setup_is = seat.setup_is;
+              library_is = seat.library_is;
               fuel_is = seat.fuel_is;
               caller_is = f.2 ∙ (seat.caller_is ∙ sym worker);
             };

@@ -4,7 +4,8 @@ use Rattle.std.specs.Prelude.{Result, Ok, Err, IfOk}
 use mathlib.Core.List.{IsPrefix}
 use Rattle.script_value.specs.Val.{Val}
 use Rattle.script_value.specs.Views.{meaning}
-use Rattle.script_nodes.specs.Setup.{Named}
+use Rattle.script_nodes.specs.Views.{library_of}
+use Rattle.script_nodes.specs.declared.library.Library.{Library}
 use Rattle.page_names.specs.Names.{Destination}
 use Rattle.page_names.specs.Views.{target_of}
 use Rattle.web_disk.specs.View.{View}
@@ -29,12 +30,11 @@ use Rattle.script_value.specs.declared.outcome.Reply as answers
 use Rattle.shelf.specs.Views.{IsEvent, book_in, rules_of, taken_of}
 use Rattle.script_value.specs.declared.value.Value.{Value}
 use Rattle.page_names.specs.declared.names.Target.{Target}
-use Rattle.script_nodes.specs.declared.setup.Setup.{Setup}
 use Rattle.shelf.specs.Events.{IsTicketOf}
 use Rattle.shelf.specs.Going.{TicketsGoOnToFit}
 use Rattle.site.specs.declared.opening.Opening.{Opening}
 use Rattle.site.specs.Entries.{entry}
-use Rattle.site.specs.Openings.{scripts_in, IsOwnOpening, start_of, source_of, count_of, book_then}
+use Rattle.site.specs.Openings.{opened_library, scripts_in, IsOwnOpening, start_of, source_of, count_of, book_then}
 use Rattle.site.specs.Sound.{IsSound, HasItsHistory, IsForItsVisit, Holds}
 use Rattle.site.proofs.Outs.{owes_taken}
 use Rattle.site.proofs.Replies.{take_admits}
@@ -46,10 +46,11 @@ module _ {D N : Type 0} (view : D → View) (tells : Bool) (coming : N → ℕ �
   pub record IsGiven (s t : Shelf D N) (target : Destination) (answer : Val) (ticket : Ticket) : Type 0 where
     pub target_is : target_of ticket.target ≡ target
     pub answer_is : meaning ticket.answer ≡ answer
-    pub does : IsEvent coming (scripts_in o) s t (take target answer) (taken ticket.number ticket.nonce)
-    pub fits : HasItsStates (scripts_in o) s.book → FitsAs (scripts_in o) (book_in (scripts_in o) t) ticket (admit (book_in (scripts_in o) t) (target_of ticket.target))
-    pub runs : IsRunnable (scripts_in o) ticket
-    pub script : HasItsScript (scripts_in o) ticket (target_of ticket.target)
+    pub does : IsEvent view coming s t (take target answer) (taken ticket.number ticket.nonce)
+    pub fits : HasItsStates (library_of s.library).all s.book → FitsAs (opened_library o).all (book_in view t) ticket (admit (book_in view t) (target_of ticket.target))
+    pub runs : IsRunnable (opened_library o).all ticket
+    pub script : HasItsScript (opened_library o) ticket (target_of ticket.target)
+    pub library : t.library ≡ o.shelf.value.library
 
   module _ (s t : Shelf D N) (es : List Entry) (p : IsSound view tells coming o s es) (caller : ℕ) (target : Destination) (answer : Val) where
     -- on a shelf that was opened as an own one the ticket is for its visit
@@ -57,17 +58,17 @@ module _ {D N : Type 0} (view : D → View) (tells : Bool) (coming : N → ℕ �
         → HasItsHistory view tells coming o t (es ++ entry caller (take target answer) (taken ticket.number ticket.nonce) ∷ [])
         → IsForItsVisit view tells coming o (es ++ entry caller (take target answer) (taken ticket.number ticket.nonce) ∷ []) ticket
     visit_taken ticket gave h behind =
-        let ss = scripts_in o in
+        let all = (opened_library o).all in
         let e : Entry = entry caller (take target answer) (taken ticket.number ticket.nonce) in
-        let book : book_in ss t ≡ book_then coming o (es ++ e ∷ []) = ap (λ z. z.book) behind.kept.shelf in
+        let book : book_in view t ≡ book_then view coming o (es ++ e ∷ []) = ap (λ z. z.book) behind.kept.shelf in
         let at = stepped view tells coming o s t es p (take target answer) (taken ticket.number ticket.nonce) gave.does in
-        let admitted = take_admits (rules_of ss s.rules) (book_in ss s) (book_in ss t) target answer (source_of coming o (length (tickets_taken es))) ticket.number ticket.nonce at in
+        let admitted = take_admits (rules_of s.rules) (book_in view s) (book_in view t) target answer (source_of coming o (length (tickets_taken es))) ticket.number ticket.nonce at in
         record {
           front = es ++ e ∷ [];
           begins = prefix_self (es ++ e ∷ []);
-          scripts = sym (ap (λ z. z.scripts) book);
-          admitted = ap (λ b. refusal_of (admit b (target_of ticket.target))) (sym book) ∙ (ap (λ d. refusal_of (admit (book_in ss t) d)) gave.target_is ∙ admitted);
-          fits = subst (λ b. FitsAs ss b ticket (admit b (target_of ticket.target))) book (gave.fits h.own.states);
+          scripts = sym (ap (λ z. z.scripts) book) ∙ ap (λ l. (library_of l).setup) gave.library;
+          admitted = ap (λ b. refusal_of (admit b (target_of ticket.target))) (sym book) ∙ (ap (λ d. refusal_of (admit (book_in view t) d)) gave.target_is ∙ admitted);
+          fits = subst (λ b. FitsAs all b ticket (admit b (target_of ticket.target))) book (gave.fits h.own.states);
         }
 
     holds_taken : (ticket : Ticket) → IsGiven s t target answer ticket
@@ -84,15 +85,15 @@ module _ {D N : Type 0} (view : D → View) (tells : Bool) (coming : N → ℕ �
         }
 
     -- so of what a take was told
-    pub holds_told : (result : Result Ticket answers.Reply) → IsEvent coming (scripts_in o) s t (take target answer) (taken_of result)
+    pub holds_told : (result : Result Ticket answers.Reply) → t.library ≡ o.shelf.value.library → IsEvent view coming s t (take target answer) (taken_of result)
         → (IsOwnOpening view tells o → HasItsHistory view tells coming o t (es ++ entry caller (take target answer) (taken_of result) ∷ []))
         → IfOk result (λ x. (target_of x.target ≡ target) × (meaning x.answer ≡ answer))
-        → (HasItsStates (scripts_in o) s.book → IfOk result (λ x. FitsAs (scripts_in o) (book_in (scripts_in o) t) x (admit (book_in (scripts_in o) t) (target_of x.target))))
-        → IfOk result (IsRunnable (scripts_in o)) → IfOk result (λ x. HasItsScript (scripts_in o) x (target_of x.target))
+        → (HasItsStates (library_of s.library).all s.book → IfOk result (λ x. FitsAs (opened_library o).all (book_in view t) x (admit (book_in view t) (target_of x.target))))
+        → IfOk result (IsRunnable (opened_library o).all) → IfOk result (λ x. HasItsScript (opened_library o) x (target_of x.target))
         → IfOk result (λ x. Holds view tells coming o (es ++ entry caller (take target answer) (taken_of result) ∷ []) caller x)
-    holds_told (Ok x) does behind is fits runs script =
-        holds_taken x (record { target_is = is.0; answer_is = is.1; does = does; fits = fits; runs = runs; script = script }) behind
-    holds_told (Err r) does behind is fits runs script = tt
+    holds_told (Ok x) library does behind is fits runs script =
+        holds_taken x (record { target_is = is.0; answer_is = is.1; does = does; fits = fits; runs = runs; script = script; library = library }) behind
+    holds_told (Err r) library does behind is fits runs script = tt
 
   -- what is held goes on to be, whatever others do
   pub holds_on : (seen es : List Entry) (caller : ℕ) (t : Ticket) → IsPrefix seen es → own_of caller es ≡ own_of caller seen → Holds view tells coming o seen caller t → Holds view tells coming o es caller t
@@ -111,28 +112,29 @@ module _ {D N : Type 0} (view : D → View) (tells : Bool) (coming : N → ℕ �
 
   -- on a shelf that was opened as an own one the ticket fits the book of now
   pub fits_now : (s : Shelf D N) (es : List Entry) → IsSound view tells coming o s es → TicketsGoOnToFit → (caller : ℕ) (t : Ticket) → Holds view tells coming o es caller t → IsOwnOpening view tells o
-      → FitsAs (scripts_in o) (book_in (scripts_in o) s) t (admit (book_in (scripts_in o) s) (target_of t.target))
+      → FitsAs (library_of s.library).all (book_in view s) t (admit (book_in view s) (target_of t.target))
   fits_now s es p law caller t held own =
       let h = held.visit own in
       let kept = (p.history own).kept in
       let source = source_of coming o in
       let opened = count_of view o.shelf.value in
       let now = count_of view s in
-      let start = start_of o in
-      let b = book_then coming o h.front in
-      let c = book_then coming o es in
-      let book_is : book_in (scripts_in o) s ≡ c = ap (λ z. z.book) kept.shelf in
+      let start = start_of view o in
+      let all = (opened_library o).all in
+      let b = book_then view coming o h.front in
+      let c = book_then view coming o es in
+      let book_is : book_in view s ≡ c = ap (λ z. z.book) kept.shelf in
       let early : IsLegal source opened now start h.front = (go_on source opened now start h.front).2 h.begins.0 (subst (IsLegal source opened now start) (sym h.begins.1) kept.legal) in
       let there : IsKept source opened now start (shelf_behind source start h.front) (λ k. source ((shelf_behind source start h.front).nonces + k)) h.front = record { legal = early; shelf = refl; nonces = λ k. refl } in
       let orderly : IsOrderly b = (kept_sound source opened now start _ _ h.front p.opened there).0 in
       let leads = (are_runs source opened now start es p.opened kept.legal).2 h.front h.begins.0 (sym h.begins.1) in
-      let setup : c.scripts ≡ scripts_in o = sym (ap (λ z. z.scripts) book_is) in
-      let fits = law b c orderly leads (setup ∙ sym h.scripts) t h.admitted (subst (λ (l : List Named). FitsAs l b t (admit b (target_of t.target))) (sym h.scripts) h.fits) in
-      subst (λ (x : Book). FitsAs (scripts_in o) x t (admit x (target_of t.target))) (sym book_is)
-      (subst (λ (l : List Named). FitsAs l c t (admit c (target_of t.target))) setup fits)
+      let setup : c.scripts ≡ scripts_in o = sym (ap (λ z. z.scripts) book_is) ∙ ap (λ l. (library_of l).setup) p.library in
+      let fits = law all b c orderly leads (setup ∙ sym h.scripts) t h.admitted h.fits in
+      subst (λ (l : Library). FitsAs (library_of l).all (book_in view s) t (admit (book_in view s) (target_of t.target))) (sym p.library)
+      (subst (λ (x : Book). FitsAs all x t (admit x (target_of t.target))) (sym book_is) fits)
 
 -- what a ticket is of
-pub told_ticket : {D N : Type 0} (coming : N → ℕ → ℕ) (setup : Setup) (s : Shelf D N) (target : Target) (answer : Value) (result : Result Ticket answers.Reply) → IfOk result (IsTicketOf coming setup s target answer)
+pub told_ticket : {D N : Type 0} (view : D → View) (coming : N → ℕ → ℕ) (s : Shelf D N) (target : Target) (answer : Value) (result : Result Ticket answers.Reply) → IfOk result (IsTicketOf view coming s target answer)
     → IfOk result (λ x. (target_of x.target ≡ target_of target) × (meaning x.answer ≡ meaning answer))
-told_ticket coming setup s target answer (Ok x) h = (ap (λ z. z.target) h, ap (λ z. z.answer) h)
-told_ticket coming setup s target answer (Err r) h = tt
+told_ticket view coming s target answer (Ok x) h = (ap (λ z. z.target) h, ap (λ z. z.answer) h)
+told_ticket view coming s target answer (Err r) h = tt

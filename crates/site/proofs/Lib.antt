@@ -9,3 +9,4 @@ pub mod Ticks
 pub mod Endings
 pub mod Begins
 pub mod Skips
+pub mod Crossings

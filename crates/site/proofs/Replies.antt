@@ -6,10 +6,10 @@ use native.Mathlib.Decide.{ℕ_discrete}
 use Rattle.script_value.specs.declared.outcome.Refusal.{Refusal}
 use Rattle.script_value.specs.declared.outcome.Reply as answers
 use Rattle.script_value.specs.declared.outcome.Reply.TheVariants as answer
-use Rattle.page_names.specs.Names.{Destination, start, page}
+use Rattle.page_names.specs.Names.{Destination}
 use Rattle.replay_spec.specs.Book.{Book, Doubt, draw}
 use Rattle.replay_spec.specs.Admission.{when, or_else, refusal_of, admit}
-use Rattle.replay_spec.specs.Step.{Reply, taken, shown, finished, ended, refusal, fault, out_of_fuel, shelf_full, instance_full, disk_failed, down, oversize, journal_full, worn, memory, swept, live, down_by, refused_by, take_unless, take_by, take, Fate, plain, no_memory, disk_fault, lost, kept, step}
+use Rattle.replay_spec.specs.Step.{Reply, taken, shown, finished, ended, refusal, fault, out_of_fuel, shelf_full, disk_failed, down, oversize, journal_full, compacted, worn, memory, swept, live, down_by, refused_by, take_unless, take_by, take, Fate, plain, no_memory, disk_fault, lost, kept, step}
 use Rattle.script_value.specs.Val.{Val}
 use Rattle.replay_spec.specs.Rules.{Rules}
 use Rattle.replay_spec.proofs.Admitted.{admit_drawn}
@@ -33,11 +33,11 @@ same_fate (refusal x) = refl
 same_fate (fault f) = refl
 same_fate (out_of_fuel c) = refl
 same_fate (shelf_full c) = refl
-same_fate (instance_full c) = refl
 same_fate (disk_failed c) = refl
 same_fate (down c) = refl
 same_fate (oversize l) = refl
 same_fate (journal_full l) = refl
+same_fate (compacted l) = refl
 same_fate worn = refl
 same_fate memory = refl
 same_fate (swept n) = refl
@@ -57,11 +57,11 @@ counted opened before now (refusal x) le low h = tt
 counted opened before now (fault f) le low h = tt
 counted opened before now (out_of_fuel c) le low h = tt
 counted opened before now (shelf_full c) le low h = tt
-counted opened before now (instance_full c) le low h = tt
 counted opened before now (disk_failed c) le low h = rose_counted opened before now c le low h.0 h.1
 counted opened before now (down c) le low h = tt
 counted opened before now (oversize l) le low h = tt
 counted opened before now (journal_full l) le low h = tt
+counted opened before now (compacted l) le low h = tt
 counted opened before now worn le low h = tt
 counted opened before now memory le low h = tt
 counted opened before now (swept n) le low h = tt
@@ -101,11 +101,11 @@ take_tells rules b c d a nonce before now (refusal x) h = tt
 take_tells rules b c d a nonce before now (fault f) h = tt
 take_tells rules b c d a nonce before now (out_of_fuel n) h = tt
 take_tells rules b c d a nonce before now (shelf_full n) h = tt
-take_tells rules b c d a nonce before now (instance_full n) h = tt
 take_tells rules b c d a nonce before now (disk_failed n) h = absurd (faulty_take rules b c d a nonce n h)
 take_tells rules b c d a nonce before now (down n) h = tt
 take_tells rules b c d a nonce before now (oversize l) h = tt
 take_tells rules b c d a nonce before now (journal_full l) h = tt
+take_tells rules b c d a nonce before now (compacted l) h = tt
 take_tells rules b c d a nonce before now worn h = tt
 take_tells rules b c d a nonce before now memory h = tt
 take_tells rules b c d a nonce before now (swept n) h = tt
@@ -145,7 +145,6 @@ no_ticket (answer.Refused why) h = tt
 no_ticket (answer.Fault why) h = h
 no_ticket (answer.Fuel cost) h = h
 no_ticket (answer.ShelfFull count) h = h
-no_ticket (answer.InstanceFull count) h = h
 no_ticket (answer.Oversize size) h = h
 no_ticket (answer.JournalFull size) h = h
 no_ticket (answer.DiskFault count) h = h

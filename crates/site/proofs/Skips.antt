@@ -16,7 +16,6 @@ use Rattle.lock_row.specs.Spots.{Spot, spot, home_of, At, caller_at}
 use Rattle.lock_row.proofs.Places.{one_of, get_there, map_length}
 use Rattle.replay_spec.specs.Step as step
 use Rattle.instance_book.specs.declared.ticket.Ticket.{Ticket}
-use Rattle.instance_book.specs.Views.{reply_of}
 use Rattle.replay_spec.specs.Runs.{Shelf}
 use Rattle.history_spec.specs.Histories.{Entry, own_of, book_behind, IsLegal, IsOpened}
 use Rattle.history_spec.specs.Passes.{Goes}
@@ -94,9 +93,9 @@ module _ {D N : Type 0} (view : D → View) (tells : Bool) (coming : N → ℕ �
   reached v w added tick g h o is mine =
       let same : g.opening ≡ o = cc (sym g.opening_is ∙ (sym (ap (λ (z : Known D N). z.opening) g.is) ∙ is)) in
       let before : v.opening ≡ o ∷ [] = g.opening_is ∙ ap (λ (z : Opening D N). z ∷ []) same in
-      let goes = subst (λ (z : Opening D N). Goes (source_of coming z) (count_of view z.shelf.value) g.now (start_of z) v.caller (seen_by v) added (seen_by w)) same (g.goes (subst (IsOwnOpening view tells) (sym same) mine)) in
-      let opened = subst (λ (z : Opening D N). IsOpened (start_of z).book) same g.opened in
-      let up = risen (source_of coming o) (count_of view o.shelf.value) g.now (start_of o) v.caller (seen_by v) added (seen_by w) opened goes in
+      let goes = subst (λ (z : Opening D N). Goes (source_of coming z) (count_of view z.shelf.value) g.now (start_of view z) v.caller (seen_by v) added (seen_by w)) same (g.goes (subst (IsOwnOpening view tells) (sym same) mine)) in
+      let opened = subst (λ (z : Opening D N). IsOpened (start_of view z).book) same g.opened in
+      let up = risen (source_of coming o) (count_of view o.shelf.value) g.now (start_of view o) v.caller (seen_by v) added (seen_by w) opened goes in
       let low = h o before mine in
       omega (arith, up, low)
 

@@ -1,13 +1,12 @@
 -- A shelf between turns: as it was opened, and one event more.
-use Rattle.std.proofs.Common.{◌≡◌, ◌⊎◌, inl, inr, ℕ, ◌≤◌, ◌<◌, ◌^◌, ◌+◌, length, Bool, List, [], ◌∷◌, ◌++◌, IsTrue, refl, sym, ◌∙◌, ap, subst, arith, append_assoc, length-append}
-use Rattle.std.proofs.lemmas.List.{append-nil}
+use Rattle.std.proofs.Common.{◌≡◌, ◌⊎◌, inl, inr, ℕ, ◌≤◌, ◌<◌, ◌^◌, ◌+◌, length, Bool, List, [], ◌∷◌, ◌++◌, Some, IsTrue, refl, sym, ◌∙◌, ap, subst, arith, append_assoc, length-append}
 use mathlib.Core.List.{IsPrefix}
-use Rattle.script_nodes.specs.Setup.{Named}
+use Rattle.setup_reader.specs.Texts.{setup_of_texts}
 use Rattle.web_disk.specs.View.{View, LeavesOnly}
 use Rattle.web_disk.proofs.Moments.{started}
 use Rattle.page_journal.proofs.Mending.{leaves_then}
+use Rattle.journal_spec.specs.Before.{Made}
 use Rattle.journal_spec.specs.Laws.{ImagesMakeBooks, MeasuresDoubt}
-use Rattle.journal_spec.specs.Making.{made}
 use Rattle.journal_spec.specs.Standing.{MakesIn, if_kept, Held, Stands}
 use Rattle.replay_spec.specs.Book.{Book, reopened}
 use Rattle.replay_spec.specs.Rules.{Rules}
@@ -32,7 +31,7 @@ use Rattle.shelf.specs.Views.{IsInOrder, IsEvent, HasGiven, book_in, shelf_of, r
 use Rattle.shelf.specs.Events.{TellsCount, HasMoments, HasOwnMoments}
 use Rattle.site.specs.declared.opening.Opening.{Opening}
 use Rattle.site.specs.Entries.{entry}
-use Rattle.site.specs.Openings.{scripts_in, IsOwnOpening, start_of, source_of, count_of, HasLegal, book_then}
+use Rattle.site.specs.Openings.{IsOwnOpening, start_of, source_of, count_of, HasLegal, book_then}
 use Rattle.site.specs.Sound.{AreOut, IsSound, HasItsHistory, MakesSome, IsLeft, StandsFor}
 use Rattle.site.proofs.Outs.{none_out, out_then, stepped_out, stepped_fresh}
 use Rattle.site.proofs.Replies.{same_fate, counted, take_tells}
@@ -52,32 +51,32 @@ leaves_both v0 v1 P Q a b = record {
 }
 
 -- what is kept of a doubt that the rules measure as its record is
-measured_makes : (ss : List Named) (n : ℕ) (rules : Rules) (m : ℕ) (b : Book) (image : List ℕ) → MeasuresDoubt rules m b → MakesIn ss n image (if_kept m b) → MakesIn ss n image (recovered rules kept b.down b)
-measured_makes ss n rules m b image measured h =
-    (h.0, h.1 ∙ ap (λ (y : Book). made (record { book = y; earlier = h.0 })) (sym measured))
+measured_makes : (n : ℕ) (rules : Rules) (m : ℕ) (b : Book) (image : List ℕ) → MeasuresDoubt rules m b → MakesIn setup_of_texts n image (if_kept m b)
+    → MakesIn setup_of_texts n image (recovered rules kept b.down b)
+measured_makes n rules m b image measured h =
+    let told : Book → Made = λ y. record { book = y; earlier = h.0 } in (h.0, h.1 ∙ ap (λ y. Some (told y)) (sym measured))
 
 -- an image makes the one book, or the other with what is in doubt there
-makes_either : (ss : List Named) (n : ℕ) (rules : Rules) (m : ℕ) (b c : Book) (image : List ℕ) → MeasuresDoubt rules m c → MakesIn ss n image b ⊎ MakesIn ss n image (if_kept m c)
-    → MakesIn ss n image b ⊎ MakesIn ss n image (recovered rules kept c.down c)
-makes_either ss n rules m b c image measured either = elim either [
+makes_either : (n : ℕ) (rules : Rules) (m : ℕ) (b c : Book) (image : List ℕ) → MeasuresDoubt rules m c → MakesIn setup_of_texts n image b ⊎ MakesIn setup_of_texts n image (if_kept m c)
+    → MakesIn setup_of_texts n image b ⊎ MakesIn setup_of_texts n image (recovered rules kept c.down c)
+makes_either n rules m b c image measured either = elim either [
   | inl h ↦ inl h
-  | inr h ↦ inr (measured_makes ss n rules m c image measured h)
+  | inr h ↦ inr (measured_makes n rules m c image measured h)
 ]
 
 module _ {D N : Type 0} (view : D → View) (tells : Bool) (coming : N → ℕ → ℕ) where
-  some_book : (o : Opening D N) (b c : Book) (image : List ℕ) → MakesIn (scripts_in o) o.shelf.value.rules.number image b ⊎ MakesIn (scripts_in o) o.shelf.value.rules.number image c → MakesSome view tells coming o image
+  some_book : (o : Opening D N) (b c : Book) (image : List ℕ) → MakesIn setup_of_texts o.shelf.value.rules.number image b ⊎ MakesIn setup_of_texts o.shelf.value.rules.number image c → MakesSome view tells coming o image
   some_book o b c image either = elim either [ inl h ↦ (b, h) | inr h ↦ (c, h) ]
 
   -- a shelf that was just opened
-  pub sound_first : ImagesMakeBooks → (o : Opening D N) → IsInOrder view tells (scripts_in o) o.shelf.value
-      → book_in (scripts_in o) o.shelf.value ≡ reopened (book_in (scripts_in o) o.shelf.value)
+  pub sound_first : ImagesMakeBooks → (o : Opening D N) → IsInOrder view tells o.shelf.value
+      → book_in view o.shelf.value ≡ reopened (book_in view o.shelf.value)
       → ((image : List ℕ) → (view o.shelf.value.journal.disk).since (view o.shelf.value.journal.disk).moment image → (view o.shelf.value.journal.disk).images image)
       → count_of view o.shelf.value < 2 ^ 64 → IsSound view tells coming o o.shelf.value []
   sound_first law o order opened only_now low =
       let s = o.shelf.value in
-      let ss = scripts_in o in
       let n = s.rules.number in
-      let b = book_in ss s in
+      let b = book_in view s in
       let v = view s.journal.disk in
       let source = source_of coming o in
       let none : List Entry = [] in
@@ -88,15 +87,16 @@ module _ {D N : Type 0} (view : D → View) (tells : Bool) (coming : N → ℕ �
         out = none_out b.out idle;
         nonces = λ k. ap source (let z : k ≡ 0 + k = omega arith in z);
         rules = refl;
+        library = refl;
         later = omega arith;
         counted = low;
         ever = λ told.
             let stands = (order.fit told).stands in
             started v (MakesSome view tells coming o)
-            (λ image left. some_book o b (if_kept stands.0 b) image (law ss n b (if_kept stands.0 b) stands.1.0 image (stands.1.1 image (only_now image left))));
+            (λ image left. some_book o b (if_kept stands.0 b) image (law setup_of_texts n b (if_kept stands.0 b) stands.1.0 image (stands.1.1 image (only_now image left))));
         history = λ own. record {
           own = own;
-          kept = (kept_on source (count_of view s) (count_of view s) (start_of o)).0 refl;
+          kept = (kept_on source (count_of view s) (count_of view s) (start_of view o)).0 refl;
           ever = λ told.
               let its = own.own told in
               let m = its.stands.0 in
@@ -105,7 +105,7 @@ module _ {D N : Type 0} (view : D → View) (tells : Bool) (coming : N → ℕ �
                 own = (its.images.0, its.images.1 image (only_now image left));
                 front = none;
                 begins = prefix_self none;
-                makes = makes_either ss n (rules_of ss s.rules) m b b image its.stands.1.1.1 (law ss n b (if_kept m b) its.stands.1.0 image (its.stands.1.1.0 image (only_now image left)));
+                makes = makes_either n (rules_of s.rules) m b b image its.stands.1.1.1 (law setup_of_texts n b (if_kept m b) its.stands.1.0 image (its.stands.1.1.0 image (only_now image left)));
               });
         };
         untouched = λ e. refl;
@@ -120,18 +120,17 @@ module _ {D N : Type 0} (view : D → View) (tells : Bool) (coming : N → ℕ �
     left_more more image left = record { own = left.own; front = left.front; begins = prefix_on left.front es more left.begins; makes = left.makes }
 
     -- the step of an event of this shelf
-    pub stepped : (event : Event) (r : step.Reply) → IsEvent coming (scripts_in o) s t event r
-        → step.step (rules_of (scripts_in o) s.rules) (book_in (scripts_in o) s) (source_of coming o given) event (views.fate_by r) ≡ (r, book_in (scripts_in o) t)
+    pub stepped : (event : Event) (r : step.Reply) → IsEvent view coming s t event r
+        → step.step (rules_of s.rules) (book_in view s) (source_of coming o given) event (views.fate_by r) ≡ (r, book_in view t)
     stepped event r does = ap (λ (z : step.Reply × runs.Shelf). (z.0, z.1.book)) (does.step (source_of coming o) given p.nonces)
 
     -- what is out behind an event
-    pub out_push : (caller : ℕ) (event : Event) (r : step.Reply) → MayCome caller event es → IsLawful event (book_in (scripts_in o) s) → IsEvent coming (scripts_in o) s t event r
-        → AreOut (book_in (scripts_in o) t).out (es ++ entry caller event r ∷ [])
+    pub out_push : (caller : ℕ) (event : Event) (r : step.Reply) → MayCome caller event es → IsLawful event (book_in view s) → IsEvent view coming s t event r
+        → AreOut (book_in view t).out (es ++ entry caller event r ∷ [])
     out_push caller event r may lawful does =
-        let ss = scripts_in o in
-        let b = book_in ss s in
-        let c = book_in ss t in
-        let rules = rules_of ss s.rules in
+        let b = book_in view s in
+        let c = book_in view t in
+        let rules = rules_of s.rules in
         let nonce = source_of coming o given in
         let left = tickets_left es [] in
         out_then b.out c.out es (entry caller event r) p.out may
@@ -148,75 +147,72 @@ module _ {D N : Type 0} (view : D → View) (tells : Bool) (coming : N → ℕ �
     nonces_stay r none same = λ k. ap (λ (n : N). coming n k) same ∙ (p.nonces k ∙ ap (λ (m : ℕ). source_of coming o (m + k)) (sym none))
 
     -- what a crash may leave, where a call of the disk was made
-    pub some_push : ImagesMakeBooks → HasMoments view (scripts_in o) s t → IsTrue tells → LeavesOnly (view o.shelf.value.journal.disk) (view t.journal.disk) (MakesSome view tells coming o)
+    pub some_push : ImagesMakeBooks → HasMoments view s t → IsTrue tells → LeavesOnly (view o.shelf.value.journal.disk) (view t.journal.disk) (MakesSome view tells coming o)
     some_push law th told =
-        let ss = scripts_in o in
         let Q = MakesSome view tells coming o in
-        let b = book_in ss s in
-        let c = if_kept th.0 (book_in ss t) in
+        let b = book_in view s in
+        let c = if_kept th.0 (book_in view t) in
         leaves_then (view o.shelf.value.journal.disk) (view s.journal.disk) (view t.journal.disk) Q (p.ever told)
         (leaves_as _ _ (Held th.1.0) Q
         (λ image held. some_book o b c image
-        (subst (λ (r : limits_of.Rules). MakesIn ss r.number image b ⊎ MakesIn ss r.number image c) p.rules (law ss s.rules.number b c th.1.0 image held))) th.1.1)
+        (subst (λ (r : limits_of.Rules). MakesIn setup_of_texts r.number image b ⊎ MakesIn setup_of_texts r.number image c) p.rules (law setup_of_texts s.rules.number b c th.1.0 image held))) th.1.1)
 
     -- and where none was made
     pub some_same : t.journal ≡ s.journal → IsTrue tells → LeavesOnly (view o.shelf.value.journal.disk) (view t.journal.disk) (MakesSome view tells coming o)
     some_same same told = subst (λ j. LeavesOnly (view o.shelf.value.journal.disk) (view j.disk) (MakesSome view tells coming o)) (sym same) (p.ever told)
 
     -- a take tells of no fault
-    pub take_told : (d : Destination) (a : Val) (r : step.Reply) → IsEvent coming (scripts_in o) s t (step.take d a) r → TellsCount (count_of view s) (count_of view t) r
+    pub take_told : (d : Destination) (a : Val) (r : step.Reply) → IsEvent view coming s t (step.take d a) r → TellsCount (count_of view s) (count_of view t) r
     take_told d a r does =
-        take_tells (rules_of (scripts_in o) s.rules) (book_in (scripts_in o) s) (book_in (scripts_in o) t) d a (source_of coming o given) (count_of view s) (count_of view t) r (stepped (step.take d a) r does)
+        take_tells (rules_of s.rules) (book_in view s) (book_in view t) d a (source_of coming o given) (count_of view s) (count_of view t) r (stepped (step.take d a) r does)
 
     -- of a shelf that was opened as an own one
     module _ (h : HasItsHistory view tells coming o s es) where
       -- one event more: the shelf is then the one behind it
-      pub kept_push : (caller : ℕ) (event : Event) (r : step.Reply) → MayCome caller event es → IsEvent coming (scripts_in o) s t event r → count_of view s ≤ count_of view t
+      pub kept_push : (caller : ℕ) (event : Event) (r : step.Reply) → MayCome caller event es → IsEvent view coming s t event r → count_of view s ≤ count_of view t
           → TellsCount (count_of view s) (count_of view t) r → drawn_by r given ≡ length (tickets_taken (es ++ entry caller event r ∷ []))
-          → IsKept (source_of coming o) (count_of view o.shelf.value) (count_of view t) (start_of o) (shelf_of (scripts_in o) (length (tickets_taken (es ++ entry caller event r ∷ []))) t) (coming t.nonces) (es ++ entry caller event r ∷ [])
+          → IsKept (source_of coming o) (count_of view o.shelf.value) (count_of view t) (start_of view o) (shelf_of view (length (tickets_taken (es ++ entry caller event r ∷ []))) t) (coming t.nonces) (es ++ entry caller event r ∷ [])
       kept_push caller event r may does later told drawn =
           let source = source_of coming o in
           let opened = count_of view o.shelf.value in
           let now = count_of view t in
-          let ss = scripts_in o in
-          let was = shelf_of ss given s in
-          let next = shelf_of ss (drawn_by r given) t in
-          let raised = (kept_on source opened (count_of view s) (start_of o)).2 was (coming s.nonces) es now later h.kept in
+          let was = shelf_of view given s in
+          let next = shelf_of view (drawn_by r given) t in
+          let raised = (kept_on source opened (count_of view s) (start_of view o)).2 was (coming s.nonces) es now later h.kept in
           let stepped : shelf_step source was event (fate_by r) ≡ (r, next) = ap (λ f. shelf_step source was event f) (sym (same_fate r)) ∙ does.step source given h.kept.nonces in
-          let all = (kept_on source opened now (start_of o)).1 was next (coming s.nonces) (coming t.nonces) es caller event r raised may
+          let all = (kept_on source opened now (start_of view o)).1 was next (coming s.nonces) (coming t.nonces) es caller event r raised may
           (record { step = stepped; nonces = does.nonces source given h.kept.nonces })
           (counted opened (count_of view s) now r p.later p.counted told) in
-          subst (λ (k : ℕ). IsKept source opened now (start_of o) (shelf_of ss k t) (coming t.nonces) (es ++ entry caller event r ∷ [])) drawn all
+          subst (λ (k : ℕ). IsKept source opened now (start_of view o) (shelf_of view k t) (coming t.nonces) (es ++ entry caller event r ∷ [])) drawn all
 
       -- and what a crash may leave of it, where a call of the disk was made
-      pub ever_push : ImagesMakeBooks → (e : Entry) → HasOwnMoments view (scripts_in o) s t → book_in (scripts_in o) t ≡ book_then coming o (es ++ e ∷ []) → IsTrue tells
+      pub ever_push : ImagesMakeBooks → (e : Entry) → HasOwnMoments view s t → book_in view t ≡ book_then view coming o (es ++ e ∷ []) → IsTrue tells
           → LeavesOnly (view o.shelf.value.journal.disk) (view t.journal.disk) (IsLeft view tells coming o (es ++ e ∷ []))
       ever_push law e th last told =
-          let ss = scripts_in o in
           let Q = IsLeft view tells coming o (es ++ e ∷ []) in
           let n = s.rules.number in
-          let b = book_in ss s in
-          let c = book_in ss t in
+          let b = book_in view s in
+          let c = book_in view t in
           let k = th.measured in
           let P : limits_of.Rules → Book → Book → List ℕ → Type 0 =
-          λ r x y image. HoldsOwnRecords ss r.number image × (MakesIn ss r.number image x ⊎ MakesIn ss r.number image (recovered (rules_of ss r) kept y.down y)) in
-          let book : b ≡ book_then coming o es = ap (λ z. z.book) h.kept.shelf in
-          let here : (image : List ℕ) → HoldsOwnRecords ss n image × Held k.1.0 image → P o.shelf.value.rules (book_then coming o es) (book_then coming o (es ++ e ∷ [])) image =
+          λ r x y image. HoldsOwnRecords r.number image × (MakesIn setup_of_texts r.number image x ⊎ MakesIn setup_of_texts r.number image (recovered (rules_of r) kept y.down y)) in
+          let book : b ≡ book_then view coming o es = ap (λ z. z.book) h.kept.shelf in
+          let here : (image : List ℕ) → HoldsOwnRecords n image × Held k.1.0 image → P o.shelf.value.rules (book_then view coming o es) (book_then view coming o (es ++ e ∷ [])) image =
           λ image both.
-          subst (λ (y : Book). P o.shelf.value.rules (book_then coming o es) y image) last
+          subst (λ (y : Book). P o.shelf.value.rules (book_then view coming o es) y image) last
           (subst (λ (x : Book). P o.shelf.value.rules x c image) book
           (subst (λ (r : limits_of.Rules). P r b c image) p.rules
-          (both.0, makes_either ss n (rules_of ss s.rules) k.0 b c image k.2 (law ss n b (if_kept k.0 c) k.1.0 image both.1)))) in
+          (both.0, makes_either n (rules_of s.rules) k.0 b c image k.2 (law setup_of_texts n b (if_kept k.0 c) k.1.0 image both.1)))) in
           leaves_then (view o.shelf.value.journal.disk) (view s.journal.disk) (view t.journal.disk) Q
           (leaves_as _ _ (IsLeft view tells coming o es) Q (left_more (e ∷ [])) (h.ever told))
-          (leaves_as _ _ (λ image. HoldsOwnRecords ss n image × Held k.1.0 image) Q
+          (leaves_as _ _ (λ image. HoldsOwnRecords n image × Held k.1.0 image) Q
           (λ image both.
           let there = here image both in
           elim there.1 [
             | inl x ↦ record { own = there.0; front = es; begins = (e ∷ [], refl); makes = inl x }
             | inr y ↦ record { own = there.0; front = es ++ e ∷ []; begins = prefix_self (es ++ e ∷ []); makes = inr y }
           ])
-          (leaves_both (view s.journal.disk) (view t.journal.disk) (HoldsOwnRecords ss n) (Held k.1.0) th.own k.1.1))
+          (leaves_both (view s.journal.disk) (view t.journal.disk) (HoldsOwnRecords n) (Held k.1.0) th.own k.1.1))
 
       -- and where none was made
       pub ever_same : (e : Entry) → t.journal ≡ s.journal → IsTrue tells → LeavesOnly (view o.shelf.value.journal.disk) (view t.journal.disk) (IsLeft view tells coming o (es ++ e ∷ []))
@@ -225,17 +221,18 @@ module _ {D N : Type 0} (view : D → View) (tells : Bool) (coming : N → ℕ �
           (leaves_as _ _ (IsLeft view tells coming o es) (IsLeft view tells coming o (es ++ e ∷ [])) (left_more (e ∷ [])) (h.ever told))
 
     -- one entry more
-    pub sound_push : (e : Entry) → IsInOrder view tells (scripts_in o) t → AreOut (book_in (scripts_in o) t).out (es ++ e ∷ []) → HasGiven (source_of coming o) (length (tickets_taken (es ++ e ∷ []))) (coming t.nonces)
-        → t.rules ≡ s.rules → count_of view s ≤ count_of view t
+    pub sound_push : (e : Entry) → IsInOrder view tells t → AreOut (book_in view t).out (es ++ e ∷ []) → HasGiven (source_of coming o) (length (tickets_taken (es ++ e ∷ []))) (coming t.nonces)
+        → t.rules ≡ s.rules → t.library ≡ s.library → count_of view s ≤ count_of view t
         → (IsTrue tells → LeavesOnly (view o.shelf.value.journal.disk) (view t.journal.disk) (MakesSome view tells coming o))
         → (IsOwnOpening view tells o → HasItsHistory view tells coming o t (es ++ e ∷ []))
         → IsSound view tells coming o t (es ++ e ∷ [])
-    sound_push e order out nonces rules later ever history = record {
+    sound_push e order out nonces rules library later ever history = record {
       in_order = order;
       opened = p.opened;
       out = out;
       nonces = nonces;
       rules = rules ∙ p.rules;
+      library = library ∙ p.library;
       later = (let a = p.later in omega arith);
       counted = p.counted;
       ever = ever;
@@ -246,15 +243,14 @@ module _ {D N : Type 0} (view : D → View) (tells : Bool) (coming : N → ℕ �
   -- what is handed back stands for the book of the history
   pub stands_for : (o : Opening D N) (s : Shelf D N) (es : List Entry) (disk : D) (nonces : N) → IsSound view tells coming o s es → disk ≡ s.journal.disk → nonces ≡ s.nonces → StandsFor view tells coming o disk nonces es
   stands_for o s es disk nonces p disk_is nonces_are =
-      let ss = scripts_in o in
       let v0 = view o.shelf.value.journal.disk in
       record {
         ended = record {
           opened = p.opened;
           stands = λ told. (
-            book_in ss s,
-            subst (λ d. Stands ss o.shelf.value.rules.number (view d) (book_in ss s)) (sym disk_is)
-                (subst (λ (r : limits_of.Rules). Stands ss r.number (view s.journal.disk) (book_in ss s)) p.rules (p.in_order.fit told).stands),
+            book_in view s,
+            subst (λ d. Stands setup_of_texts o.shelf.value.rules.number (view d) (book_in view s)) (sym disk_is)
+                (subst (λ (r : limits_of.Rules). Stands setup_of_texts r.number (view s.journal.disk) (book_in view s)) p.rules (p.in_order.fit told).stands),
           );
           ever = λ told. subst (λ d. LeavesOnly v0 (view d) (MakesSome view tells coming o)) (sym disk_is) (p.ever told);
           history = λ own.
@@ -262,9 +258,9 @@ module _ {D N : Type 0} (view : D → View) (tells : Bool) (coming : N → ℕ �
               record {
                 legal = subst (λ d. HasLegal view coming o (view d).faults es) (sym disk_is) h.kept.legal;
                 stands = λ told.
-                    subst (λ d. StandsOwn (start_of o).rules ss o.shelf.value.rules.number (view d) (book_then coming o es)) (sym disk_is)
-                    (subst (λ b. StandsOwn (start_of o).rules ss o.shelf.value.rules.number (view s.journal.disk) b) (ap (λ z. z.book) h.kept.shelf)
-                    (subst (λ (r : limits_of.Rules). StandsOwn (rules_of ss r) ss r.number (view s.journal.disk) (book_in ss s)) p.rules (h.own.own told)));
+                    subst (λ d. StandsOwn (start_of view o).rules o.shelf.value.rules.number (view d) (book_then view coming o es)) (sym disk_is)
+                    (subst (λ b. StandsOwn (start_of view o).rules o.shelf.value.rules.number (view s.journal.disk) b) (ap (λ z. z.book) h.kept.shelf)
+                    (subst (λ (r : limits_of.Rules). StandsOwn (rules_of r) r.number (view s.journal.disk) (book_in view s)) p.rules (h.own.own told)));
                 ever = λ told. subst (λ d. LeavesOnly v0 (view d) (IsLeft view tells coming o es)) (sym disk_is) (h.ever told);
               };
           later = (let low = p.later in let same = ap (λ d. (view d).faults) disk_is in omega arith);

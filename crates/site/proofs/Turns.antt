@@ -30,7 +30,7 @@ use Rattle.site.specs.declared.entry.KeptEntry.{KeptEntry}
 use Rattle.site.specs.declared.kept.KeptShelf.{KeptShelf}
 use Rattle.site.specs.declared.opening.Opening.{Opening}
 use Rattle.site.specs.Entries.{entry, done_by, entry_of, entries_of, Comes, Sweeps}
-use Rattle.site.specs.Openings.{scripts_in, IsOwnOpening, start_of, source_of, count_of, book_then}
+use Rattle.site.specs.Openings.{IsOwnOpening, start_of, source_of, count_of, book_then}
 use Rattle.site.proofs.Outs.{own_more}
 use Rattle.site.specs.Sound.{IsSound, Holds, Gives}
 use Rattle.site.specs.Passes.{Known, seen_by, Grows, GoesFrom, HoldsTicket, IsWorn, Took, Published, HasReached, Swept}
@@ -123,9 +123,9 @@ module _ {D N : Type 0} (view : D → View) (tells : Bool) (coming : N → ℕ �
               let source = source_of coming o in
               let opened = count_of view o.shelf.value in
               let now = count_of view y.shelf in
-              let legal : IsLegal source opened now (start_of o) es = subst (λ (l : List KeptEntry). IsLegal source opened now (start_of o) (entries_of l)) same (t.sound.history own).kept.legal in
-              subst (λ (l : List Entry). Goes source opened now (start_of o) v.caller (entries_of v.seen) [] l) seen
-              (turn source opened now (start_of o) v.caller (entries_of v.seen) es known legal).0;
+              let legal : IsLegal source opened now (start_of view o) es = subst (λ (l : List KeptEntry). IsLegal source opened now (start_of view o) (entries_of l)) same (t.sound.history own).kept.legal in
+              subst (λ (l : List Entry). Goes source opened now (start_of view o) v.caller (entries_of v.seen) [] l) seen
+              (turn source opened now (start_of view o) v.caller (entries_of v.seen) es known legal).0;
         }
 
     -- the number of the first entry is 0
@@ -152,10 +152,10 @@ module _ {D N : Type 0} (view : D → View) (tells : Bool) (coming : N → ℕ �
               let source = source_of coming o in
               let opened = count_of view o.shelf.value in
               let now = count_of view y.shelf in
-              let legal : IsLegal source opened now (start_of o) (es ++ e ∷ []) = subst (IsLegal source opened now (start_of o)) grown (t.sound.history own).kept.legal in
-              let before = (go_on source opened now (start_of o) es).2 (e ∷ []) legal in
-              subst (λ (l : List Entry). Goes source opened now (start_of o) v.caller (entries_of v.seen) (e ∷ []) l) seen
-              ((turn source opened now (start_of o) v.caller (entries_of v.seen) es known before).1 e ((go_on source opened now (start_of o) es).1 e legal) refl);
+              let legal : IsLegal source opened now (start_of view o) (es ++ e ∷ []) = subst (IsLegal source opened now (start_of view o)) grown (t.sound.history own).kept.legal in
+              let before = (go_on source opened now (start_of view o) es).2 (e ∷ []) legal in
+              subst (λ (l : List Entry). Goes source opened now (start_of view o) v.caller (entries_of v.seen) (e ∷ []) l) seen
+              ((turn source opened now (start_of view o) v.caller (entries_of v.seen) es known before).1 e ((go_on source opened now (start_of view o) es).1 e legal) refl);
         }
 
     pub holds_so : (by : ℕ) (u : Ticket) → v.caller ≡ by → Holds view tells coming x.opened (entries_of y.history) by u → HoldsTicket view tells coming w u
@@ -179,20 +179,20 @@ module _ {D N : Type 0} (view : D → View) (tells : Bool) (coming : N → ℕ �
     pub published : (by : ℕ) (u : Ticket) (r : answers.Reply) → v.caller ≡ by → Comes by (step.publish (ticket_of u)) (reply_of r) x.history y.history → Published view tells coming v u r w
     published by u r is c = inl (goes_one by (step.publish (ticket_of u)) (reply_of r) is c)
 
-    reaches : (tick : ℕ) → (IsOwnOpening view tells x.opened → tick ≤ (book_then coming x.opened (entries_of y.history)).clock) → HasReached view tells coming w tick
+    reaches : (tick : ℕ) → (IsOwnOpening view tells x.opened → tick ≤ (book_then view coming x.opened (entries_of y.history)).clock) → HasReached view tells coming w tick
     reaches tick le o is own =
         let same : x.opened ≡ o = cc (sym t.opening_is ∙ (sym (ap (λ (u : Known D N). u.opening) t.seen_is) ∙ is)) in
-        subst (λ (p : Opening D N). tick ≤ (book_then coming p (seen_by w)).clock) same
-        (subst (λ (l : List Entry). tick ≤ (book_then coming x.opened l).clock) seen_now (le (subst (IsOwnOpening view tells) (sym same) own)))
+        subst (λ (p : Opening D N). tick ≤ (book_then view coming p (seen_by w)).clock) same
+        (subst (λ (l : List Entry). tick ≤ (book_then view coming x.opened l).clock) seen_now (le (subst (IsOwnOpening view tells) (sym same) own)))
 
     -- behind a sweep, or where the clock of the shelf was at the tick before
     pub swept : (by tick : ℕ) (result : Result ℕ answers.Reply) → v.caller ≡ by → IsSound view tells coming x.opened x.shelf (entries_of x.history)
-        → Sweeps by tick result (book_in (scripts_in x.opened) x.shelf).clock x.history y.history → Swept view tells coming v tick result w
+        → Sweeps by tick result (book_in view x.shelf).clock x.history y.history → Swept view tells coming v tick result w
     swept by tick (Ok n) is sound (inl over) = (
       inr (let z : n ≡ 0 = cc over.2 in z, goes_none over.1),
       reaches tick (λ own.
           let clock = ap (λ z. z.book.clock) (sound.history own).kept.shelf in
-          subst (λ (l : List KeptEntry). tick ≤ (book_then coming x.opened (entries_of l)).clock) (sym over.1) (subst (λ (k : ℕ). tick ≤ k) clock over.0)),
+          subst (λ (l : List KeptEntry). tick ≤ (book_then view coming x.opened (entries_of l)).clock) (sym over.1) (subst (λ (k : ℕ). tick ≤ k) clock over.0)),
     )
     swept by tick (Ok n) is sound (inr more) =
         let o = x.opened in
@@ -201,9 +201,9 @@ module _ {D N : Type 0} (view : D → View) (tells : Bool) (coming : N → ℕ �
         let grown : entries_of y.history ≡ es ++ e ∷ [] = ap entries_of more.1.is ∙ (map_snoc entry_of x.history more.1.entry_made ∙ (λ i. es ++ more.1.entry_is i ∷ [])) in (
           inl (goes_one by (step.sweep tick) (step.swept n) is more.1),
           reaches tick (λ own.
-              let legal = subst (IsLegal (source_of coming o) (count_of view o.shelf.value) (count_of view y.shelf) (start_of o)) (grown ∙ sym (append-nil (es ++ e ∷ []))) (t.sound.history own).kept.legal in
-              let there = (never_back (source_of coming o) (count_of view o.shelf.value) (count_of view y.shelf) (start_of o) (es ++ e ∷ []) [] t.sound.opened legal).1 by tick n (Contains-push es e) in
-              subst (λ (l : List Entry). tick ≤ (book_then coming o l).clock) (append-nil (es ++ e ∷ []) ∙ sym grown) there),
+              let legal = subst (IsLegal (source_of coming o) (count_of view o.shelf.value) (count_of view y.shelf) (start_of view o)) (grown ∙ sym (append-nil (es ++ e ∷ []))) (t.sound.history own).kept.legal in
+              let there = (never_back (source_of coming o) (count_of view o.shelf.value) (count_of view y.shelf) (start_of view o) (es ++ e ∷ []) [] t.sound.opened legal).1 by tick n (Contains-push es e) in
+              subst (λ (l : List Entry). tick ≤ (book_then view coming o l).clock) (append-nil (es ++ e ∷ []) ∙ sym grown) there),
         )
     swept by tick (Err r) is sound (inl over) = absurd (let no : ⊥ = cc over.2 in no)
     swept by tick (Err r) is sound (inr more) = inl (goes_one by (step.sweep tick) (reply_of r) is more.1)

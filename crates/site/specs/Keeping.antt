@@ -1,23 +1,21 @@
 -- What the calls of a shelf that is kept behind a lock ask for and do.
-use Rattle.std.specs.Prelude.{◌≡◌, ℕ, Bool, List, Option, Result}
+use Rattle.std.specs.Prelude.{◌≡◌, ℕ, Bool, Option, Result}
 use Rattle.script_value.specs.declared.outcome.Reply.{Reply}
 use Rattle.script_value.specs.declared.value.Value.{Value}
 use Rattle.script_value.specs.Views.{meaning}
-use Rattle.script_nodes.specs.Setup.{Named}
-use Rattle.script_nodes.specs.declared.setup.Setup.{Setup}
+use Rattle.script_nodes.specs.Views.{library_of}
+use Rattle.script_nodes.specs.declared.library.Library.{Library}
 use Rattle.page_names.specs.declared.names.Target.{Target}
 use Rattle.page_names.specs.Views.{target_of}
 use Rattle.web_disk.specs.View.{View}
-use Rattle.replay_spec.specs.Book.{reopened}
 use Rattle.replay_spec.specs.Step as step
 use Rattle.instance_book.specs.declared.ticket.Ticket.{Ticket}
 use Rattle.instance_book.specs.Views.{ticket_of, reply_of}
 use Rattle.machine_states.specs.declared.segment.Segment.{Segment}
-use Rattle.shelf.specs.declared.shelf.Shelf.{Shelf}
-use Rattle.shelf.specs.Views.{IsRunIfAny, book_in, taken_of}
+use Rattle.shelf.specs.Views.{IsRunIfAny, book_in, library_in, taken_of}
 use Rattle.site.specs.declared.kept.KeptShelf.{KeptShelf}
 use Rattle.site.specs.Entries.{Comes, Sweeps, entries_of}
-use Rattle.site.specs.Openings.{scripts_in}
+use Rattle.site.specs.Openings.{opened_library}
 use Rattle.site.specs.Sound.{IsSound, Holds, Gives}
 
 module _ {D N : Type 0} (view : D → View) (tells : Bool) (coming : N → ℕ → ℕ) where
@@ -35,17 +33,13 @@ module _ {D N : Type 0} (view : D → View) (tells : Bool) (coming : N → ℕ �
       Gives view tells coming old.opened (entries_of new.history) caller (target_of target) (meaning answer) told
 
 module _ {D N : Type 0} where
-  -- the opening of a kept shelf is under this setup, and of this shelf
-  abbrev pub OpensAs : Setup → Shelf D N → KeptShelf D N → Type 0
-  OpensAs setup shelf k = (k.opened.setup.value ≡ setup) × (k.opened.shelf.value ≡ shelf)
+  -- the scripts are those that the journal of a kept shelf told
+  abbrev pub IsItsLibrary : KeptShelf D N → Library → Type 0
+  IsItsLibrary k library = library_of library ≡ library_in k.shelf
 
-  -- a shelf as it is after a crash
-  abbrev pub IsReopened : List Named → Shelf D N → Type 0
-  IsReopened scripts shelf = book_in scripts shelf ≡ reopened (book_in scripts shelf)
-
-  -- the segment, if there is one, is that of the ticket's run under the limits that the shelf was opened under
-  abbrev pub IsRunOn : List Named → KeptShelf D N → Ticket → Option Segment → Type 0
-  IsRunOn scripts k t segment = IsRunIfAny scripts k.opened.shelf.value.rules.fuel t segment
+  -- the segment, if there is one, is that of the ticket's run over the scripts that the shelf was opened with, under its limits
+  abbrev pub IsRunOn : KeptShelf D N → Ticket → Option Segment → Type 0
+  IsRunOn k t segment = IsRunIfAny (opened_library k.opened).all k.opened.shelf.value.rules.fuel t segment
 
   -- the take is the next entry of the history
   abbrev pub NotesTake : (caller : ℕ) → Target → Value → Result Ticket Reply → (old new : KeptShelf D N) → Type 0
@@ -57,6 +51,6 @@ module _ {D N : Type 0} where
   NotesPublish caller t told old new = Comes caller (step.publish (ticket_of t)) (reply_of told) old.history new.history
 
   -- the sweep is the next entry of the history, where its tick is later than the clock; else there is none
-  abbrev pub NotesSweep : (caller tick : ℕ) → Result ℕ Reply → (old new : KeptShelf D N) → Type 0
-  NotesSweep caller tick told old new =
-      Sweeps caller tick told (book_in (scripts_in old.opened) old.shelf).clock old.history new.history
+  abbrev pub NotesSweep : (D → View) → (caller tick : ℕ) → Result ℕ Reply → (old new : KeptShelf D N) → Type 0
+  NotesSweep view caller tick told old new =
+      Sweeps caller tick told (book_in view old.shelf).clock old.history new.history

@@ -7,6 +7,7 @@ use Rattle.replay_spec.specs.Laws.{Leaves, IsOn, IsRefusal, without_effect}
 use Rattle.history_spec.specs.Histories.{Entry}
 use Rattle.history_spec.specs.Laws.{moment_of}
 use Rattle.site.specs.declared.opening.Opening.{Opening}
+use Rattle.setup_reader.specs.Texts.{setup_of_texts}
 use Rattle.journal_spec.specs.Standing.{IsOneOf}
 use Rattle.site.specs.Openings.{scripts_in, IsOwnOpening, start_of, source_of, book_then}
 use Rattle.site.specs.Sound.{StandsFor}
@@ -16,19 +17,19 @@ use Rattle.site.specs.Sound.{StandsFor}
 abbrev pub ClosedIsClosedOverThreads : {D N : Type 0} → (D → View) → Bool → (N → ℕ → ℕ) → Type 0
 ClosedIsClosedOverThreads {D} {N} view tells coming =
     (o : Opening D N) (disk : D) (nonces : N) (es : List Entry) → StandsFor view tells coming o disk nonces es
-    → IsOwnOpening view tells o → invariant.IsSound (start_of o).book
+    → IsOwnOpening view tells o → invariant.IsSound (start_of view o).book
     → (before between more : List Entry) (leaving next : Entry) (name : TxName)
     → let until = before ++ leaving ∷ between in
     es ≡ (until ++ next ∷ []) ++ more
-    → Leaves name (book_then coming o before) (moment_of (source_of coming o) (start_of o) before leaving)
-    → (Leaves name (book_then coming o until) (moment_of (source_of coming o) (start_of o) until next) → ⊥)
-    × ((early later : List Entry) → until ≡ early ++ later → IsOn name (book_then coming o early) next.event
-    → IsRefusal next.reply × (book_then coming o (until ++ next ∷ []) ≡ without_effect next.event (book_then coming o until)))
+    → Leaves name (book_then view coming o before) (moment_of (source_of coming o) (start_of view o) before leaving)
+    → (Leaves name (book_then view coming o until) (moment_of (source_of coming o) (start_of view o) until next) → ⊥)
+    × ((early later : List Entry) → until ≡ early ++ later → IsOn name (book_then view coming o early) next.event
+    → IsRefusal next.reply × (book_then view coming o (until ++ next ∷ []) ≡ without_effect next.event (book_then view coming o until)))
 
--- A shelf that is opened on what a closed site left of one that was opened as an own one, with a sound book, has a sound book: so
--- closed is closed over the next site's threads too.
+-- A shelf that is opened, with whatever setup, on what a closed site left of one that was opened as an own one, with a sound book, has a
+-- sound book: so closed is closed over the next site's threads too.
 abbrev pub WhatASiteLeftIsSound : {D N : Type 0} → (D → View) → Bool → (N → ℕ → ℕ) → Type 0
 WhatASiteLeftIsSound {D} {N} view tells coming =
     (o p : Opening D N) (disk : D) (nonces : N) (es : List Entry) → IsTrue tells → StandsFor view tells coming o disk nonces es
-    → IsOwnOpening view tells o → invariant.IsSound (start_of o).book
-    → IsOneOf (scripts_in o) o.shelf.value.rules.number (view disk) (start_of p).book → invariant.IsSound (start_of p).book
+    → IsOwnOpening view tells o → invariant.IsSound (start_of view o).book
+    → IsOneOf setup_of_texts o.shelf.value.rules.number (scripts_in p) (view disk) (start_of view p).book → invariant.IsSound (start_of view p).book

@@ -1,3 +1,4 @@
+pub mod Shelves
 pub mod Entries
 pub mod Opened
 pub mod Openings

@@ -1,8 +1,8 @@
 -- A shelf as it was opened, and what its disk stands for when its history is over.
 use Rattle.std.specs.Prelude.{◌≤◌, ◌⊎◌, ℕ, List}
 use mathlib.Core.List.{IsPrefix}
-use Rattle.script_nodes.specs.Setup.{Named}
 use Rattle.web_disk.specs.View.{View, LeavesOnly}
+use Rattle.setup_reader.specs.Texts.{setup_of_texts}
 use Rattle.journal_spec.specs.Standing.{MakesIn, Stands}
 use Rattle.replay_spec.specs.Book.{Book}
 use Rattle.replay_spec.specs.Runs.{Shelf}
@@ -10,10 +10,9 @@ use Rattle.replay_spec.specs.Step.{kept, recovered}
 use Rattle.shelf.specs.Owning.{HoldsOwnRecords, StandsOwn}
 use Rattle.history_spec.specs.Histories.{Entry, IsLegal, IsOpened, book_behind}
 
--- A shelf as it was opened: its setup and its number; the rules of its events and its book; the nonces that its source gives; what
--- contracts see of its disk; and whether it was opened as an own shelf.
+-- A shelf as it was opened: its number; the rules of its events and its book; the nonces that its source gives; what contracts see of its
+-- disk; and whether it was opened as an own shelf.
 pub record Opened : Type 1 where
-  pub scripts : List Named
   pub number : ℕ
   pub start : Shelf
   pub nonces : ℕ → ℕ
@@ -34,29 +33,29 @@ with_doubt o b = recovered o.start.rules kept b.down b
 
 -- an image of the disk makes some book of the shelf
 abbrev pub MakesSome : Opened → (image : List ℕ) → Type 0
-MakesSome o image = (b : Book) × MakesIn o.scripts o.number image b
+MakesSome o image = (b : Book) × MakesIn setup_of_texts o.number image b
 
 -- An image of the disk has own records, and makes the book after a beginning of the history, with what is in doubt there or
 -- without it.
 pub record IsLeft (o : Opened) (es : List Entry) (image : List ℕ) : Type 0 where
-  pub own : HoldsOwnRecords o.scripts o.number image
+  pub own : HoldsOwnRecords o.number image
   pub front : List Entry
   pub begins : IsPrefix front es
-  pub makes : MakesIn o.scripts o.number image (book_then o front)
-      ⊎ MakesIn o.scripts o.number image (with_doubt o (book_then o front))
+  pub makes : MakesIn setup_of_texts o.number image (book_then o front)
+      ⊎ MakesIn setup_of_texts o.number image (with_doubt o (book_then o front))
 
 -- A shelf that was opened as an own one has a legal history, and the disk stands for its book and is an own one; a crash at any
 -- moment since the opening left what makes the book of a beginning of it.
 pub record StandsForBook (told : Type 0) (o : Opened) (disk : View) (es : List Entry) : Type 0 where
   pub legal : HasLegal o disk.faults es
-  pub stands : told → StandsOwn o.start.rules o.scripts o.number disk (book_then o es)
+  pub stands : told → StandsOwn o.start.rules o.number disk (book_then o es)
   pub ever : told → LeavesOnly o.disk disk (IsLeft o es)
 
 -- What is left of a shelf after this history. The disk stands for a book, and a crash at any moment since the opening left what makes
 -- one; its count of faults has not fallen. Of a shelf that was opened as an own one this is the book of the history, which is legal.
 pub record HasEnded (told : Type 0) (o : Opened) (disk : View) (es : List Entry) : Type 0 where
   pub opened : IsOpened o.start.book
-  pub stands : told → (b : Book) × Stands o.scripts o.number disk b
+  pub stands : told → (b : Book) × Stands setup_of_texts o.number disk b
   pub ever : told → LeavesOnly o.disk disk (MakesSome o)
   pub history : o.IsOwn → StandsForBook told o disk es
   pub later : o.disk.faults ≤ disk.faults

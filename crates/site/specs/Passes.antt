@@ -1,9 +1,9 @@
 -- What a pass has seen of a shelf, and what a call of it does there.
-use Rattle.std.specs.Prelude.{◌≡◌, ◌⊎◌, ◌≤◌, ℕ, Bool, List, [], ◌∷◌, ◌++◌, length, Result, Ok, Err}
+use Rattle.std.specs.Prelude.{◌≡◌, ◌⊎◌, ◌≤◌, ℕ, Bool, List, [], ◌∷◌, ◌++◌, length, Option, Some, Result, Ok, Err}
 use Rattle.script_value.specs.Val.{Val}
 use Rattle.script_value.specs.declared.outcome.Reply.{Reply}
 use Rattle.script_value.specs.declared.outcome.Reply.TheVariants.{Worn}
-use Rattle.script_nodes.specs.declared.setup.Setup.{Setup}
+use Rattle.script_nodes.specs.Setup.{Library}
 use Rattle.page_names.specs.Names.{Destination}
 use Rattle.web_disk.specs.View.{View}
 use Rattle.shelf_lock.specs.declared.view.View as lock
@@ -19,7 +19,7 @@ use Rattle.history_spec.specs.Passes.{Goes, publish_of}
 use Rattle.site.specs.declared.entry.KeptEntry.{KeptEntry}
 use Rattle.site.specs.declared.opening.Opening.{Opening}
 use Rattle.site.specs.Entries.{entry, entries_of}
-use Rattle.site.specs.Openings.{IsOwnOpening, start_of, source_of, count_of, book_then}
+use Rattle.site.specs.Openings.{opened_library, IsOwnOpening, start_of, source_of, count_of, book_then}
 use Rattle.site.specs.Sound.{Holds, IsNoTicket}
 
 -- what a pass knows of a shelf
@@ -34,11 +34,11 @@ Spots D N = List (Spot (Opening D N) KeptEntry)
 abbrev pub seen_by : {D N : Type 0} → Known D N → List Entry
 seen_by v = entries_of v.seen
 
--- the seat of a worker at a shelf that was opened under this setup, with this fuel for a visit
-pub record IsSeat {D N : Type 0} (setup : Setup) (fuel worker : ℕ) (v : Known D N) : Type 0 where
+-- the seat of a worker at a shelf that was opened with these scripts, and with this fuel for a visit
+pub record IsSeat {D N : Type 0} (library : Option Library) (fuel worker : ℕ) (v : Known D N) : Type 0 where
   pub opening : Opening D N
   pub opening_is : v.opening ≡ opening ∷ []
-  pub setup_is : opening.setup.value ≡ setup
+  pub library_is : library ≡ Some (opened_library opening)
   pub fuel_is : opening.shelf.value.rules.fuel ≡ fuel
   pub caller_is : v.caller ≡ worker
 
@@ -56,12 +56,12 @@ module _ {D N : Type 0} (view : D → View) (tells : Bool) (coming : N → ℕ �
   pub record GoesFrom (v : Known D N) (added : List Entry) (w : Known D N) : Type 0 where
     pub opening : Opening D N
     pub opening_is : v.opening ≡ opening ∷ []
-    pub opened : IsOpened (start_of opening).book
+    pub opened : IsOpened (start_of view opening).book
     pub is : w ≡ posed Outside w.seen v
     pub grows : Grows v.caller (seen_by v) added (seen_by w)
     pub now : ℕ
     pub goes : IsOwnOpening view tells opening
-        → Goes (source_of coming opening) (count_of view opening.shelf.value) now (start_of opening) v.caller (seen_by v) added (seen_by w)
+        → Goes (source_of coming opening) (count_of view opening.shelf.value) now (start_of view opening) v.caller (seen_by v) added (seen_by w)
 
   -- the pass holds the ticket, by what it has seen
   pub record HoldsTicket (v : Known D N) (t : Ticket) : Type 0 where
@@ -92,7 +92,7 @@ module _ {D N : Type 0} (view : D → View) (tells : Bool) (coming : N → ℕ �
   -- the clock of the history that was seen is at the tick, at least, on a shelf that was opened as an own one
   abbrev pub HasReached : Known D N → (tick : ℕ) → Type 0
   HasReached w tick =
-      (o : Opening D N) → w.opening ≡ o ∷ [] → IsOwnOpening view tells o → tick ≤ (book_then coming o (seen_by w)).clock
+      (o : Opening D N) → w.opening ≡ o ∷ [] → IsOwnOpening view tells o → tick ≤ (book_then view coming o (seen_by w)).clock
 
   -- A sweep is one entry of the caller, with its answer; there is none where the clock was at the tick before. After an answer
   -- that is no refusal the clock is at the tick, at least.

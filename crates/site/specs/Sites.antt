@@ -1,5 +1,5 @@
 -- What the calls of a site do to a pass.
-use Rattle.std.specs.Prelude.{◌≡◌, ◌⊎◌, ◌≤◌, ◌%◌, ◌<◌, ◌^◌, ℕ, Bool, List, [], ◌∷◌, length, Option, Some, None, nat_lt, if◌then◌else◌, slice_get, Result, Ok, Err}
+use Rattle.std.specs.Prelude.{◌≡◌, ◌⊎◌, ◌≤◌, ◌%◌, ◌<◌, ◌^◌, ℕ, Bool, List, [], ◌∷◌, length, Option, Some, None, option_map, nat_lt, if◌then◌else◌, slice_get, Result, Ok, Err}
 use Rattle.std.specs.Global.{Vec}
 use Rattle.script_value.specs.Val.{Val}
 use Rattle.script_value.specs.declared.outcome.Reply.{Reply}
@@ -7,6 +7,8 @@ use Rattle.script_value.specs.declared.outcome.Reply.TheVariants.{Refused}
 use Rattle.script_value.specs.declared.outcome.Refusal.TheVariants.{Unknown}
 use Rattle.script_value.specs.declared.value.Value.{Value}
 use Rattle.script_value.specs.Views.{meaning}
+use Rattle.script_nodes.specs.Setup.{Library}
+use Rattle.script_nodes.specs.Views.{library_of}
 use Rattle.page_names.specs.Names.{Destination, start, page}
 use Rattle.page_names.specs.declared.names.Target.{Target}
 use Rattle.page_names.specs.Views.{target_of}
@@ -19,7 +21,7 @@ use Rattle.site.specs.declared.opening.Opening.{Opening}
 use Rattle.site.specs.declared.site.Site.{Site}
 use Rattle.machine_states.specs.declared.segment.Segment.{Segment}
 use Rattle.shelf.specs.Views.{IsRunIfAny}
-use Rattle.site.specs.Openings.{scripts_in}
+use Rattle.site.specs.Openings.{opened_library}
 use Rattle.site.specs.Passes.{Spots, IsSeat, HoldsTicket, Took, Published, Swept, Known}
 
 -- The shelf that a target is on, among so many: a page is on the one that it names, and a start on the one that its worker
@@ -29,17 +31,21 @@ shelf_for shelves worker (start name) = if nat_lt 0 shelves then Some (worker % 
 shelf_for shelves worker (page name n) = if nat_lt n.shelf shelves then Some n.shelf else None
 
 module _ {D N : Type 0} where
+  -- the scripts of the shelf at this place, if there is one, as a site has them beside the lock
+  abbrev pub library_at : Site D N → (place : ℕ) → Option Library
+  library_at site k = option_map library_of (slice_get site.libraries.items k)
+
   -- a pass of this site: its worker has a seat at each shelf
   pub record IsOwn (site : Site D N) (pass : Spots D N) : Type 0 where
     pub of : IsOf site.row pass
     pub fuel : site.fuel < 2 ^ 63
-    pub seats : (k : ℕ) (a : Spot (Opening D N) KeptEntry) → slice_get pass k ≡ Some a → IsSeat site.setup site.fuel (caller_at pass) a.known
+    pub seats : (k : ℕ) (a : Spot (Opening D N) KeptEntry) → slice_get pass k ≡ Some a → IsSeat (library_at site k) site.fuel (caller_at pass) a.known
 
   -- the segment is that of the ticket's run, under the limits of the shelf at this place
   abbrev pub IsRunThere : ℕ → Spots D N → Ticket → Option Segment → Type 0
   IsRunThere k pass t segment =
       (a : Spot (Opening D N) KeptEntry) (o : Opening D N) → slice_get pass k ≡ Some a → a.known.opening ≡ o ∷ []
-      → IsRunIfAny (scripts_in o) o.shelf.value.rules.fuel t segment
+      → IsRunIfAny (opened_library o).all o.shelf.value.rules.fuel t segment
 
   -- the segment is that of the ticket's run
   abbrev pub IsRunAt : Spots D N → Ticket → Option Segment → Type 0

@@ -21,7 +21,7 @@ use Rattle.shelf.specs.Views.{IsInOrder, IsOwnShelf, HasGiven, book_in, shelf_of
 use Rattle.site.specs.declared.opening.Opening.{Opening}
 use Rattle.site.specs.Opened as left
 use Rattle.site.specs.Opened.{HasEnded}
-use Rattle.site.specs.Openings.{scripts_in, IsOwnOpening, opened_of, start_of, source_of, count_of, book_then}
+use Rattle.site.specs.Openings.{opened_library, scripts_in, IsOwnOpening, opened_of, start_of, source_of, count_of, book_then}
 
 -- The numbers that are out are those of the tickets that the entries leave. What a caller owes is among these, and no other caller
 -- owes a ticket of its number.
@@ -50,20 +50,21 @@ module _ {D N : Type 0} (view : D → View) (tells : Bool) (coming : N → ℕ �
   -- A shelf that was opened as an own one is one still, and has this legal history since. Where the disk tells its bytes, a crash at
   -- any moment since the opening left what makes the book of a beginning of the history.
   pub record HasItsHistory (o : Opening D N) (s : Shelf D N) (es : List Entry) : Type 0 where
-    pub own : IsOwnShelf view tells (scripts_in o) s
-    pub kept : IsKept (source_of coming o) (count_of view o.shelf.value) (count_of view s) (start_of o)
-        (shelf_of (scripts_in o) (length (tickets_taken es)) s) (coming s.nonces) es
+    pub own : IsOwnShelf view tells s
+    pub kept : IsKept (source_of coming o) (count_of view o.shelf.value) (count_of view s) (start_of view o)
+        (shelf_of view (length (tickets_taken es)) s) (coming s.nonces) es
     pub ever : IsTrue tells → LeavesOnly (view o.shelf.value.journal.disk) (view s.journal.disk) (IsLeft o es)
 
-  -- The shelf is in order, under the limits that it was opened under; the numbers that are out are those of the tickets that its
+  -- The shelf is in order, with the limits and the scripts that it was opened with; the numbers that are out are those of the tickets that its
   -- entries leave; and its nonces go on. Where the disk tells its bytes, a crash at any moment since the opening left what makes
   -- a book. A shelf that was opened as an own one has its history.
   pub record IsSound (o : Opening D N) (s : Shelf D N) (es : List Entry) : Type 0 where
-    pub in_order : IsInOrder view tells (scripts_in o) s
-    pub opened : IsOpened (start_of o).book
-    pub out : AreOut (book_in (scripts_in o) s).out es
+    pub in_order : IsInOrder view tells s
+    pub opened : IsOpened (start_of view o).book
+    pub out : AreOut (book_in view s).out es
     pub nonces : HasGiven (source_of coming o) (length (tickets_taken es)) (coming s.nonces)
     pub rules : s.rules ≡ o.shelf.value.rules
+    pub library : s.library ≡ o.shelf.value.library
     pub later : count_of view o.shelf.value ≤ count_of view s
     pub counted : count_of view o.shelf.value < 2 ^ 64
     pub ever : IsTrue tells → LeavesOnly (view o.shelf.value.journal.disk) (view s.journal.disk) (MakesSome o)
@@ -75,16 +76,16 @@ module _ {D N : Type 0} (view : D → View) (tells : Bool) (coming : N → ℕ �
   pub record IsForItsVisit (o : Opening D N) (es : List Entry) (t : Ticket) : Type 0 where
     pub front : List Entry
     pub begins : IsPrefix front es
-    pub scripts : (book_then coming o front).scripts ≡ scripts_in o
-    pub admitted : refusal_of (admit (book_then coming o front) (target_of t.target)) ≡ None
-    pub fits : FitsAs (scripts_in o) (book_then coming o front) t (admit (book_then coming o front) (target_of t.target))
+    pub scripts : (book_then view coming o front).scripts ≡ scripts_in o
+    pub admitted : refusal_of (admit (book_then view coming o front) (target_of t.target)) ≡ None
+    pub fits : FitsAs (opened_library o).all (book_then view coming o front) t (admit (book_then view coming o front) (target_of t.target))
 
   -- The caller holds the ticket: by its own entries it owes it; and it can be run. On a shelf that was opened as an own one it is
   -- for its visit.
   pub record Holds (o : Opening D N) (es : List Entry) (caller : ℕ) (t : Ticket) : Type 0 where
     pub owes : Owes caller (ticket_of t) es
-    pub runs : IsRunnable (scripts_in o) t
-    pub script : HasItsScript (scripts_in o) t (target_of t.target)
+    pub runs : IsRunnable (opened_library o).all t
+    pub script : HasItsScript (opened_library o) t (target_of t.target)
     pub visit : IsOwnOpening view tells o → IsForItsVisit o es t
 
   -- where a take gave a ticket, its caller holds it, and it is for this target and answer; else it was told why there is none

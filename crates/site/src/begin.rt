@@ -1,9 +1,11 @@
 //! Opening the shelves of a site, and handing them back.
-ghost use Rattle.std.specs.Prelude.{◌≡◌, ◌≤◌, ◌++◌, length, IfOk, IfErr, OnOk, OnErr, reverse, vec_len};
+ghost use Rattle.std.specs.Prelude.{◌≡◌, ◌≤◌, ◌++◌, [], ℕ, Some, length, IfOk, IfErr, OnOk, OnErr, reverse, slice_get, vec_len};
 ghost use Rattle.script_nodes.specs.Views.{scripts_of};
+ghost use Rattle.setup_reader.specs.Texts.{IsReadSetup};
 ghost use Rattle.journal_records.specs.Records.{IsInGrammar, begin_of};
 ghost use Rattle.shelf.specs.Ranges.{AreInRange};
-ghost use Rattle.site.specs.Beginnings.{rules_for, CanBegin, IsFreshOn, AreOpened, IsNotOpened, AreNotOpened, HaveRoom, KeepRoom, AreGone, HasMany, disks_of, nonces_of};
+ghost use Rattle.site.specs.Keeping.{IsSoundShelf};
+ghost use Rattle.site.specs.Beginnings.{rules_for, CanBegin, IsFreshOn, AreOpened, IsNotOpened, AreNotOpened, AreCopies, AreLocked, HaveRoom, KeepRoom, AreGone, HasMany, disks_of, nonces_of, shelves_of, site_of};
 
 use crate::entry::KeptEntry;
 use crate::fault::SiteFault;
@@ -12,7 +14,7 @@ use crate::pass::SitePass;
 use crate::site::Site;
 use ghost_history::History;
 use lock_row::LockRow;
-use script_nodes::Setup;
+use script_nodes::{Library, Setup};
 use shelf::{BeginFault, Rules, Shelf};
 use std::alloc::{AllocError, Global};
 use std::sync::Wait;
@@ -23,7 +25,6 @@ use web_outside::Nonces;
 pub const MOST_PASSES: u32 = 16;
 
 impl<D: Disk, N: Nonces + Drop> Site<D, N> {
-    ghost use Rattle.std.specs.Prelude.{Some, ℕ, slice_get};
     ghost use Rattle.site.specs.Sites.{IsOwn};
     ghost use Rattle.site.specs.Ends.{AreBack, AllAreSeen};
     ghost use Rattle.site.specs.Beginnings.{IsBegun, IsNotBegun, IsReady, IsWhole, AreFirstPasses, GivesOut, most_passes};
@@ -34,8 +35,8 @@ impl<D: Disk, N: Nonces + Drop> Site<D, N> {
     ///
     /// A shelf whose disk tells own records is opened as an own one.
     ///
-    /// It asks for one disk and one source a shelf, for limits in their ranges, and for scripts that a journal can begin with.
-    /// It may wait, where memory ends and it takes shelves from their locks.
+    /// It asks for one disk and one source a shelf, for limits in their ranges, and for a setup that is what its names and texts are
+    /// read as and with which a journal can begin. It may wait, where memory ends and it takes shelves from their locks.
     pub fn begin<R: Wait>(
         rt: &R,
         alloc: Global,
@@ -47,11 +48,11 @@ impl<D: Disk, N: Nonces + Drop> Site<D, N> {
         requires range { AreInRange (rules_for rules 0) }
         requires disks { length disks.items ≡ rules.shelves }
         requires nonces { length nonces.items ≡ rules.shelves }
-        requires few { length (scripts_of setup) ≤ 256 }
+        requires read { IsReadSetup (scripts_of setup) }
         requires begins { CanBegin (scripts_of setup) rules.shelves }
-        ensures begun { IfOk result (IsBegun D.view D.tells setup rules disks.items nonces.items) }
+        ensures begun { IfOk result (IsBegun D.view D.tells (scripts_of setup) rules disks.items nonces.items) }
         ensures ready { IfOk result IsReady }
-        ensures fault { IfErr result (IsNotBegun D.view D.tells setup disks.items nonces.items) }
+        ensures fault { IfErr result (IsNotBegun D.view D.tells (scripts_of setup) disks.items nonces.items) }
     {
         let mut disks = disks;
         let mut nonces = nonces;
@@ -69,15 +70,9 @@ impl<D: Disk, N: Nonces + Drop> Site<D, N> {
             Ok(shelves) => shelves,
             Err((shelf, fault)) => return Err(handed(disks, nonces, shelf, fault)),
         };
-        match LockRow::new(rt, alloc, shelves, MOST_PASSES) {
-            Ok(row) => Ok(Site {
-                setup,
-                fuel: rules.fuel,
-                row,
-                disks,
-                nonces,
-                histories,
-            }),
+        drop(setup);
+        match lock_all(rt, alloc, shelves) {
+            Ok(locked) => Ok(site_of(locked, rules.fuel, disks, nonces, histories)),
             Err(shelves) => {
                 give_back(shelves, &mut disks, &mut nonces);
                 Err(handed(disks, nonces, 0, BeginFault::Memory))
@@ -124,7 +119,7 @@ impl<D: Disk, N: Nonces + Drop> Site<D, N> {
         ensures told { AllAreSeen passes result.2 }
     {
         let Site {
-            setup: _,
+            libraries: _,
             fuel: _,
             row,
             mut disks,
@@ -167,14 +162,14 @@ fn open_one<D: Disk, N: Nonces + Drop>(
     source: N,
 ) -> Result<KeptShelf<D, N>, (BeginFault, D, N)>
     requires range { AreInRange rules }
-    requires few { length (scripts_of setup.now) ≤ 256 }
+    requires read { IsReadSetup (scripts_of setup.now) }
     requires begins { IsInGrammar (begin_of rules.number (scripts_of setup.now)) }
-    ensures opened { IfOk result (IsFreshOn D.view D.tells N.nonce setup.now rules disk source) }
-    ensures unopened { IfErr result (IsNotOpened D.view D.tells setup.now rules.number disk) }
+    ensures opened { IfOk result (IsFreshOn D.view D.tells N.nonce (scripts_of setup.now) rules disk source) }
+    ensures unopened { IfErr result (IsNotOpened D.view D.tells (scripts_of setup.now) rules.number disk) }
     ensures source { IfErr result (λ e. e.2 ≡ source) }
 {
     match Shelf::begin(alloc, disk, source, setup, rules) {
-        Ok(shelf) => Ok(KeptShelf::new(setup, shelf)),
+        Ok(shelf) => Ok(KeptShelf::new(shelf)),
         Err(unopened) => Err(unopened),
     }
 }
@@ -191,14 +186,14 @@ fn open_all<D: Disk, N: Nonces + Drop>(
     requires range { AreInRange (rules_for rules 0) }
     requires disks { length disks.old.items ≡ rules.shelves }
     requires nonces { length nonces.old.items ≡ rules.shelves }
-    requires few { length (scripts_of setup.now) ≤ 256 }
+    requires read { IsReadSetup (scripts_of setup.now) }
     requires begins { CanBegin (scripts_of setup.now) rules.shelves }
     ensures opened { IfOk result
-        (AreOpened D.view D.tells N.nonce setup.now rules disks.old nonces.old) }
+        (AreOpened D.view D.tells N.nonce (scripts_of setup.now) rules disks.old nonces.old) }
     ensures many { IfOk result (HasMany rules.shelves) }
     ensures gone { OnOk result (AreGone disks.new nonces.new) }
     ensures room { KeepRoom disks.old nonces.old disks.new nonces.new }
-    ensures unopened { IfErr result (AreNotOpened D.view D.tells setup.now disks.old disks.new) }
+    ensures unopened { IfErr result (AreNotOpened D.view D.tells (scripts_of setup.now) disks.old disks.new) }
     ensures sources { OnErr result (reverse nonces.new.items ≡ reverse nonces.old.items) }
 {
     let Ok(mut shelves) = Vec::with_capacity(alloc, disks.len()) else {
@@ -218,6 +213,68 @@ fn open_all<D: Disk, N: Nonces + Drop>(
         }
     }
     Ok(shelves)
+}
+
+// What stands behind the locks of shelves, and beside them.
+struct Locked<D: Disk, N: Nonces + Drop> {
+    libraries: Vec<Library>,
+    row: LockRow<KeptShelf<D, N>>,
+}
+
+// The site of these shelves, with this fuel for a visit and with room for what it hands back.
+fn site_of<D: Disk, N: Nonces + Drop>(
+    locked: Locked<D, N>,
+    fuel: u64,
+    disks: Vec<D>,
+    nonces: Vec<N>,
+    histories: Vec<History<KeptEntry>>,
+) -> Site<D, N>
+    ensures { result ≡ site_of locked fuel disks nonces histories }
+{
+    let Locked { libraries, row } = locked;
+    Site {
+        libraries,
+        fuel,
+        row,
+        disks,
+        nonces,
+        histories,
+    }
+}
+
+// Copies of what the journals of shelves told, in their order.
+fn copies<D: Disk, N: Nonces + Drop>(
+    alloc: Global,
+    shelves: &[KeptShelf<D, N>],
+) -> Result<Vec<Library>, AllocError>
+    ensures { IfOk result (AreCopies shelves.now) }
+{
+    let mut libraries = Vec::with_capacity(alloc, shelves.len())?;
+    for shelf in shelves {
+        libraries.push_reserved(shelf.library(alloc)?);
+    }
+    Ok(libraries)
+}
+
+// Puts shelves that have no entry yet behind locks. Where memory ends they are handed back.
+fn lock_all<R: Wait, D: Disk, N: Nonces + Drop>(
+    rt: &R,
+    alloc: Global,
+    shelves: Vec<KeptShelf<D, N>>,
+) -> Result<Locked<D, N>, Vec<KeptShelf<D, N>>>
+    requires fresh { (k : ℕ) (s : _) → slice_get shelves.items k ≡ Some s
+        → IsSoundShelf D.view D.tells N.nonce s × (s.history ≡ []) × (s.opened.shelf.value ≡ s.shelf) }
+    ensures locked { IfOk result (AreLocked shelves.items) }
+    ensures back { IfErr result (λ ks. shelves_of ks.items ≡ shelves_of shelves.items) }
+    ensures many { IfErr result (λ ks. vec_len ks ≡ vec_len shelves) }
+{
+    let Ok(libraries) = copies(alloc, &shelves) else {
+        return Err(shelves);
+    };
+    match LockRow::new(rt, alloc, shelves, MOST_PASSES) {
+        Ok(row) => Ok(Locked { libraries, row }),
+        Err(shelves) => Err(shelves),
+    }
 }
 
 // Closes shelves, and puts their disks and sources behind the others, those of the last shelf first.

@@ -5,12 +5,12 @@ use ghost_history::History;
 use instance_book::Ticket;
 use journal_spec::images_make_books;
 use page_names::Target;
-use script_nodes::Setup;
+use script_nodes::Library;
 use script_value::{Reply, Value};
 use send_suspend::Segment;
 use shelf::{Shelf, tickets_go_on_to_fit};
 use shelf_lock::Kept;
-use std::alloc::Global;
+use std::alloc::{AllocError, Global};
 use std::snapshot::Snapshot;
 use web_disk::Disk;
 use web_outside::Nonces;
@@ -24,16 +24,16 @@ pub struct KeptShelf<D: Disk, N: Drop> {
 }
 
 impl<D: Disk, N: Nonces + Drop> KeptShelf<D, N> {
-    ghost use Rattle.std.specs.Prelude.{◌≡◌, ◌<◌, ◌^◌, [], length};
-    ghost use Rattle.script_nodes.specs.Views.{scripts_of};
-    ghost use Rattle.shelf.specs.Views.{IsInOrder};
-    ghost use Rattle.site.specs.Keeping.{IsSoundShelf, IsHeldOn, GivesOn, OpensAs, IsReopened, IsRunOn, NotesTake, NotesPublish, NotesSweep};
+    ghost use Rattle.std.specs.Prelude.{◌≡◌, ◌<◌, ◌^◌, [], length, IfOk};
+    ghost use Rattle.shelf.specs.Opening.{IsReopened};
+    ghost use Rattle.shelf.specs.Views.{IsInOrder, book_in};
+    ghost use Rattle.site.specs.Keeping.{IsSoundShelf, IsHeldOn, GivesOn, IsItsLibrary, IsRunOn, NotesTake, NotesPublish, NotesSweep};
 
-    /// A shelf that was opened under this setup, with no entry yet.
-    pub fn new(setup: &Setup, shelf: Shelf<D, N>) -> KeptShelf<D, N>
-        requires in_order { IsInOrder D.view D.tells (scripts_of setup.now) shelf }
-        requires opened { IsReopened (scripts_of setup.now) shelf }
-        ensures opened { OpensAs setup.now shelf result }
+    /// A shelf that was opened, with no entry yet.
+    pub fn new(shelf: Shelf<D, N>) -> KeptShelf<D, N>
+        requires in_order { IsInOrder D.view D.tells shelf }
+        requires opened { IsReopened (book_in D.view shelf) }
+        ensures opened { result.opened.shelf.value ≡ shelf }
         ensures shelf { result.shelf ≡ shelf }
         ensures fresh { result.history ≡ [] }
         ensures sound { IsSoundShelf D.view D.tells N.nonce result }
@@ -41,7 +41,6 @@ impl<D: Disk, N: Nonces + Drop> KeptShelf<D, N> {
         images_make_books();
         let _count = shelf.faults();
         let opened = Opening {
-            setup: Snapshot::of(setup),
             shelf: Snapshot::of(&shelf),
         };
         KeptShelf {
@@ -51,17 +50,22 @@ impl<D: Disk, N: Nonces + Drop> KeptShelf<D, N> {
         }
     }
 
+    /// A copy of the scripts that its journal told.
+    pub(crate) fn library(&self, alloc: Global) -> Result<Library, AllocError>
+        ensures { IfOk result (IsItsLibrary self.now) }
+    {
+        self.shelf.library().try_clone(alloc)
+    }
+
     /// Takes the next number for a visit of the target: one entry of the caller.
     pub fn take(
         &mut self,
         alloc: Global,
-        setup: &Setup,
         by: u64,
         target: &Target,
         answer: Value,
     ) -> Result<Ticket, Reply>
         requires room { length self.old.history < 2 ^ 62 }
-        requires setup { setup.now ≡ self.old.opened.setup.value }
         requires sound { IsSoundShelf D.view D.tells N.nonce self.old }
         ensures sound { IsSoundShelf D.view D.tells N.nonce self.new }
         ensures opened { self.new.opened ≡ self.old.opened }
@@ -70,7 +74,7 @@ impl<D: Disk, N: Nonces + Drop> KeptShelf<D, N> {
             target.now answer result self.old self.new }
     {
         let asked = Snapshot::of(&answer);
-        let told = self.shelf.take(alloc, setup, target, answer);
+        let told = self.shelf.take(alloc, target, answer);
         self.history.push(KeptEntry {
             caller: by,
             did: Did::Take {
@@ -86,16 +90,14 @@ impl<D: Disk, N: Nonces + Drop> KeptShelf<D, N> {
     pub fn publish(
         &mut self,
         alloc: Global,
-        setup: &Setup,
         by: u64,
         ticket: Ticket,
         segment: Option<Segment>,
     ) -> Reply
         requires room { length self.old.history < 2 ^ 62 }
-        requires setup { setup.now ≡ self.old.opened.setup.value }
         requires sound { IsSoundShelf D.view D.tells N.nonce self.old }
         requires held { IsHeldOn D.view D.tells N.nonce self.old by ticket }
-        requires segment { IsRunOn (scripts_of setup.now) self.old ticket segment }
+        requires segment { IsRunOn self.old ticket segment }
         ensures sound { IsSoundShelf D.view D.tells N.nonce self.new }
         ensures opened { self.new.opened ≡ self.old.opened }
         ensures entry { NotesPublish by ticket result self.old self.new }
@@ -103,7 +105,7 @@ impl<D: Disk, N: Nonces + Drop> KeptShelf<D, N> {
         images_make_books();
         tickets_go_on_to_fit();
         let owed = Snapshot::of(&ticket);
-        let told = self.shelf.publish(alloc, setup, ticket, segment);
+        let told = self.shelf.publish(alloc, ticket, segment);
         self.history.push(KeptEntry {
             caller: by,
             did: Did::Publish {
@@ -121,7 +123,7 @@ impl<D: Disk, N: Nonces + Drop> KeptShelf<D, N> {
         requires sound { IsSoundShelf D.view D.tells N.nonce self.old }
         ensures sound { IsSoundShelf D.view D.tells N.nonce self.new }
         ensures opened { self.new.opened ≡ self.old.opened }
-        ensures swept { NotesSweep by tick result self.old self.new }
+        ensures swept { NotesSweep D.view by tick result self.old self.new }
     {
         images_make_books();
         if tick <= self.shelf.book().clock() {
@@ -155,7 +157,7 @@ impl<D: Disk, N: Nonces + Drop> KeptShelf<D, N> {
 }
 
 impl<D: Disk, N: Nonces + Drop> Kept for KeptShelf<D, N> {
-    ghost use Rattle.std.specs.Prelude.{◌≡◌, ℕ};
+    ghost use Rattle.std.specs.Prelude.{◌≡◌};
     ghost use Rattle.site.specs.Keeping.{IsSoundShelf};
 
     type Opening = Opening<D, N>;

@@ -21,6 +21,7 @@ pub use opening::Opening;
 pub use pass::{SiteNote, SitePass};
 pub use running::Running;
 use shelf::a_reopened_shelf_is_sound;
+pub use shelf::{BeginFault, Rules};
 pub use site::Site;
 use web_disk::Disk;
 use web_outside::Nonces;

@@ -1,4 +1,9 @@
 //! The shelves of a site.
+ghost use Rattle.std.specs.Prelude.{◌<◌, ◌^◌};
+ghost use Rattle.script_nodes.specs.Views.{library_of};
+ghost use Rattle.instance_book.specs.Fits.{IsRunnable};
+ghost use Rattle.shelf.specs.Views.{IsRunIfAny};
+
 use crate::entry::KeptEntry;
 use crate::kept::KeptShelf;
 use crate::pass::{SiteNote, SitePass};
@@ -6,7 +11,7 @@ use ghost_history::History;
 use instance_book::Ticket;
 use lock_row::LockRow;
 use page_names::Target;
-use script_nodes::Setup;
+use script_nodes::Library;
 use script_value::{Refusal, Reply, Value};
 use send_suspend::Segment;
 use shelf::run_ticket;
@@ -16,10 +21,11 @@ use std::sync::Wait;
 use web_disk::Disk;
 use web_outside::{Gate, Nonces};
 
-/// Shelves, each behind a lock of its own, under one setup.
+/// Shelves, each behind a lock of its own.
 #[derive(Drop)]
 pub struct Site<D: Disk, N: Nonces + Drop> {
-    pub(crate) setup: Setup,
+    // What each shelf's journal told, in their order: runs are under no lock.
+    pub(crate) libraries: Vec<Library>,
     // What a visit may cost, on each shelf.
     pub(crate) fuel: u64,
     pub(crate) row: LockRow<KeptShelf<D, N>>,
@@ -36,9 +42,6 @@ impl<D: Disk, N: Nonces + Drop> Site<D, N> {
     ghost use Rattle.page_names.specs.Views.{target_of};
     ghost use Rattle.lock_row.specs.Spots.{IsNoteIn};
     ghost use Rattle.site.specs.Sites.{IsOwn, HoldsThere, HoldsAt, IsRunThere, IsRunAt, shelf_for, TakesFor, TookAt, PublishesAt, PublishedAt, VisitsFor, SweptAt, AnswersTick};
-    ghost use Rattle.script_nodes.specs.Views.{scripts_of};
-    ghost use Rattle.instance_book.specs.Fits.{IsRunnable};
-    ghost use Rattle.shelf.specs.Views.{IsRunIfAny};
 
     /// How many shelves there are.
     pub fn shelves(&self) -> usize
@@ -87,7 +90,7 @@ impl<D: Disk, N: Nonces + Drop> Site<D, N> {
             rt,
             pass,
             shelf,
-            |kept: &mut KeptShelf<D, N>| kept.take(alloc, &self.setup, by, target, answer),
+            |kept: &mut KeptShelf<D, N>| kept.take(alloc, by, target, answer),
         );
         match told {
             Ok(told) => told,
@@ -117,7 +120,7 @@ impl<D: Disk, N: Nonces + Drop> Site<D, N> {
             rt,
             pass,
             shelf,
-            |kept: &mut KeptShelf<D, N>| kept.publish(alloc, &self.setup, by, ticket, segment),
+            |kept: &mut KeptShelf<D, N>| kept.publish(alloc, by, ticket, segment),
         );
         match told {
             Ok(told) => told,
@@ -223,19 +226,13 @@ impl<D: Disk, N: Nonces + Drop> Site<D, N> {
         requires held { HoldsAt D.view D.tells N.nonce pass.now ticket.now }
         ensures { IsRunAt pass.now ticket.now result }
     {
-        let _ = pass;
-        self.segment_of(alloc, ticket)
-    }
-
-    fn segment_of(&self, alloc: Global, ticket: &Ticket) -> Option<Segment>
-        requires runs { IsRunnable (scripts_of self.now.setup) ticket.now }
-        requires fuel { self.now.fuel < 2 ^ 63 }
-        ensures { IsRunIfAny (scripts_of self.now.setup) self.now.fuel ticket.now result }
-    {
-        match run_ticket(alloc, &self.setup, ticket, &ticket.cells, self.fuel) {
-            Ok(segment) => Some(segment),
-            Err(AllocError) => None,
-        }
+        let Some(shelf) = self.shelf_for(pass.caller(), &ticket.target) else {
+            unreachable!()
+        };
+        let Some(library) = self.libraries.get(shelf) else {
+            unreachable!()
+        };
+        segment_of(alloc, library, ticket, self.fuel)
     }
 
     /// Sweeps each shelf whose clock is lower than the tick, in seconds: how many instances it freed, or the reply that says
@@ -285,5 +282,17 @@ impl<D: Disk, N: Nonces + Drop> Site<D, N> {
         ensures heard { ZipsAll HearsOf pass.old note pass.new }
     {
         self.row.hear(pass, note);
+    }
+}
+
+// The segment of a ticket over the cells of its take, where there is memory for the run.
+fn segment_of(alloc: Global, library: &Library, ticket: &Ticket, fuel: u64) -> Option<Segment>
+    requires runs { IsRunnable (library_of library.now).all ticket.now }
+    requires fuel { fuel < 2 ^ 63 }
+    ensures { IsRunIfAny (library_of library.now).all fuel ticket.now result }
+{
+    match run_ticket(alloc, library, ticket, &ticket.cells, fuel) {
+        Ok(segment) => Some(segment),
+        Err(AllocError) => None,
     }
 }

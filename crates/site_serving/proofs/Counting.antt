@@ -10,8 +10,7 @@ use Rattle.script_value.specs.declared.outcome.Reply.TheVariants as replies
 use Rattle.script_value.specs.declared.outcome.Refusal.TheVariants as refusals
 use Rattle.page_names.specs.Names.{Destination}
 use Rattle.replay_spec.specs.Step as step
-use Rattle.instance_book.specs.declared.ticket.Ticket.{Ticket}
-use Rattle.instance_book.specs.Views.{ticket_of, reply_of}
+use Rattle.site.specs.Shelves.{Ticket, ticket_of, reply_of}
 use Rattle.history_spec.specs.Histories.{Entry, own_of}
 use Rattle.history_spec.specs.Laws.{take_of}
 use Rattle.history_spec.specs.Passes.{publish_of}
@@ -52,11 +51,11 @@ counts_as_told (replies.Ended bytes) = refl
 counts_as_told (replies.Refused refusals.Unknown) = refl
 counts_as_told (replies.Refused refusals.Revoked) = refl
 counts_as_told (replies.Refused (refusals.Closed name)) = refl
+counts_as_told (replies.Refused (refusals.Evicted page)) = refl
 counts_as_told (replies.Refused (refusals.Expired deadline)) = refl
 counts_as_told (replies.Fault fault) = refl
 counts_as_told (replies.Fuel cost) = refl
 counts_as_told (replies.ShelfFull count) = refl
-counts_as_told (replies.InstanceFull count) = refl
 counts_as_told (replies.Oversize size) = refl
 counts_as_told (replies.JournalFull size) = refl
 counts_as_told (replies.DiskFault count) = refl
@@ -71,11 +70,11 @@ no_ticket_counts (replies.Ended bytes) h = absurd h
 no_ticket_counts (replies.Refused refusals.Unknown) h = refl
 no_ticket_counts (replies.Refused refusals.Revoked) h = refl
 no_ticket_counts (replies.Refused (refusals.Closed name)) h = refl
+no_ticket_counts (replies.Refused (refusals.Evicted page)) h = refl
 no_ticket_counts (replies.Refused (refusals.Expired deadline)) h = refl
 no_ticket_counts (replies.Fault fault) h = absurd h
 no_ticket_counts (replies.Fuel cost) h = absurd h
 no_ticket_counts (replies.ShelfFull count) h = absurd h
-no_ticket_counts (replies.InstanceFull count) h = absurd h
 no_ticket_counts (replies.Oversize size) h = absurd h
 no_ticket_counts (replies.JournalFull size) h = absurd h
 no_ticket_counts (replies.DiskFault count) h = absurd h

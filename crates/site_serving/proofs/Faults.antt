@@ -5,11 +5,11 @@ use Rattle.script_value.specs.declared.outcome.Refusal.{Refusal}
 use Rattle.page_names.specs.Names.{Destination}
 use Rattle.replay_spec.specs.Book.{Book, Doubt, spend}
 use Rattle.replay_spec.specs.Rules.{Rules}
-use Rattle.replay_spec.specs.Step.{Event, take, publish, sweep, crash, Fate, plain, no_memory, disk_fault, lost, kept, Reply, taken, disk_failed, swept, Decision, replies, records, down_by, unless, decide, decide_sweep, fate_of, publish_comes, refused_by, settle, step, sweep_comes, take_by, take_unless, worn}
+use Rattle.replay_spec.specs.Step.{Event, take, publish, sweep, compact, crash, Fate, plain, no_memory, disk_fault, lost, kept, Reply, taken, disk_failed, swept, Decision, replies, records, compacts, compact_comes, down_by, unless, decide, decide_compact, decide_sweep, fate_of, publish_comes, refused_by, settle, step, sweep_comes, take_by, take_unless, worn}
 use Rattle.replay_spec.specs.Admission.{admit, or_else, refusal_of, when}
 use Rattle.replay_spec.specs.Runs.{Shelf}
 use Rattle.history_spec.specs.Histories.{Entry, IsCounted, IsLegal, IsNext, MayCome, book_behind, fate_by, shelf_behind}
-use Rattle.history_spec.proofs.Fates.{DecidesPlain, IsPlain, publish_plain, sweep_plain}
+use Rattle.history_spec.proofs.Fates.{DecidesPlain, IsPlain, compact_plain, publish_plain, sweep_plain}
 use Rattle.history_spec.proofs.Going.{along, is_step}
 use Rattle.site_serving.specs.Pages.{fault_count, faults_in}
 
@@ -35,16 +35,23 @@ Refuses d = (r : Reply) × (d ≡ replies r)
 no_records : {P : Type 0} (r : Reply) (c : _) (inside : _) → Refuses (records r c inside) → P
 no_records r c inside (x, is) = absurd (let no : ⊥ = cc is in no)
 
+no_compacts : {P : Type 0} (r : Reply) → Refuses (compacts r) → P
+no_compacts r (x, is) = absurd (let no : ⊥ = cc is in no)
+
 settled : (rules : Rules) (b : Book) (fate : Fate) (d : Decision) → DecidesPlain d → (IsDown b → Refuses d) → Fails b (settle rules b fate d)
 settled rules b no_memory d h refuses = inl (refl, λ x. x)
 settled rules b (disk_fault count) (replies r) h refuses = inl (plain_none r h, λ x. x)
 settled rules b (disk_fault count) (records r c inside) h refuses = inr (refl, λ x. no_records r c inside (refuses x), (_, refl))
+settled rules b (disk_fault count) (compacts r) h refuses = inr (refl, λ x. no_compacts r (refuses x), (_, refl))
 settled rules b plain (replies r) h refuses = inl (plain_none r h, λ x. x)
 settled rules b plain (records r c inside) h refuses = inl (plain_none r h, λ x. no_records r c inside (refuses x))
+settled rules b plain (compacts r) h refuses = inl (plain_none r h, λ x. no_compacts r (refuses x))
 settled rules b lost (replies r) h refuses = inl (plain_none r h, λ x. x)
 settled rules b lost (records r c inside) h refuses = inl (plain_none r h, λ x. no_records r c inside (refuses x))
+settled rules b lost (compacts r) h refuses = inl (plain_none r h, λ x. no_compacts r (refuses x))
 settled rules b kept (replies r) h refuses = inl (plain_none r h, λ x. x)
 settled rules b kept (records r c inside) h refuses = inl (plain_none r h, λ x. no_records r c inside (refuses x))
+settled rules b kept (compacts r) h refuses = inl (plain_none r h, λ x. no_compacts r (refuses x))
 
 down_refuses : (o : Option Doubt) (d : Doubt) (x : Decision) → o ≡ Some d → Refuses (unless (down_by o) x)
 down_refuses o d x is = subst (λ (y : Option Doubt). Refuses (unless (down_by y) x)) (sym is) (_, refl)
@@ -77,6 +84,9 @@ stepped rules b nonce (publish t) fate caller es may =
     settled rules (spend t.number b) (fate_of rules.journal fate) (publish_comes rules b t) (publish_plain rules b t)
     (λ x. down_refuses b.down x.0 (decide rules b t (admit b t.target)) x.1)
 stepped rules b nonce (sweep tick) fate caller es may = swept_late rules b tick fate (nat_le tick b.clock)
+stepped rules b nonce compact fate caller es may =
+    settled rules b (fate_of rules.journal fate) (compact_comes rules b) (compact_plain rules b)
+    (λ x. down_refuses b.down x.0 (decide_compact rules b) x.1)
 stepped rules b nonce (crash scripts) fate caller es may = absurd may
 
 module _ (source : ℕ → ℕ) (opened now : ℕ) (s : Shelf) where

@@ -1,7 +1,6 @@
 pub mod Faults
 pub mod Moving
 pub mod Refining
-pub mod Crossings
 pub mod Counting
 pub mod Sums
 pub mod Served

@@ -13,8 +13,7 @@ use Rattle.script_value.specs.declared.outcome.Reply.TheVariants as replies
 use Rattle.script_value.specs.declared.outcome.Refusal.TheVariants as refusals
 use Rattle.page_names.specs.Names.{Destination, page, start}
 use Rattle.replay_spec.specs.Step as step
-use Rattle.instance_book.specs.declared.ticket.Ticket.{Ticket}
-use Rattle.instance_book.specs.Views.{ticket_of, reply_of}
+use Rattle.site.specs.Shelves.{Ticket, ticket_of, reply_of}
 use Rattle.http_forms.specs.Passes as passes
 use Rattle.lock_row.specs.Spots.{Spot, spot, home_of, At, caller_at}
 use Rattle.lock_row.specs.Rows.{IsNewPass}
@@ -69,8 +68,8 @@ module _ {D N : Type 0} (view : D → View) (tells : Bool) (coming : N → ℕ �
     pub opening : v.opening ≡ o ∷ []
     pub caller : v.caller ≡ worker
     pub front : s.front ≡ seen_by v
-    pub opened : IsOpened (start_of o).book
-    pub clock : IsOwnOpening view tells o → s.tick ≤ (book_then coming o s.front).clock
+    pub opened : IsOpened (start_of view o).book
+    pub clock : IsOwnOpening view tells o → s.tick ≤ (book_then view coming o s.front).clock
 
   -- what a call leaves stands for what it makes
   makes : (o : Opening D N) (v w : Known D N) (s : Seen) (added : List Entry) → Knows o v s → own_of worker added ≡ added
@@ -102,24 +101,24 @@ module _ {D N : Type 0} (view : D → View) (tells : Bool) (coming : N → ℕ �
       same : g.opening ≡ o
       same = let e : g.opening ∷ [] ≡ o ∷ [] = sym g.opening_is ∙ k.opening in cc e
 
-      legal : IsOwnOpening view tells o → IsLegal (source_of coming o) (count_of view o.shelf.value) g.now (start_of o) ((s.front ++ others) ++ added)
+      legal : IsOwnOpening view tells o → IsLegal (source_of coming o) (count_of view o.shelf.value) g.now (start_of view o) ((s.front ++ others) ++ added)
       legal own =
-          subst (λ (l : List Entry). IsLegal (source_of coming o) (count_of view o.shelf.value) g.now (start_of o) l) (sym whole)
+          subst (λ (l : List Entry). IsLegal (source_of coming o) (count_of view o.shelf.value) g.now (start_of view o) l) (sym whole)
           ((subst (λ (x : Opening D N). IsOwnOpening view tells x
-          → IsLegal (source_of coming x) (count_of view x.shelf.value) g.now (start_of x) (seen_by w)) same (λ y. (g.goes y).legal)) own)
+          → IsLegal (source_of coming x) (count_of view x.shelf.value) g.now (start_of view x) (seen_by w)) same (λ y. (g.goes y).legal)) own)
 
       rises : IsOwnOpening view tells o → (front more : List Entry) → front ++ more ≡ (s.front ++ others) ++ added
-          → (book_then coming o front).clock ≤ (book_then coming o ((s.front ++ others) ++ added)).clock
+          → (book_then view coming o front).clock ≤ (book_then view coming o ((s.front ++ others) ++ added)).clock
       rises own front more is =
-          subst (λ (l : List Entry). (book_then coming o front).clock ≤ (book_then coming o l).clock) is
-          (never_back (source_of coming o) (count_of view o.shelf.value) g.now (start_of o) front more k.opened
-          (subst (λ (l : List Entry). IsLegal (source_of coming o) (count_of view o.shelf.value) g.now (start_of o) l) (sym is) (legal own))).0
+          subst (λ (l : List Entry). (book_then view coming o front).clock ≤ (book_then view coming o l).clock) is
+          (never_back (source_of coming o) (count_of view o.shelf.value) g.now (start_of view o) front more k.opened
+          (subst (λ (l : List Entry). IsLegal (source_of coming o) (count_of view o.shelf.value) g.now (start_of view o) l) (sym is) (legal own))).0
 
-      at : IsOwnOpening view tells o → s.tick ≤ (book_then coming o (s.front ++ others)).clock
+      at : IsOwnOpening view tells o → s.tick ≤ (book_then view coming o (s.front ++ others)).clock
       at own =
           let low = k.clock own in
-          let up = (never_back (source_of coming o) (count_of view o.shelf.value) g.now (start_of o) s.front others k.opened
-          ((go_on (source_of coming o) (count_of view o.shelf.value) g.now (start_of o) (s.front ++ others)).2 added (legal own))).0 in
+          let up = (never_back (source_of coming o) (count_of view o.shelf.value) g.now (start_of view o) s.front others k.opened
+          ((go_on (source_of coming o) (count_of view o.shelf.value) g.now (start_of view o) (s.front ++ others)).2 added (legal own))).0 in
           omega (arith, low, up)
 
   -- one entry of the worker, and none
@@ -174,10 +173,10 @@ module _ {D N : Type 0} (view : D → View) (tells : Bool) (coming : N → ℕ �
 
   swept_to : (o : Opening D N) (w : Known D N) (s m : Seen) (tick freed : ℕ) → Knows o w m
       → (Makes (words o) worker (entry worker (step.sweep tick) (step.swept freed) ∷ []) s m ⊎ ((freed ≡ 0) × Makes (words o) worker [] s m))
-      → (IsOwnOpening view tells o → tick ≤ (book_then coming o (seen_by w)).clock) → (u : Seen) × Knows o w u × IsSwept (words o) worker tick (Ok freed) s u
+      → (IsOwnOpening view tells o → tick ≤ (book_then view coming o (seen_by w)).clock) → (u : Seen) × Knows o w u × IsSwept (words o) worker tick (Ok freed) s u
   swept_to o w s m tick freed k made reached =
-      let clock : IsOwnOpening view tells o → tick ≤ (book_then coming o m.front).clock =
-      λ own. subst (λ (l : List Entry). tick ≤ (book_then coming o l).clock) (sym k.front) (reached own) in (
+      let clock : IsOwnOpening view tells o → tick ≤ (book_then view coming o m.front).clock =
+      λ own. subst (λ (l : List Entry). tick ≤ (book_then view coming o l).clock) (sym k.front) (reached own) in (
         record m { tick = tick },
         record { opening = k.opening; caller = k.caller; front = k.front; opened = k.opened; clock = clock },
         record { middle = m; makes = made; clock = clock; is = refl },
@@ -365,7 +364,7 @@ module _ {D N : Type 0} (view : D → View) (tells : Bool) (coming : N → ℕ �
   -- a worker that was just given its pass has seen nothing
   pub first_knows : (pass : Spots D N) → IsNewPass worker pass
       → ((k : ℕ) (a : Spot (Opening D N) KeptEntry) → slice_get pass k ≡ Some a
-      → (o : Opening D N) × (a.known.opening ≡ o ∷ []) × IsOpened (start_of o).book)
+      → (o : Opening D N) × (a.known.opening ≡ o ∷ []) × IsOpened (start_of view o).book)
       → KnowsAll (openings_of (map (λ (s : Spot (Opening D N) KeptEntry). home_of s) pass)) pass
       (unseen (opened_as view tells coming (openings_of (map (λ (s : Spot (Opening D N) KeptEntry). home_of s) pass))))
   first_knows [] new each = tt

@@ -89,7 +89,7 @@ module _ {D N : Type 0} (view : D → View) (tells : Bool) (coming : N → ℕ �
     ended = stands.ended;
     callers = none;
     risen = λ own.
-        risen (source_of coming o) (disk_count view o.shelf.value) (view d).faults (start_of o) es stands.ended.later (stands.ended.history own).legal;
+        risen (source_of coming o) (disk_count view o.shelf.value) (view d).faults (start_of view o) es stands.ended.later (stands.ended.history own).legal;
   }
 
   -- the shelves that were handed back, one after the other
@@ -218,7 +218,7 @@ module _ {D P L N : Type 0} (v : Views D P L N) (site : Site D N) (requests : �
     pub first : (k : ℕ) (p : Spots D N) → slice_get passes k ≡ Some p → IsFirstPass site k p
     pub many : length histories ≡ length site.row.homes
     pub opened : (k : ℕ) (h : Home (Opening D N)) → slice_get site.row.homes k ≡ Some h
-        → (o : Opening D N) × (h.opening ≡ o ∷ []) × IsOpened (start_of o).book
+        → (o : Opening D N) × (h.opening ≡ o ∷ []) × IsOpened (start_of v.disk o).book
     pub told : (k : ℕ) (es : List KeptEntry) → slice_get histories k ≡ Some es → (j : ℕ) (p : Spots D N) → slice_get passes' j ≡ Some p
         → (a : Spot (Opening D N) KeptEntry) → slice_get p k ≡ Some a → IsSeenBy a.known.caller (seen_by a.known) (entries_of es)
 
@@ -328,7 +328,7 @@ pub opened_all : {D N : Type 0} (view : D → View) (tells : Bool) (coming : N �
     (histories : List (List KeptEntry)) → length disks ≡ length homes → length nonces ≡ length homes → length histories ≡ length homes
     → ((k : ℕ) (h : Home (Opening D N)) (d : D) (n : N) (es : List KeptEntry) → slice_get homes k ≡ Some h → slice_get disks k ≡ Some d → slice_get nonces k ≡ Some n
     → slice_get histories k ≡ Some es → IsBack view tells coming h.opening given d n (entries_of es))
-    → (k : ℕ) (h : Home (Opening D N)) → slice_get homes k ≡ Some h → (o : Opening D N) × (h.opening ≡ o ∷ []) × IsOpened (start_of o).book
+    → (k : ℕ) (h : Home (Opening D N)) → slice_get homes k ≡ Some h → (o : Opening D N) × (h.opening ≡ o ∷ []) × IsOpened (start_of view o).book
 opened_all view tells coming homes given disks nonces histories ds ns es each k h h_is =
     let low = slice_get_within homes k h h_is in
     let d = get_there disks k (omega (arith, low, ds)) in

@@ -1,3 +1,4 @@
+pub mod Shelves
 pub mod Kept
 pub mod Pages
 pub mod Visits

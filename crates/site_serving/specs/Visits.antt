@@ -7,7 +7,7 @@ use Rattle.script_value.specs.declared.outcome.Refusal.TheVariants.{Unknown}
 use Rattle.page_names.specs.Names.{Destination}
 use Rattle.replay_spec.specs.Next.{Ticket}
 use Rattle.replay_spec.specs.Step.{take, sweep, swept}
-use Rattle.instance_book.specs.Views.{reply_of}
+use Rattle.site.specs.Shelves.{reply_of}
 use Rattle.http_forms.specs.Passes.{PassRules, Swept}
 use Rattle.history_spec.specs.Histories.{Entry, own_of}
 use Rattle.history_spec.specs.Laws.{take_of}

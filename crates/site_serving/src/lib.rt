@@ -12,6 +12,7 @@ mod workers;
 pub use keeping::{NoPast, Past};
 pub use kept_past::{KeptPast, KeptServing};
 pub use serving::{ServingFault, Watch, serve_site};
+pub use site::{BeginFault, Rules, Site, SiteFault};
 pub use tallies::total;
 pub use worker::{Room, Worker};
 pub use workers::{MOST_WORKERS, serve_all};

@@ -6,7 +6,7 @@ use Rattle.site.proofs.closed_is_closed_over_threads.Goals as goal
 pub returns : goal.returns
 returns g c o disk nonces es stands own sound before between more leaving next name is leaves =
     let source = source_of {D = g.row.D.Denot} {N = g.row.N.Denot} g.N.Nonces.nonce o in
-    let start = start_of {D = g.row.D.Denot} {N = g.row.N.Denot} o in
+    let start = start_of {D = g.row.D.Denot} {N = g.row.N.Denot} g.D.Disk.view o in
     let opened = count_of {D = g.row.D.Denot} {N = g.row.N.Denot} g.D.Disk.view o.shelf.value in
     let now = (g.D.Disk.view disk).faults in
     let until = before ++ leaving ∷ between in

@@ -48,10 +48,10 @@ loop-number-preserved g c =
     let at_n : slice_get (reverse c.args.nonces.now.items) c.loop-number.number ≡ Some n =
     ap (λ l. slice_get l c.loop-number.number) there_n
     ∙ subst (λ (k : ℕ). slice_get (map nonces_in shelves ++ n ∷ reverse left_n) k ≡ Some n) (map_length nonces_in shelves ∙ i.many.1) (at_here (map nonces_in shelves) n (reverse left_n)) in
-    let opened = subst (λ r. IsFreshOn {D = g.row.D.Denot} {N = g.row.N.Denot} g.D.Disk.view g.D.Disk.tells g.N.Nonces.nonce c.args.setup.now r d n s) c.rules_with.ensures c.in-Ok-open_one.ensures.opened in
+    let opened = subst (λ r. IsFreshOn {D = g.row.D.Denot} {N = g.row.N.Denot} g.D.Disk.view g.D.Disk.tells g.N.Nonces.nonce (scripts_of c.args.setup.now) r d n s) c.rules_with.ensures c.in-Ok-open_one.ensures.opened in
     record {
-      fresh = subst (λ l. AreFreshOn {D = g.row.D.Denot} {N = g.row.N.Denot} g.D.Disk.view g.D.Disk.tells g.N.Nonces.nonce c.args.setup.now c.args.rules (reverse c.args.disks.now.items) (reverse c.args.nonces.now.items) l) (sym pushed)
-          (fresh_on {D = g.row.D.Denot} {N = g.row.N.Denot} g.D.Disk.view g.D.Disk.tells g.N.Nonces.nonce c.args.setup.now c.args.rules (reverse c.args.disks.now.items) (reverse c.args.nonces.now.items) shelves c.loop-number.number d n s i.fresh i.many.1 at_d at_n opened);
+      fresh = subst (λ l. AreFreshOn {D = g.row.D.Denot} {N = g.row.N.Denot} g.D.Disk.view g.D.Disk.tells g.N.Nonces.nonce (scripts_of c.args.setup.now) c.args.rules (reverse c.args.disks.now.items) (reverse c.args.nonces.now.items) l) (sym pushed)
+          (fresh_on {D = g.row.D.Denot} {N = g.row.N.Denot} g.D.Disk.view g.D.Disk.tells g.N.Nonces.nonce (scripts_of c.args.setup.now) c.args.rules (reverse c.args.disks.now.items) (reverse c.args.nonces.now.items) shelves c.loop-number.number d n s i.fresh i.many.1 at_d at_n opened);
       many = search (rules, arith);
       room = search (rules, arith);
       left = search (rules, arith);
@@ -85,7 +85,7 @@ returns-in-Err-clause-unopened g c =
     let long : length (reverse c.args.nonces.now.items) ≡ length (reverse c.args.disks.now.items) =
     length-reverse c.args.nonces.now.items ∙ (c.requires.nonces ∙ (sym c.requires.disks ∙ sym (length-reverse c.args.disks.now.items))) in
     subst (λ l. AreUnopened {D = g.row.D.Denot} g.D.Disk.view g.D.Disk.tells (scripts_of c.args.setup.now) (reverse c.args.disks.now.items) l c.loop-number.number c.in-Err.fault) (sym back)
-    (unopened_at {D = g.row.D.Denot} {N = g.row.N.Denot} g.D.Disk.view g.D.Disk.tells g.N.Nonces.nonce c.args.setup.now c.args.rules (reverse c.args.disks.now.items) (reverse c.args.nonces.now.items) shelves long i.fresh g.met.D.Disk.only_now
+    (unopened_at {D = g.row.D.Denot} {N = g.row.N.Denot} g.D.Disk.view g.D.Disk.tells g.N.Nonces.nonce (scripts_of c.args.setup.now) c.args.rules (reverse c.args.disks.now.items) (reverse c.args.nonces.now.items) shelves long i.fresh g.met.D.Disk.only_now
     front (reverse left_d) d e c.loop-number.number c.in-Err.fault there_d i.disks.2 i.many.1 unopened)
 
 pub returns-in-Err-clause-sources : goal.returns-in-Err-clause-sources

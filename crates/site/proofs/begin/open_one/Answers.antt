@@ -21,8 +21,7 @@ returns-in-Ok-clause-opened g c =
       later = b.later;
     } in
     record {
-      setup_is = k.opened.0;
-      opened_is = k.opened.1 ∙ sym k.shelf;
+      opened_is = k.opened ∙ sym k.shelf;
       history_is = k.fresh;
       sound = k.sound;
       shelf = subst (λ (s : _). IsOpenedOn {D = g.row.D.Denot} {N = g.row.N.Denot} g.D.Disk.view g.D.Disk.tells (scripts_of c.args.setup.now) c.args.rules c.args.disk c.args.source s) (sym k.shelf) opened;

@@ -16,7 +16,7 @@ use Rattle.site.specs.contracts.kept.KeptShelf as KeptShelf
 use Rattle.site.specs.contracts.opening.Opening as Opened
 use Rattle.site.specs.contracts.entry.KeptEntry as KeptEntry
 use Rattle.site.specs.contracts.site.Site as Site
-use Rattle.site_serving.proofs.Crossings.{kept, row_pass, site_sync}
+use Rattle.site.proofs.Crossings.{kept, row_pass, site_sync}
 use Rattle.request_workers.specs.Tallies.{count_of, IsBelow}
 use Rattle.request_workers.specs.declared.tally.Tally.{Tally}
 use Rattle.site_serving.specs.Totals.{end_of, total}

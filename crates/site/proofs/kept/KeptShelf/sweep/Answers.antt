@@ -22,7 +22,7 @@ returns-clause-sound g c =
     ap entries_of c.push.ensures.behind ∙ (map_snoc entry_of c.args.self.now.history _ ∙ (λ i. es ++ entry c.args.by (step.sweep c.args.tick) (swept_of (c.of.ensures i)) ∷ [])) in
     subst (λ (l : List Entry). IsSound {D = g.row.D.Denot} {N = g.row.N.Denot} view tells coming o t l) (sym grown)
     (sweep_sound {D = g.row.D.Denot} {N = g.row.N.Denot} view tells coming o c.args.self.now.shelf t es c.requires.sound c.args.by c.args.tick c.sweep-told.result c.images_make_books.ensures
-    told.event told.in_order told.own told.any_moment told.own_moments told.cause told.later told.rules)
+    told.event told.in_order told.own told.any_moment told.own_moments told.cause told.later told.rules told.library)
 
 pub returns-clause-swept : goal.returns-clause-swept
 returns-clause-swept g c =

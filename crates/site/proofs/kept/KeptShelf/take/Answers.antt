@@ -1,7 +1,7 @@
 use Rattle.std.proofs.Common.{◌≡◌, ◌∷◌, ◌++◌, [], List, refl, sym, subst, ap, ◌∙◌}
 use Rattle.std.specs.Prelude.{IfOk}
 use Rattle.script_value.specs.Views.{meaning}
-use Rattle.script_nodes.specs.Views.{scripts_of}
+use Rattle.script_nodes.specs.Views.{library_of}
 use Rattle.page_names.specs.Views.{target_of}
 use Rattle.replay_spec.specs.Admission.{admit}
 use Rattle.replay_spec.specs.Step as step
@@ -9,7 +9,7 @@ use Rattle.instance_book.specs.Fits.{FitsAs, IsRunnable}
 use Rattle.instance_book.specs.Makes.{HasItsStates}
 use Rattle.instance_book.specs.Prepares.{HasItsScript}
 use Rattle.lock_row.proofs.Places.{map_snoc}
-use Rattle.shelf.specs.Views.{IsEvent, book_in, rules_of, taken_of}
+use Rattle.shelf.specs.Views.{book_in, rules_of, taken_of}
 use Rattle.history_spec.specs.Histories.{Entry}
 use Rattle.site.specs.declared.entry.Did.TheVariants.{Take}
 use Rattle.site.specs.Entries.{entry, entry_of, entries_of}
@@ -36,8 +36,8 @@ returns-clause-sound g c =
     let t = c.take-told.new.self in
     let told = c.take-told.ensures in
     subst (λ (l : List Entry). IsSound {D = g.row.D.Denot} {N = g.row.N.Denot} view tells coming o t l) (sym (grown g c))
-    (take_sound {D = g.row.D.Denot} {N = g.row.N.Denot} view tells coming o c.args.self.now.shelf t (entries_of c.args.self.now.history) c.requires.sound c.args.setup.now c.requires.setup c.args.by
-    (target_of c.args.target.now) (meaning c.args.answer) (taken_of c.take-told.result) told.event told.journal told.own told.in_order told.rules)
+    (take_sound {D = g.row.D.Denot} {N = g.row.N.Denot} view tells coming o c.args.self.now.shelf t (entries_of c.args.self.now.history) c.requires.sound c.args.by
+    (target_of c.args.target.now) (meaning c.args.answer) (taken_of c.take-told.result) told.event told.journal told.own told.in_order told.rules told.library)
 
 pub returns-clause-gives : goal.returns-clause-gives
 returns-clause-gives g c =
@@ -54,20 +54,21 @@ returns-clause-gives g c =
     let answer = meaning c.args.answer in
     let result = c.take-told.result in
     let r = taken_of result in
-    let does : IsEvent {D = g.row.D.Denot} {N = g.row.N.Denot} coming (scripts_of o.setup.value) s t (step.take target answer) r = subst (λ (z : _). IsEvent {D = g.row.D.Denot} {N = g.row.N.Denot} coming (scripts_of z) s t (step.take target answer) r) c.requires.setup told.event in
-    let fits = subst (λ (z : _). HasItsStates (scripts_of z) s.book → IfOk result (λ x. FitsAs (scripts_of z) (book_in {D = g.row.D.Denot} {N = g.row.N.Denot} (scripts_of z) t) x (admit (book_in {D = g.row.D.Denot} {N = g.row.N.Denot} (scripts_of z) t) (target_of x.target)))) c.requires.setup told.fits in
-    let runs = subst (λ (z : _). IfOk result (IsRunnable (scripts_of z))) c.requires.setup told.runs in
-    let script = subst (λ (z : _). IfOk result (λ x. HasItsScript (scripts_of z) x (target_of x.target))) c.requires.setup told.script in
-    let is = told_ticket {D = g.row.D.Denot} {N = g.row.N.Denot} coming c.args.setup.now s c.args.target.now c.args.answer result told.ticket in
-    let history = take_history {D = g.row.D.Denot} {N = g.row.N.Denot} view tells coming o s t es p c.args.setup.now c.requires.setup c.args.by target answer r told.event told.journal told.own in
+    let whole : t.library ≡ o.shelf.value.library = told.library ∙ p.library in
+    let fits : HasItsStates (library_of s.library).all s.book → IfOk result (λ x. FitsAs (library_of o.shelf.value.library).all (book_in {D = g.row.D.Denot} {N = g.row.N.Denot} view t) x (admit (book_in {D = g.row.D.Denot} {N = g.row.N.Denot} view t) (target_of x.target))) =
+    λ states. subst (λ (l : _). IfOk result (λ x. FitsAs (library_of l).all (book_in {D = g.row.D.Denot} {N = g.row.N.Denot} view t) x (admit (book_in {D = g.row.D.Denot} {N = g.row.N.Denot} view t) (target_of x.target)))) whole (told.fits states) in
+    let runs = subst (λ (l : _). IfOk result (IsRunnable (library_of l).all)) whole told.runs in
+    let script = subst (λ (l : _). IfOk result (λ x. HasItsScript (library_of l) x (target_of x.target))) whole told.script in
+    let is = told_ticket {D = g.row.D.Denot} {N = g.row.N.Denot} view coming s c.args.target.now c.args.answer result told.ticket in
+    let history = take_history {D = g.row.D.Denot} {N = g.row.N.Denot} view tells coming o s t es p c.args.by target answer r told.event told.journal told.own in
     record {
       held =
           subst (λ (l : List Entry). IfOk result (λ x. Holds {D = g.row.D.Denot} {N = g.row.N.Denot} view tells coming o l c.args.by x)) (sym (grown g c))
-          (holds_told {D = g.row.D.Denot} {N = g.row.N.Denot} view tells coming o s t es p c.args.by target answer result does history is fits runs script);
+          (holds_told {D = g.row.D.Denot} {N = g.row.N.Denot} view tells coming o s t es p c.args.by target answer result whole told.event history is fits runs script);
       ticket = is;
       refused =
-          take_refused (rules_of (scripts_of o.setup.value) s.rules) (book_in {D = g.row.D.Denot} {N = g.row.N.Denot} (scripts_of o.setup.value) s) (book_in {D = g.row.D.Denot} {N = g.row.N.Denot} (scripts_of o.setup.value) t) target answer _ result
-          (stepped {D = g.row.D.Denot} {N = g.row.N.Denot} view tells coming o s t es p (step.take target answer) r does);
+          take_refused (rules_of s.rules) (book_in {D = g.row.D.Denot} {N = g.row.N.Denot} view s) (book_in {D = g.row.D.Denot} {N = g.row.N.Denot} view t) target answer _ result
+          (stepped {D = g.row.D.Denot} {N = g.row.N.Denot} view tells coming o s t es p (step.take target answer) r told.event);
     }
 
 pub returns-clause-entry : goal.returns-clause-entry

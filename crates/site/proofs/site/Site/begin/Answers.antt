@@ -2,9 +2,8 @@ use Rattle.std.proofs.Common.{rules, ◌≡◌, ◌++◌, ◌<◌, length, refl,
 use Rattle.std.proofs.lemmas.List.{reverse-reverse}
 use Rattle.script_nodes.specs.Views.{scripts_of}
 use Rattle.site.specs.declared.site.Site.{Site}
-use Rattle.site.specs.Entries.{entries_of}
-use Rattle.site.specs.Beginnings.{AreUnopened}
-use Rattle.site.proofs.Begins.{disk_in, nonces_in, turned_fresh, sources_of, fresh_there, begun_of, under_of, as_many, unopened_none, unopened_after, same_shelves, same_parts}
+use Rattle.site.specs.Beginnings.{AreUnopened, IsBegun, IsReady, site_of}
+use Rattle.site.proofs.Begins.{disk_in, nonces_in, turned_fresh, sources_of, fresh_there, begun_of, under_of, as_many, unopened_none, unopened_after, same_parts}
 use Rattle.site.proofs.site.Site.begin.Goals as goal
 
 pub returns-in_default-clause-fault : goal.returns-in_default-clause-fault
@@ -16,46 +15,55 @@ returns-in_default-clause-fault g c =
       sources_back = refl;
     }
 
-pub new-requires-clause-fresh : goal.new-requires-clause-fresh
-new-requires-clause-fresh g c k x e =
-    let view = g.D.Disk.view in
-    let tells = g.D.Disk.tells in
-    let coming = g.N.Nonces.nonce in
-    let ks = c.in-Ok-open_all.shelves.items in
-    let fresh = turned_fresh {D = g.row.D.Denot} {N = g.row.N.Denot} view tells coming c.args.setup c.args.rules c.args.disks.items c.reverse.new.self.items c.args.nonces.items c.reverse-2.new.self.items ks c.reverse.ensures.items c.reverse-2.ensures.items c.in-Ok-open_all.ensures.opened in
-    let long : length c.args.nonces.items ≡ length c.args.disks.items = c.requires.nonces ∙ sym c.requires.disks in
-    let many : length ks ≡ length c.args.disks.items = c.in-Ok-open_all.ensures.many.0 ∙ sym c.requires.disks in
-    let f = fresh_there {D = g.row.D.Denot} {N = g.row.N.Denot} view tells coming c.args.setup c.args.rules c.args.disks.items c.args.nonces.items ks long fresh many k x e in
-    (f.2.sound, f.2.history_is, omega arith)
+pub lock_all-requires : goal.lock_all-requires
+lock_all-requires g c = record {
+  fresh = λ k x e.
+      let view = g.D.Disk.view in
+      let tells = g.D.Disk.tells in
+      let coming = g.N.Nonces.nonce in
+      let ks = c.in-Ok-open_all.shelves.items in
+      let fresh = turned_fresh {D = g.row.D.Denot} {N = g.row.N.Denot} view tells coming (scripts_of c.args.setup) c.args.rules c.args.disks.items c.reverse.new.self.items c.args.nonces.items c.reverse-2.new.self.items ks c.reverse.ensures.items c.reverse-2.ensures.items c.in-Ok-open_all.ensures.opened in
+      let long : length c.args.nonces.items ≡ length c.args.disks.items = c.requires.nonces ∙ sym c.requires.disks in
+      let many : length ks ≡ length c.args.disks.items = c.in-Ok-open_all.ensures.many.0 ∙ sym c.requires.disks in
+      let f = fresh_there {D = g.row.D.Denot} {N = g.row.N.Denot} view tells coming (scripts_of c.args.setup) c.args.rules c.args.disks.items c.args.nonces.items ks long fresh many k x e in
+      (f.2.sound, f.2.history_is, f.2.opened_is);
+}
 
-pub returns-in-Ok-new-clause-begun : goal.returns-in-Ok-new-clause-begun
-returns-in-Ok-new-clause-begun g c =
-    let view = g.D.Disk.view in
-    let tells = g.D.Disk.tells in
-    let coming = g.N.Nonces.nonce in
-    let ks = c.in-Ok-open_all.shelves.items in
-    let fresh = turned_fresh {D = g.row.D.Denot} {N = g.row.N.Denot} view tells coming c.args.setup c.args.rules c.args.disks.items c.reverse.new.self.items c.args.nonces.items c.reverse-2.new.self.items ks c.reverse.ensures.items c.reverse-2.ensures.items c.in-Ok-open_all.ensures.opened in
-    let long : length c.args.nonces.items ≡ length c.args.disks.items = c.requires.nonces ∙ sym c.requires.disks in
-    let many : length ks ≡ length c.args.disks.items = c.in-Ok-open_all.ensures.many.0 ∙ sym c.requires.disks in
-    begun_of {D = g.row.D.Denot} {N = g.row.N.Denot} view tells coming c.args.setup c.args.rules c.args.disks.items c.args.nonces.items ks long fresh many _ refl refl c.in-Ok-new.ensures.homes
+-- the site that was begun
+abbrev begun_site : (g : _) (c : goal.After-site_of g) → Site g.row.D.Denot g.row.N.Denot
+begun_site g c = site_of {D = g.row.D.Denot} {N = g.row.N.Denot} c.in-Ok-lock_all.locked c.args.rules.fuel c.open_all.new.disks c.open_all.new.nonces c.in-Ok.histories
 
-pub returns-in-Ok-new-clause-ready : goal.returns-in-Ok-new-clause-ready
-returns-in-Ok-new-clause-ready g c =
+pub returns-in-Ok-lock_all-clause-begun : goal.returns-in-Ok-lock_all-clause-begun
+returns-in-Ok-lock_all-clause-begun g c =
     let view = g.D.Disk.view in
     let tells = g.D.Disk.tells in
     let coming = g.N.Nonces.nonce in
     let ks = c.in-Ok-open_all.shelves.items in
-    let fresh = turned_fresh {D = g.row.D.Denot} {N = g.row.N.Denot} view tells coming c.args.setup c.args.rules c.args.disks.items c.reverse.new.self.items c.args.nonces.items c.reverse-2.new.self.items ks c.reverse.ensures.items c.reverse-2.ensures.items c.in-Ok-open_all.ensures.opened in
+    let fresh = turned_fresh {D = g.row.D.Denot} {N = g.row.N.Denot} view tells coming (scripts_of c.args.setup) c.args.rules c.args.disks.items c.reverse.new.self.items c.args.nonces.items c.reverse-2.new.self.items ks c.reverse.ensures.items c.reverse-2.ensures.items c.in-Ok-open_all.ensures.opened in
     let long : length c.args.nonces.items ≡ length c.args.disks.items = c.requires.nonces ∙ sym c.requires.disks in
     let many : length ks ≡ length c.args.disks.items = c.in-Ok-open_all.ensures.many.0 ∙ sym c.requires.disks in
-    let site : Site g.row.D.Denot g.row.N.Denot = record { setup = c.args.setup; fuel = c.args.rules.fuel; row = c.in-Ok-new.row; disks = c.open_all.new.disks; nonces = c.open_all.new.nonces; histories = c.in-Ok.histories } in
-    let under = under_of {D = g.row.D.Denot} {N = g.row.N.Denot} view tells coming c.args.setup c.args.rules c.args.disks.items c.args.nonces.items ks long fresh many site refl refl c.in-Ok-new.ensures.homes in
-    let same = as_many {D = g.row.D.Denot} {N = g.row.N.Denot} view tells coming c.args.setup c.args.rules c.args.disks.items c.args.nonces.items ks long fresh many site refl refl c.in-Ok-new.ensures.homes in
+    let locked = c.in-Ok-lock_all.ensures.locked in
+    subst (IsBegun {D = g.row.D.Denot} {N = g.row.N.Denot} view tells (scripts_of c.args.setup) c.args.rules c.args.disks.items c.args.nonces.items) (sym c.site_of.ensures)
+    (begun_of {D = g.row.D.Denot} {N = g.row.N.Denot} view tells coming (scripts_of c.args.setup) c.args.rules c.args.disks.items c.args.nonces.items ks long fresh many (begun_site g c) locked.libraries refl locked.homes)
+
+pub returns-in-Ok-lock_all-clause-ready : goal.returns-in-Ok-lock_all-clause-ready
+returns-in-Ok-lock_all-clause-ready g c =
+    let view = g.D.Disk.view in
+    let tells = g.D.Disk.tells in
+    let coming = g.N.Nonces.nonce in
+    let ks = c.in-Ok-open_all.shelves.items in
+    let fresh = turned_fresh {D = g.row.D.Denot} {N = g.row.N.Denot} view tells coming (scripts_of c.args.setup) c.args.rules c.args.disks.items c.reverse.new.self.items c.args.nonces.items c.reverse-2.new.self.items ks c.reverse.ensures.items c.reverse-2.ensures.items c.in-Ok-open_all.ensures.opened in
+    let long : length c.args.nonces.items ≡ length c.args.disks.items = c.requires.nonces ∙ sym c.requires.disks in
+    let many : length ks ≡ length c.args.disks.items = c.in-Ok-open_all.ensures.many.0 ∙ sym c.requires.disks in
+    let locked = c.in-Ok-lock_all.ensures.locked in
+    let site = begun_site g c in
+    let under = under_of {D = g.row.D.Denot} {N = g.row.N.Denot} view tells coming (scripts_of c.args.setup) c.args.rules c.args.disks.items c.args.nonces.items ks long fresh many site locked.libraries refl locked.homes in
+    let same = as_many {D = g.row.D.Denot} {N = g.row.N.Denot} view tells coming (scripts_of c.args.setup) c.args.rules c.args.disks.items c.args.nonces.items ks long fresh many site locked.libraries refl locked.homes in
     let gone = c.in-Ok-open_all.ensures.gone in
     let fuel = c.requires.range.fuel in
     let shelves = c.requires.range.shelves in
     let disks = c.requires.disks in
-    record {
+    let ready : IsReady {D = g.row.D.Denot} {N = g.row.N.Denot} site = record {
       whole = record {
         fuel = omega arith;
         some = omega arith;
@@ -70,37 +78,35 @@ returns-in-Ok-new-clause-ready g c =
           histories = search (rules, arith);
         };
       };
-      given = c.in-Ok-new.ensures.seats.0;
-      left = c.in-Ok-new.ensures.seats.1;
-    }
+      given = locked.seats;
+      left = locked.left;
+    } in
+    subst (IsReady {D = g.row.D.Denot} {N = g.row.N.Denot}) (sym c.site_of.ensures) ready
 
-pub returns-in-Err-new-clause-fault : goal.returns-in-Err-new-clause-fault
-returns-in-Err-new-clause-fault g c =
+pub returns-in-Err-lock_all-clause-fault : goal.returns-in-Err-lock_all-clause-fault
+returns-in-Err-lock_all-clause-fault g c =
     let view = g.D.Disk.view in
     let tells = g.D.Disk.tells in
     let coming = g.N.Nonces.nonce in
     let ks = c.in-Ok-open_all.shelves.items in
-    let js = c.in-Err-new.shelves.items in
-    let fresh = turned_fresh {D = g.row.D.Denot} {N = g.row.N.Denot} view tells coming c.args.setup c.args.rules c.args.disks.items c.reverse.new.self.items c.args.nonces.items c.reverse-2.new.self.items ks c.reverse.ensures.items c.reverse-2.ensures.items c.in-Ok-open_all.ensures.opened in
+    let js = c.in-Err-lock_all.shelves.items in
+    let fresh = turned_fresh {D = g.row.D.Denot} {N = g.row.N.Denot} view tells coming (scripts_of c.args.setup) c.args.rules c.args.disks.items c.reverse.new.self.items c.args.nonces.items c.reverse-2.new.self.items ks c.reverse.ensures.items c.reverse-2.ensures.items c.in-Ok-open_all.ensures.opened in
     let long : length c.args.nonces.items ≡ length c.args.disks.items = c.requires.nonces ∙ sym c.requires.disks in
     let many : length ks ≡ length c.args.disks.items = c.in-Ok-open_all.ensures.many.0 ∙ sym c.requires.disks in
     let range = c.requires.range.shelves in
     let disks = c.requires.disks in
     let some : 0 < length c.args.disks.items = omega arith in
-    let same = same_shelves {D = g.row.D.Denot} {N = g.row.N.Denot} ks js c.in-Err-new.ensures.back
-    (λ k x y x_is r.
-    let f = fresh_there {D = g.row.D.Denot} {N = g.row.N.Denot} view tells coming c.args.setup c.args.rules c.args.disks.items c.args.nonces.items ks long fresh many k x x_is in
-    r.0.untouched (ap entries_of r.2) ∙ (ap (λ o. o.shelf.value) r.1 ∙ f.2.opened_is)) in
+    let same = c.in-Err-lock_all.ensures.back in
     let gone = c.in-Ok-open_all.ensures.gone in
-    let back : c.handed-in-Err-new.result.disks.items ≡ map disk_in ks =
-    c.handed-in-Err-new.ensures.disks ∙ (ap reverse (c.give_back.ensures.disks ∙ ap (λ l. l ++ reverse (map disk_in js)) gone.0) ∙ (reverse-reverse (map disk_in js) ∙ same_parts {D = g.row.D.Denot} {N = g.row.N.Denot} (λ s. s.journal.disk) ks js same)) in
-    let sources : c.handed-in-Err-new.result.nonces.items ≡ map nonces_in ks =
-    c.handed-in-Err-new.ensures.nonces ∙ (ap reverse (c.give_back.ensures.nonces ∙ ap (λ l. l ++ reverse (map nonces_in js)) gone.1) ∙ (reverse-reverse (map nonces_in js) ∙ same_parts {D = g.row.D.Denot} {N = g.row.N.Denot} (λ s. s.nonces) ks js same)) in
-    let un = unopened_after {D = g.row.D.Denot} {N = g.row.N.Denot} view tells coming c.args.setup c.args.rules c.args.disks.items c.args.nonces.items ks long fresh many some in
-    let told = c.handed-in-Err-new.ensures.fault in
+    let back : c.handed-in-Err-lock_all.result.disks.items ≡ map disk_in ks =
+    c.handed-in-Err-lock_all.ensures.disks ∙ (ap reverse (c.give_back.ensures.disks ∙ ap (λ l. l ++ reverse (map disk_in js)) gone.0) ∙ (reverse-reverse (map disk_in js) ∙ same_parts {D = g.row.D.Denot} {N = g.row.N.Denot} (λ s. s.journal.disk) ks js same)) in
+    let sources : c.handed-in-Err-lock_all.result.nonces.items ≡ map nonces_in ks =
+    c.handed-in-Err-lock_all.ensures.nonces ∙ (ap reverse (c.give_back.ensures.nonces ∙ ap (λ l. l ++ reverse (map nonces_in js)) gone.1) ∙ (reverse-reverse (map nonces_in js) ∙ same_parts {D = g.row.D.Denot} {N = g.row.N.Denot} (λ s. s.nonces) ks js same)) in
+    let un = unopened_after {D = g.row.D.Denot} {N = g.row.N.Denot} view tells coming (scripts_of c.args.setup) c.args.rules c.args.disks.items c.args.nonces.items ks long fresh many some in
+    let told = c.handed-in-Err-lock_all.ensures.fault in
     record {
-      disks_back = subst (λ l. AreUnopened {D = g.row.D.Denot} view tells (scripts_of c.args.setup) c.args.disks.items l c.handed-in-Err-new.result.shelf c.handed-in-Err-new.result.fault) (sym back)
-          (subst (λ k. AreUnopened {D = g.row.D.Denot} view tells (scripts_of c.args.setup) c.args.disks.items (map disk_in ks) k c.handed-in-Err-new.result.fault) (sym told.0)
+      disks_back = subst (λ l. AreUnopened {D = g.row.D.Denot} view tells (scripts_of c.args.setup) c.args.disks.items l c.handed-in-Err-lock_all.result.shelf c.handed-in-Err-lock_all.result.fault) (sym back)
+          (subst (λ k. AreUnopened {D = g.row.D.Denot} view tells (scripts_of c.args.setup) c.args.disks.items (map disk_in ks) k c.handed-in-Err-lock_all.result.fault) (sym told.0)
           (subst (λ w. AreUnopened {D = g.row.D.Denot} view tells (scripts_of c.args.setup) c.args.disks.items (map disk_in ks) 0 w) (sym told.1) un));
-      sources_back = sources ∙ sources_of {D = g.row.D.Denot} {N = g.row.N.Denot} view tells coming c.args.setup c.args.rules c.args.disks.items c.args.nonces.items ks long fresh many;
+      sources_back = sources ∙ sources_of {D = g.row.D.Denot} {N = g.row.N.Denot} view tells coming (scripts_of c.args.setup) c.args.rules c.args.disks.items c.args.nonces.items ks long fresh many;
     }

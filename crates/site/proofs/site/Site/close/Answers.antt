@@ -12,6 +12,9 @@ use Rattle.site.proofs.Sounds.{stands_for}
 use Rattle.site.proofs.Turns.{own_map, seen_so}
 use Rattle.site.proofs.site.Site.close.Goals as goal
 
+pub close-shelves-requires : goal.close-shelves-requires
+close-shelves-requires g c = record { own = λ j p at. (c.requires.own j p at).of }
+
 pub loop-shelf-init : goal.loop-shelf-init
 loop-shelf-init g c =
     let r = c.requires.whole.room in

@@ -1,13 +1,11 @@
 use Rattle.std.proofs.Common.{rules, arith, ◌≡◌, ◌<◌, ◌^◌, inr, ℕ, refl, sym, ◌∙◌, subst, ap, length}
 use Rattle.replay_spec.specs.Step as step
 use Rattle.instance_book.specs.Views.{ticket_of, reply_of}
-use Rattle.shelf.specs.Views.{IsRunIfAny}
-use Rattle.script_nodes.specs.Views.{scripts_of}
 use Rattle.site.specs.Entries.{entries_of, Comes}
 use Rattle.site.specs.Sound.{IsSound, Holds}
 use Rattle.site.proofs.Holding.{holds_on}
 use Rattle.site.proofs.Turns.{Turn, published, adds_one, match_ok, match_err, seen_so, from_did, worn}
-use Rattle.site.proofs.Seats.{setup_at, own_on, same_opening}
+use Rattle.site.proofs.Seats.{own_on, same_opening}
 use Rattle.site.proofs.site.Site.publish_at.Goals as goal
 
 pub turn-told-requires-clause-callable : goal.turn-told-requires-clause-callable
@@ -18,7 +16,6 @@ turn-told-requires-clause-callable g c = λ a at p reached.
     let by = c.caller-by.result in
     let most = reached.3 in
     let room : length p.now.history < 2 ^ 62 = omega (arith, most) in
-    let setup = setup_at {D = g.row.D.Denot} {N = g.row.N.Denot} c.args.self.now c.args.pass.now c.args.shelf a p.now.opened c.requires.own at reached.1.0 in
     let sound = reached.0 in
     let by_is : a.known.caller ≡ by = (c.requires.own.seats c.args.shelf a at).caller_is ∙ sym c.caller-by.ensures in
     let h = c.requires.held a at in
@@ -28,8 +25,7 @@ turn-told-requires-clause-callable g c = λ a at p reached.
     subst (λ (n : ℕ). Holds {D = g.row.D.Denot} {N = g.row.N.Denot} view tells coming p.now.opened (entries_of p.now.history) n c.args.ticket) by_is
     (holds_on {D = g.row.D.Denot} {N = g.row.N.Denot} view tells coming p.now.opened (entries_of a.known.seen) (entries_of p.now.history) a.known.caller c.args.ticket so.front so.own
     (subst (λ (o : _). Holds {D = g.row.D.Denot} {N = g.row.N.Denot} view tells coming o (entries_of a.known.seen) a.known.caller c.args.ticket) same h.holds)) in
-    let run : IsRunIfAny (scripts_of c.args.self.now.setup) p.now.opened.shelf.value.rules.fuel c.args.ticket c.args.segment =
-    subst (λ (z : _). IsRunIfAny (scripts_of z) p.now.opened.shelf.value.rules.fuel c.args.ticket c.args.segment) (sym setup) (c.requires.segment a p.now.opened at reached.1.0) in
+    let run = c.requires.segment a p.now.opened at reached.1.0 in
     search rules
 
 pub turn-told-requires-clause-keeps : goal.turn-told-requires-clause-keeps

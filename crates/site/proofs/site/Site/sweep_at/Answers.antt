@@ -1,10 +1,9 @@
 use Rattle.std.proofs.Common.{rules, arith, ◌≡◌, ◌<◌, ◌^◌, inr, refl, sym, ◌∙◌, subst, ap, length}
 use Rattle.site.specs.Entries.{entries_of, Sweeps}
 use Rattle.shelf.specs.Views.{book_in}
-use Rattle.site.specs.Openings.{scripts_in}
 use Rattle.site.specs.Sound.{IsSound}
 use Rattle.site.proofs.Turns.{Turn, swept, adds_swept, match_ok, match_err, from_did, worn}
-use Rattle.site.proofs.Seats.{setup_at, own_on}
+use Rattle.site.proofs.Seats.{own_on}
 use Rattle.site.proofs.site.Site.sweep_at.Goals as goal
 
 pub turn-told-requires-clause-callable : goal.turn-told-requires-clause-callable
@@ -15,7 +14,6 @@ turn-told-requires-clause-callable g c = λ a at p reached.
     let by = c.caller-by.result in
     let most = reached.3 in
     let room : length p.now.history < 2 ^ 62 = omega (arith, most) in
-    let setup = setup_at {D = g.row.D.Denot} {N = g.row.N.Denot} c.args.self.now c.args.pass.now c.args.shelf a p.now.opened c.requires.own at reached.1.0 in
     let sound = reached.0 in
     let by_is : a.known.caller ≡ by = (c.requires.own.seats c.args.shelf a at).caller_is ∙ sym c.caller-by.ensures in
     search rules
@@ -30,12 +28,12 @@ turn-told-requires-clause-keeps g c = λ a at x told y reached did.
     let by_is : a.known.caller ≡ by = (c.requires.own.seats c.args.shelf a at).caller_is ∙ sym c.caller-by.ensures in
     let sound : IsSound {D = g.row.D.Denot} {N = g.row.N.Denot} view tells coming did.left.now.opened did.left.now.shelf (entries_of did.left.now.history) = search rules in
     let opened : did.left.now.opened ≡ did.shown.now.opened = search rules in
-    let sweeps-there : Sweeps by c.args.tick told (book_in {D = g.row.D.Denot} {N = g.row.N.Denot} (scripts_in {D = g.row.D.Denot} {N = g.row.N.Denot} did.shown.now.opened) did.shown.now.shelf).clock did.shown.now.history did.left.now.history = search rules in
-    let sweeps : Sweeps by c.args.tick told (book_in {D = g.row.D.Denot} {N = g.row.N.Denot} (scripts_in {D = g.row.D.Denot} {N = g.row.N.Denot} x.opened) x.shelf).clock x.history y.history = subst (λ (z : _). Sweeps by c.args.tick told (book_in {D = g.row.D.Denot} {N = g.row.N.Denot} (scripts_in {D = g.row.D.Denot} {N = g.row.N.Denot} z.opened) z.shelf).clock z.history y.history) did.shows (subst (λ (z : _). Sweeps by c.args.tick told (book_in {D = g.row.D.Denot} {N = g.row.N.Denot} (scripts_in {D = g.row.D.Denot} {N = g.row.N.Denot} did.shown.now.opened) did.shown.now.shelf).clock did.shown.now.history z.history) did.leaves sweeps-there) in (
+    let sweeps-there : Sweeps by c.args.tick told (book_in {D = g.row.D.Denot} {N = g.row.N.Denot} g.D.Disk.view did.shown.now.shelf).clock did.shown.now.history did.left.now.history = search rules in
+    let sweeps : Sweeps by c.args.tick told (book_in {D = g.row.D.Denot} {N = g.row.N.Denot} g.D.Disk.view x.shelf).clock x.history y.history = subst (λ (z : _). Sweeps by c.args.tick told (book_in {D = g.row.D.Denot} {N = g.row.N.Denot} g.D.Disk.view z.shelf).clock z.history y.history) did.shows (subst (λ (z : _). Sweeps by c.args.tick told (book_in {D = g.row.D.Denot} {N = g.row.N.Denot} g.D.Disk.view did.shown.now.shelf).clock did.shown.now.history z.history) did.leaves sweeps-there) in (
       subst (λ (z : _). IsSound {D = g.row.D.Denot} {N = g.row.N.Denot} view tells coming z.opened z.shelf (entries_of z.history)) did.leaves sound,
       sym (ap (λ z. z.opened) did.leaves) ∙ (opened ∙ ap (λ z. z.opened) did.shows),
       refl,
-      adds_swept by a.known.caller c.args.tick told (book_in {D = g.row.D.Denot} {N = g.row.N.Denot} (scripts_in {D = g.row.D.Denot} {N = g.row.N.Denot} x.opened) x.shelf).clock x.history y.history by_is sweeps,
+      adds_swept by a.known.caller c.args.tick told (book_in {D = g.row.D.Denot} {N = g.row.N.Denot} g.D.Disk.view x.shelf).clock x.history y.history by_is sweeps,
     )
 
 pub returns-in-Ok-clause-own : goal.returns-in-Ok-clause-own
@@ -55,10 +53,10 @@ returns-in-Ok-clause-swept g c =
     let coming = g.N.Nonces.nonce in
     let by = c.caller-by.result in
     let sweeps =
-    from_did _ _ _ (match_ok _ _ _ _ c.turn-told.ensures.turned c.in-Ok.is).4.3 (λ (x : _) (told : _) (y : _). Sweeps by c.args.tick told (book_in {D = g.row.D.Denot} {N = g.row.N.Denot} (scripts_in {D = g.row.D.Denot} {N = g.row.N.Denot} x.opened) x.shelf).clock x.history y.history) (λ x told y did.
+    from_did _ _ _ (match_ok _ _ _ _ c.turn-told.ensures.turned c.in-Ok.is).4.3 (λ (x : _) (told : _) (y : _). Sweeps by c.args.tick told (book_in {D = g.row.D.Denot} {N = g.row.N.Denot} g.D.Disk.view x.shelf).clock x.history y.history) (λ x told y did.
     let met = did.met in
-    let there : Sweeps by c.args.tick told (book_in {D = g.row.D.Denot} {N = g.row.N.Denot} (scripts_in {D = g.row.D.Denot} {N = g.row.N.Denot} did.shown.now.opened) did.shown.now.shelf).clock did.shown.now.history did.left.now.history = search rules in
-    subst (λ (z : _). Sweeps by c.args.tick told (book_in {D = g.row.D.Denot} {N = g.row.N.Denot} (scripts_in {D = g.row.D.Denot} {N = g.row.N.Denot} z.opened) z.shelf).clock z.history y.history) did.shows (subst (λ (z : _). Sweeps by c.args.tick told (book_in {D = g.row.D.Denot} {N = g.row.N.Denot} (scripts_in {D = g.row.D.Denot} {N = g.row.N.Denot} did.shown.now.opened) did.shown.now.shelf).clock did.shown.now.history z.history) did.leaves there)) in
+    let there : Sweeps by c.args.tick told (book_in {D = g.row.D.Denot} {N = g.row.N.Denot} g.D.Disk.view did.shown.now.shelf).clock did.shown.now.history did.left.now.history = search rules in
+    subst (λ (z : _). Sweeps by c.args.tick told (book_in {D = g.row.D.Denot} {N = g.row.N.Denot} g.D.Disk.view z.shelf).clock z.history y.history) did.shows (subst (λ (z : _). Sweeps by c.args.tick told (book_in {D = g.row.D.Denot} {N = g.row.N.Denot} g.D.Disk.view did.shown.now.shelf).clock did.shown.now.history z.history) did.leaves there)) in
     let told = c.in-Ok.told in
     let at = match_ok _ _ _ _ c.turn-told.ensures.turned c.in-Ok.is in
     let t = at.4 in

@@ -6,7 +6,7 @@ use Rattle.shelf.specs.Views.{taken_of}
 use Rattle.site.specs.Entries.{entries_of, Comes}
 use Rattle.site.specs.Sound.{IsSound, Gives}
 use Rattle.site.proofs.Turns.{Turn, took, adds_one, match_ok, match_err, from_did, worn}
-use Rattle.site.proofs.Seats.{setup_at, own_on}
+use Rattle.site.proofs.Seats.{own_on}
 use Rattle.site.proofs.site.Site.take_at.Goals as goal
 
 pub turn-told-requires-clause-callable : goal.turn-told-requires-clause-callable
@@ -17,7 +17,6 @@ turn-told-requires-clause-callable g c = λ a at p reached.
     let by = c.caller-by.result in
     let most = reached.3 in
     let room : length p.now.history < 2 ^ 62 = omega (arith, most) in
-    let setup = setup_at {D = g.row.D.Denot} {N = g.row.N.Denot} c.args.self.now c.args.pass.now c.args.shelf a p.now.opened c.requires.own at reached.1.0 in
     let sound = reached.0 in
     let by_is : a.known.caller ≡ by = (c.requires.own.seats c.args.shelf a at).caller_is ∙ sym c.caller-by.ensures in
     search rules

@@ -1,4 +1,4 @@
--- Which of the parts of a shelf may go to another thread.
+-- Which of the parts of a site may go to another thread.
 use denote.RattleType.{RattleType}
 use denote.Struct.Declared.{fields, shape}
 use denote.Param.Send.{AllSend, AllSync, IsSend, IsSync, sendable, struct_send, struct_sync, part_keyless}
@@ -12,6 +12,10 @@ use Rattle.machine_states.specs.contracts.frame.Suspended as Suspended
 use Rattle.web_cells.specs.contracts.shades.Shades as Shades
 use Rattle.instance_book.specs.contracts.book.Book as Book
 use Rattle.instance_cells.specs.contracts.effect.Effect as Effect
+use Rattle.journal_records.specs.contracts.records.Origin as Origin
+use Rattle.journal_records.specs.contracts.records.PageRecord as PageRecord
+use Rattle.journal_records.specs.contracts.records.EndedRecord as EndedRecord
+use Rattle.journal_records.specs.contracts.records.FinishRecord as FinishRecord
 use Rattle.instance_book.specs.contracts.after.After as After
 use Rattle.instance_book.specs.contracts.after.Show as Show
 use Rattle.instance_book.specs.contracts.prepared.Opening as Opening
@@ -22,8 +26,9 @@ use Rattle.instance_book.specs.contracts.prepared.Change as Change
 use Rattle.page_journal.specs.contracts.journal.Journal as Journal
 use Rattle.page_journal.proofs.journal.Journal.TheSendSync as journals
 use Rattle.shelf.proofs.rules.Rules.TheSendSync as rules
-use Rattle.shelf.specs.contracts.doubt.Doubted as Doubted
+use Rattle.shelf.specs.contracts.doubt.Work as Work
 use Rattle.shelf.specs.contracts.doubt.Doubt as Doubt
+use Rattle.shelf.specs.contracts.file.FilePast as FilePast
 use Rattle.shelf_lock.proofs.pass.Pass.TheSendSync as passes
 use Rattle.shelf_lock.proofs.lock.ShelfLock.TheSendSync as locks
 use Rattle.shelf_lock.specs.declared.kept.Kept.{Ghosts}
@@ -40,6 +45,7 @@ use Rattle.instance_book.specs.contracts.instance.KeptInstance as KeptInstance
 use Rattle.instance_book.specs.contracts.page.KeptPage as KeptPage
 use Rattle.lock_row.specs.contracts.seats.RowPass as RowPass
 use Rattle.lock_row.specs.contracts.row.LockRow as LockRow
+use Rattle.script_nodes.specs.contracts.library.Library as Library
 use Rattle.script_nodes.specs.contracts.setup.Setup as Setup
 use Rattle.script_nodes.specs.contracts.setup.NamedScript as NamedScript
 use Rattle.script_nodes.specs.contracts.script.Script as Script
@@ -89,32 +95,62 @@ after = search (sendable, closed, cells) depth 40 fits 100000
 show : IsSend Show.the_field.row
 show = search (sendable, in_order, page, after) depth 40 fits 100000
 
+origin : IsSend Origin.the_field.row
+origin = search (sendable, crosses, knot.crosses) depth 40 fits 100000
+
+page_record : IsSend PageRecord.the_field.row
+page_record = search (sendable, crosses, origin, effect, kinds.the_field_send) depth 40 fits 100000
+
+ended_record : IsSend EndedRecord.the_field.row
+ended_record = search (sendable, crosses, knot.crosses, effect) depth 40 fits 100000
+
+finish_record : IsSend FinishRecord.the_field.row
+finish_record = search (sendable, crosses, knot.crosses, effect) depth 40 fits 100000
+
 opening : IsSend Opening.the_field.row
-opening = search (sendable, crosses, effect, instance, page, suspended) depth 40 fits 100000
+opening = search (sendable, crosses, page_record, instance, page, suspended) depth 40 fits 100000
 
 extension : IsSend Extension.the_field.row
-extension = search (sendable, crosses, knot.crosses, effect, show, suspended) depth 40 fits 100000
+extension = search (sendable, crosses, page_record, show, suspended) depth 40 fits 100000
 
 ending : IsSend Ending.the_field.row
-ending = search (sendable, crosses, knot.crosses, effect, after) depth 40 fits 100000
+ending = search (sendable, crosses, ended_record, after) depth 40 fits 100000
 
 finish : IsSend Finish.the_field.row
-finish = search (sendable, crosses, knot.crosses, effect) depth 40 fits 100000
+finish = search (sendable, crosses, finish_record) depth 40 fits 100000
 
 pub change : IsSend Change.the_field.row
 change = search (sendable, opening, extension, ending, finish) depth 40 fits 100000
 
-doubted : IsSend Doubted.the_field.row
-doubted = search (sendable, change) depth 40 fits 100000
+work : IsSend Work.the_field.row
+work = search (sendable, change) depth 40 fits 100000
 
 doubt : IsSend Doubt.the_field.row
-doubt = search (sendable, doubted) depth 40 fits 100000
+doubt = search (sendable, work) depth 40 fits 100000
+
+file : (D : RattleType) → IsSend (FilePast.the_field D).row
+file D = search (sendable, crosses) depth 40 fits 100000
+
+node : IsSend Node.the_field.row
+node = search (sendable, crosses, knot.crosses, op.the_field_send, kinds.the_field_send) depth 60 fits 100000
+
+script : IsSend Script.the_field.row
+script = search (sendable, crosses, knot.crosses, node) depth 60 fits 100000
+
+named : IsSend NamedScript.the_field.row
+named = search (sendable, crosses, script, name.the_field_send, bytes.the_send) depth 60 fits 100000
+
+setup : IsSend Setup.the_field.row
+setup = search (sendable, crosses, named) depth 60 fits 100000
+
+library : IsSend Library.the_field.row
+library = search (sendable, setup) depth 60 fits 100000
 
 journal : (D : RattleType) → IsSend D → IsSend (Journal.the_field D).row
 journal D d = search (sendable, crosses, journals.the_field_send) depth 40 fits 100000
 
 pub shelf : (D N : RattleType) → IsSend D → IsSend N → IsSend (Shelf.the_field D N).row
-shelf D N d n = search (sendable, journal, book, doubt, rules.the_field_send) depth 40 fits 100000
+shelf D N d n = search (sendable, journal, book, library, doubt, rules.the_field_send, file) depth 40 fits 100000
 
 opened : (D N : RattleType) → IsSend (Opened.the_field D N).row
 opened D N = search (sendable, crosses) depth 40 fits 100000
@@ -163,32 +199,62 @@ after_sync = search (sendable, closed_sync, cells_sync) depth 40 fits 100000
 show_sync : IsSync Show.the_field.row
 show_sync = search (sendable, in_order_sync, page_sync, after_sync) depth 40 fits 100000
 
+origin_sync : IsSync Origin.the_field.row
+origin_sync = search (sendable, crosses, knot.crosses) depth 40 fits 100000
+
+page_record_sync : IsSync PageRecord.the_field.row
+page_record_sync = search (sendable, crosses, origin_sync, effect_sync, kinds.the_field_sync) depth 40 fits 100000
+
+ended_record_sync : IsSync EndedRecord.the_field.row
+ended_record_sync = search (sendable, crosses, knot.crosses, effect_sync) depth 40 fits 100000
+
+finish_record_sync : IsSync FinishRecord.the_field.row
+finish_record_sync = search (sendable, crosses, knot.crosses, effect_sync) depth 40 fits 100000
+
 opening_sync : IsSync Opening.the_field.row
-opening_sync = search (sendable, crosses, effect_sync, instance_sync, page_sync, suspended_sync) depth 40 fits 100000
+opening_sync = search (sendable, crosses, page_record_sync, instance_sync, page_sync, suspended_sync) depth 40 fits 100000
 
 extension_sync : IsSync Extension.the_field.row
-extension_sync = search (sendable, crosses, knot.crosses, effect_sync, show_sync, suspended_sync) depth 40 fits 100000
+extension_sync = search (sendable, crosses, page_record_sync, show_sync, suspended_sync) depth 40 fits 100000
 
 ending_sync : IsSync Ending.the_field.row
-ending_sync = search (sendable, crosses, knot.crosses, effect_sync, after_sync) depth 40 fits 100000
+ending_sync = search (sendable, crosses, ended_record_sync, after_sync) depth 40 fits 100000
 
 finish_sync : IsSync Finish.the_field.row
-finish_sync = search (sendable, crosses, knot.crosses, effect_sync) depth 40 fits 100000
+finish_sync = search (sendable, crosses, finish_record_sync) depth 40 fits 100000
 
 pub change_sync : IsSync Change.the_field.row
 change_sync = search (sendable, opening_sync, extension_sync, ending_sync, finish_sync) depth 40 fits 100000
 
-doubted_sync : IsSync Doubted.the_field.row
-doubted_sync = search (sendable, change_sync) depth 40 fits 100000
+work_sync : IsSync Work.the_field.row
+work_sync = search (sendable, change_sync) depth 40 fits 100000
 
 doubt_sync : IsSync Doubt.the_field.row
-doubt_sync = search (sendable, doubted_sync) depth 40 fits 100000
+doubt_sync = search (sendable, work_sync) depth 40 fits 100000
+
+file_sync : (D : RattleType) → IsSync (FilePast.the_field D).row
+file_sync D = search (sendable, crosses) depth 40 fits 100000
+
+node_sync : IsSync Node.the_field.row
+node_sync = search (sendable, crosses, knot.crosses, op.the_field_sync, kinds.the_field_sync) depth 60 fits 100000
+
+script_sync : IsSync Script.the_field.row
+script_sync = search (sendable, crosses, knot.crosses, node_sync) depth 60 fits 100000
+
+named_sync : IsSync NamedScript.the_field.row
+named_sync = search (sendable, crosses, script_sync, name.the_field_sync, bytes.the_sync) depth 60 fits 100000
+
+setup_sync : IsSync Setup.the_field.row
+setup_sync = search (sendable, crosses, named_sync) depth 60 fits 100000
+
+library_sync : IsSync Library.the_field.row
+library_sync = search (sendable, setup_sync) depth 60 fits 100000
 
 journal_sync : (D : RattleType) → IsSync D → IsSync (Journal.the_field D).row
 journal_sync D d = search (sendable, crosses, journals.the_field_sync) depth 40 fits 100000
 
 pub shelf_sync : (D N : RattleType) → IsSync D → IsSync N → IsSync (Shelf.the_field D N).row
-shelf_sync D N d n = search (sendable, journal_sync, book_sync, doubt_sync, rules.the_field_sync) depth 40 fits 100000
+shelf_sync D N d n = search (sendable, journal_sync, book_sync, library_sync, doubt_sync, rules.the_field_sync, file_sync) depth 40 fits 100000
 
 opened_sync : (D N : RattleType) → IsSync (Opened.the_field D N).row
 opened_sync D N = search (sendable, crosses) depth 40 fits 100000
@@ -222,17 +288,5 @@ row_pass_sync T T' T'' g t = search (sendable, crosses, pass_sync) depth 40 fits
 row_sync : (T T' T'' : RattleType) (g : Ghosts T.Denot T'.Denot T''.Denot) → IsSend T → IsSync T → IsSync (LockRow.the_field T T' T'' g).row
 row_sync T T' T'' g t y = search (sendable, crosses, lock, row_pass_sync) depth 40 fits 100000
 
-node_sync : IsSync Node.the_field.row
-node_sync = search (sendable, crosses, knot.crosses, op.the_field_sync, kinds.the_field_sync) depth 60 fits 100000
-
-script_sync : IsSync Script.the_field.row
-script_sync = search (sendable, crosses, knot.crosses, node_sync) depth 60 fits 100000
-
-named_sync : IsSync NamedScript.the_field.row
-named_sync = search (sendable, crosses, script_sync, name.the_field_sync, bytes.the_sync) depth 60 fits 100000
-
-pub setup_sync : IsSync Setup.the_field.row
-setup_sync = search (sendable, crosses, named_sync) depth 60 fits 100000
-
 pub site_sync : (D N : RattleType) (d : disk.Ghosts D.Denot) (n : nonces.Ghosts N.Denot) → IsSend D → IsSend N → IsSync D → IsSync N → IsSync (Site.the_field D N d n).row
-site_sync D N d n ds ns dy ny = search (sendable, crosses, row_sync, setup_sync, kept, kept_sync) depth 40 fits 100000
+site_sync D N d n ds ns dy ny = search (sendable, crosses, row_sync, library_sync, kept, kept_sync) depth 40 fits 100000

@@ -1,0 +1,11 @@
+-- What is said of shelves and of tickets, for the crates above a site.
+pub use Rattle.instance_book.specs.declared.ticket.Ticket.{Ticket}
+pub use Rattle.instance_book.specs.Views.{ticket_of, reply_of}
+pub use Rattle.shelf.specs.declared.begin.BeginFault.{BeginFault}
+pub use Rattle.shelf.specs.declared.begin.BeginFault.TheVariants as fault
+pub use Rattle.shelf.specs.declared.rules.Rules.{Rules}
+pub use Rattle.shelf.specs.Faults.{IsReadFaultOf}
+pub use Rattle.shelf.specs.Opening.{IsFaultOf, IsOpenedAnew, KeepsRecords, MakesBook, making_on, opening_bodies}
+pub use Rattle.shelf.specs.Owning.{HasOwnImages, IsOwnImage, StandsMeasured, StandsOwn, StaysOwnThroughout}
+pub use Rattle.shelf.specs.Ranges.{AreInRange}
+pub use Rattle.shelf.specs.Views.{HasGiven, IsOwnShelf, book_in, library_in, rules_of, shelf_of}
