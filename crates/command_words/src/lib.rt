@@ -1,12 +1,11 @@
 //! The words of the command line, read by `clap`: for the command.
 #![tactic(auto)]
 
-ghost use Rattle.std.specs.Prelude.{◌≡◌, ◌≢◌, ◌++◌, ◌∷◌, ◌<◌, ◌≤◌, ◌^◌, ℕ, List, [], Some, Err, true, false, codes, map, IfOk, IfErr, is_err};
-ghost use Rattle.std.specs.String.{string_bytes};
+ghost use Rattle.std.specs.Prelude.{◌≡◌, ◌≢◌, ◌<◌, ◌^◌, [], Some, Err, true, false, IfOk, IfErr};
 ghost use Rattle.clap.specs.Simple.{app_of, subcommand_rows_of};
 ghost use Rattle.clap.specs.Walk.{rule_of};
 ghost use Rattle.command_words.specs.App.{IsLocal, app, bare_top, faults_in, load_shape, play_shape, rows_of_words, rule_for, serve_shape, texts, value_rule, with_items};
-ghost use Rattle.command_words.specs.Options.{connections, fuel, instances, journal, life, load_items, most_run, pages, play_items, port, requests, run_number, serve_items, shelves, workers};
+ghost use Rattle.command_words.specs.Options.{connections, fuel, instances, journal, life, load_items, pages, play_items, port, requests, run_number, serve_items, shelves, workers};
 ghost use Rattle.command_words.specs.Plain.{AcceptsPlain, IsInRange, ReadsPlain};
 ghost use Rattle.command_words.specs.Reads.{AsksFor, Holds, HoldsNoNumber, LacksAsked, HoldsText, asked_from, options_at, load_at, number_at, rows_in, service_at, text_at};
 ghost use Rattle.command_words.specs.declared.Command.{Command};
@@ -39,7 +38,7 @@ pub struct Options {
     pub life: u64,
     /// The most live instances of a shelf, 1 to `MOST_INSTANCES`.
     pub instances: u32,
-    /// The most pages of an instance, 1 to `MOST_PAGES`.
+    /// The most pages of an instance that are not evicted, 1 to `MOST_PAGES`.
     pub pages: u32,
     /// The directory of the journals, of one byte or more. Where it is `-`, they stand in memory.
     pub journal: Str,

@@ -1,14 +1,22 @@
 -- The step that is drawn fits, and is in its ranges.
-use Rattle.std.proofs.Common.{◌≡◌, ℕ, ◌+◌, ◌<◌, ◌≤◌, ◌==◌, ◌%◌, ◌^◌, not, Bool, true, false, List, cond, refl, arith, nat_lt, sym, ◌∙◌, ap}
+use Rattle.std.proofs.Common.{◌≡◌, ℕ, ◌+◌, ◌<◌, ◌≤◌, ◌==◌, ◌%◌, ◌^◌, not, Bool, true, false, List, cond, refl, arith, nat_lt}
 use Rattle.std.proofs.lemmas.Bool.{lt-ltb}
 use Rattle.play_steps.specs.Rules.{StageRules}
-use Rattle.play_steps.specs.Step.{IsWithin}
+use Rattle.play_steps.specs.Step.{IsWithin, is_edit}
 use Rattle.play_steps.specs.Transcript.{fits}
 use Rattle.measured_run.specs.declared.step.LoadStep.{LoadStep}
 use Rattle.measured_run.specs.declared.step.LoadStep.TheVariants.{Crash, Tick, Publish, Take, Get}
 use Rattle.measured_run.specs.Generator.{Source, drawn, lot_of, worker_of, choice_of, visit_target, visit_of, next_step}
 use Rattle.measured_run.specs.Lines.{played}
 use Rattle.measured_run.specs.Drawing.{step_over}
+
+-- a step that is drawn is no edit
+pub none_edits : (step : LoadStep) → is_edit (played step) ≡ false
+none_edits (Crash shelf) = refl
+none_edits (Tick time) = refl
+none_edits (Publish worker) = refl
+none_edits (Take worker target) = refl
+none_edits (Get worker target) = refl
 
 one_of : (P : LoadStep → Type 0) (b : Bool) (x y : LoadStep) → (b ≡ true → P x) → (b ≡ false → P y) → P (cond b x y)
 one_of P true x y p q = p refl

@@ -1,18 +1,18 @@
 -- One step of a measured run, and its end.
-use Rattle.std.proofs.Common.{◌≡◌, ◌<◌, ◌≤◌, ◌||◌, not, ℕ, List, [], ◌∷◌, Bool, true, false, IsTrue, Some, Option, inl, inr, refl, sym, ap, ◌∙◌, subst, arith, Ok, Err, Vec}
+use Rattle.std.proofs.Common.{◌≡◌, ◌<◌, ◌||◌, not, ℕ, List, [], ◌∷◌, Bool, true, IsTrue, Some, Option, inl, inr, refl, sym, ap, ◌∙◌, subst, arith, Ok, Err}
 use Rattle.std.specs.List.{list_any}
-use Rattle.measured_run.specs.Fnv.{goes_on, fnv1a}
+use Rattle.measured_run.specs.Fnv.{goes_on}
 use Rattle.play_steps.specs.Rules.{StageRules}
-use Rattle.play_steps.specs.Step.{Step, is_told, is_crash}
+use Rattle.play_steps.specs.Step.{Step, is_told, is_crash, crashed_at}
 use Rattle.play_steps.specs.Texts.{print}
 use Rattle.play_steps.specs.Transcript.{fits}
 use Rattle.play_steps.specs.Played.{Spot, Came, HaltsBy}
 use Rattle.play_steps.specs.declared.performing.Halt.{Halt}
 use Rattle.play_steps.specs.declared.performing.Halt.TheVariants as halt
+use Rattle.play_steps.specs.declared.stage.Reopen.{Reopen}
 use Rattle.play_steps.specs.declared.stage.Reopen.TheVariants as reopen
 use Rattle.play_steps.specs.declared.report.Report.{Report}
 use Rattle.measured_run.specs.declared.step.LoadStep.{LoadStep}
-use Rattle.measured_run.specs.declared.tally.Tally.{Tally}
 use Rattle.measured_run.specs.Generator.{Source, next_step, held_in, Draws}
 use Rattle.measured_run.specs.Lines.{played}
 use Rattle.measured_run.specs.Tallies.{counted}
@@ -51,19 +51,20 @@ course_is r old new s source step told draws learned tallied hashed =
     (learned ∙ ap (λ (p : LoadStep × Source). learned_from told p.1) draws) tallied hashed
 
 -- a step that told nothing
-pub halts_on : (r : StageRules) (left : r.State → ℕ → Type 0) (old new : Course) (s t : Spot r) (step : Step) (why : Halt)
+pub halts_on : (r : StageRules) (left : r.State → ℕ → Reopen → Type 0) (old new : Course) (s t : Spot r) (step : Step) (why : Halt)
     → step ≡ step_over r old.generator s.state → fits r (step_over r old.generator s.state) s.state ≡ true → HaltsBy r left step why s t
     → GoesOn r left (Some why) old new s t
 halts_on r left old new s t step halt.Memory is fitting (inl (told, came)) =
     inr (inl (told, record { fitting = fitting; came = subst (λ (x : Step). Came r s x told t) is came }))
-halts_on r left old new s t step halt.Memory is fitting (inr (shelf, (crash, later, stands))) = inr (inr (shelf, (sym is ∙ crash, later, stands)))
+halts_on r left old new s t step halt.Memory is fitting (inr (shelf, (crash, later, stands))) = inr (inr (shelf, (ap crashed_at (sym is) ∙ crash, later, stands)))
 halts_on r left old new s t step (halt.Reopen shelf reopen.Memory) is fitting halts = halts
-halts_on r left old new s t step (halt.Reopen shelf reopen.Disk) is fitting halts = ((sym is ∙ halts.0.0, halts.0.1, halts.0.2), halts.1)
-halts_on r left old new s t step (halt.Reopen shelf (reopen.Damaged place)) is fitting halts = (sym is ∙ halts.0, halts.1, halts.2)
-halts_on r left old new s t step (halt.Reopen shelf (reopen.Other place)) is fitting halts = (sym is ∙ halts.0, halts.1, halts.2)
+halts_on r left old new s t step (halt.Reopen shelf reopen.Disk) is fitting halts = ((ap crashed_at (sym is) ∙ halts.0.0, halts.0.1, halts.0.2), halts.1)
+halts_on r left old new s t step (halt.Reopen shelf (reopen.Damaged place)) is fitting halts = (ap crashed_at (sym is) ∙ halts.0, halts.1, halts.2)
+halts_on r left old new s t step (halt.Reopen shelf (reopen.Other place)) is fitting halts = (ap crashed_at (sym is) ∙ halts.0, halts.1, halts.2)
+halts_on r left old new s t step (halt.Reopen shelf (reopen.Full len)) is fitting halts = (ap crashed_at (sym is) ∙ halts.0, halts.1, halts.2)
 
 -- a run that ended at such a step
-pub halted : (r : StageRules) (left : r.State → ℕ → Type 0) (start here there : Spot r) (source : Source) (k count : ℕ) (course past : Course) (why : Halt) → k < count
+pub halted : (r : StageRules) (left : r.State → ℕ → Reopen → Type 0) (start here there : Spot r) (source : Source) (k count : ℕ) (course past : Course) (why : Halt) → k < count
     → Reached r start source k here course → GoesOn r left (Some why) course past here there → Measures r left count source (Err why) start there
 unfolding lost
 halted r left start here there source k count course past halt.Memory few reached (inl same) =
@@ -71,20 +72,22 @@ halted r left start here there source k count course past halt.Memory few reache
 halted r left start here there source k count course past halt.Memory few reached (inr (inl (told, goes))) =
     inl (one_past r start here there source k count course told few goes reached)
 halted r left start here there source k count course past halt.Memory few reached (inr (inr (shelf, crash))) =
-    inr (shelf, lost r left start here there source k count shelf course few reached crash)
+    inr (shelf, lost r left start here there source k count shelf reopen.Memory course few reached crash)
 halted r left start here there source k count course past (halt.Reopen shelf reopen.Memory) few reached goes = goes
 halted r left start here there source k count course past (halt.Reopen shelf reopen.Disk) few reached goes =
-    record { loses = lost r left start here there source k count shelf course few reached goes.0; rose = goes.1 }
+    record { loses = lost r left start here there source k count shelf reopen.Disk course few reached goes.0; rose = goes.1 }
 halted r left start here there source k count course past (halt.Reopen shelf (reopen.Damaged place)) few reached goes =
-    lost r left start here there source k count shelf course few reached goes
+    lost r left start here there source k count shelf (reopen.Damaged place) course few reached goes
 halted r left start here there source k count course past (halt.Reopen shelf (reopen.Other place)) few reached goes =
-    lost r left start here there source k count shelf course few reached goes
+    lost r left start here there source k count shelf (reopen.Other place) course few reached goes
+halted r left start here there source k count course past (halt.Reopen shelf (reopen.Full len)) few reached goes =
+    lost r left start here there source k count shelf (reopen.Full len) course few reached goes
 
 measure_same : (a b : Measure) → a.tally ≡ b.tally → a.hash ≡ b.hash → a ≡ b
 measure_same a b t h = λ at. record { tally = t at; hash = h at }
 
 -- a run that went to its end
-pub measured : (r : StageRules) (left : r.State → ℕ → Type 0) (start here : Spot r) (source : Source) (k count : ℕ) (course : Course) (measure : Measure) → k ≡ count
+pub measured : (r : StageRules) (left : r.State → ℕ → Reopen → Type 0) (start here : Spot r) (source : Source) (k count : ℕ) (course : Course) (measure : Measure) → k ≡ count
     → measure.tally ≡ course.tally → measure.hash ≡ course.hash → Reached r start source k here course
     → Measures r left count source (Ok measure) start here
 measured r left start here source k count course measure all tally hash reached = (

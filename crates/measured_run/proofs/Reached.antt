@@ -1,20 +1,24 @@
 -- A measured run, step after step.
-use Rattle.std.proofs.Common.{◌≡◌, ◌<◌, ◌≤◌, ◌+◌, ◌-◌, ◌^◌, ◌++◌, ℕ, suc, List, [], ◌∷◌, Some, None, map, min, count_by, Bool, cond, append_assoc, append-nil, zero-add, sym, ap, ◌∙◌, refl, subst, arith, Err}
+use Rattle.std.proofs.Common.{◌≡◌, ◌<◌, ◌≤◌, ◌+◌, ◌++◌, ℕ, suc, List, [], ◌∷◌, Some, map, count_by, Bool, cond, append_assoc, append-nil, zero-add, sym, ap, ◌∙◌, refl, arith}
 use Rattle.std.proofs.lemmas.List.Sums.{sum_by-append, fold-append}
 use Rattle.measured_run.specs.Fnv.{fnv1a, goes_on, mixed, offset}
 use Rattle.play_steps.specs.Rules.{StageRules}
-use Rattle.play_steps.specs.Step.{Step, crash, lines_in}
+use Rattle.play_steps.specs.Step.{Step, crash, crashed_at, lines_in}
 use Rattle.play_steps.specs.Texts.{print}
-use Rattle.play_steps.specs.Transcript.{Run, went, behind, transcript, performed}
+use Rattle.play_steps.specs.Transcript.{Run, went, behind, transcript}
 use Rattle.play_steps.specs.Played.{Spot, Crashed, Goes, HasRisen}
+use Rattle.play_steps.specs.declared.stage.Reopen.{Reopen}
 use Rattle.play_steps.specs.declared.report.Report.{Report}
 use Rattle.play_steps.proofs.Risings.{stays_risen, rises_then}
 use Rattle.play_steps.proofs.Runs.{joined, one, over, print_joined}
+use Rattle.measured_run.specs.declared.step.LoadStep.{LoadStep}
+use Rattle.measured_run.specs.declared.step.LoadStep.TheVariants as steps
 use Rattle.measured_run.specs.declared.tally.Tally.{Tally}
 use Rattle.measured_run.specs.Generator.{Source}
 use Rattle.measured_run.specs.Tallies.{counted, grown, tells_page, tells_refusal}
 use Rattle.measured_run.specs.declared.measuring.Course.{Course}
-use Rattle.measured_run.specs.Drawing.{step_over, source_past, steps_drawn, run_drawn}
+use Rattle.measured_run.specs.Lines.{played}
+use Rattle.measured_run.specs.Drawing.{drawn_over, step_over, source_past, steps_drawn}
 use Rattle.measured_run.specs.Counting.{tally_of}
 use Rattle.measured_run.specs.Course.{Loads, LoadsSome, LosesShelf, course_past}
 
@@ -179,11 +183,19 @@ one_past r start here there source k count course told few goes reached =
     let past = course_past r course here.state told in
     some r start there source (k + 1) count past (omega (arith, few)) (one_more r start here there source k course told goes reached past refl)
 
+-- a step that crashes a shelf is the crash of it
+pub crash_drawn : (step : LoadStep) (shelf : ℕ) → crashed_at (played step) ≡ Some shelf → played step ≡ crash shelf
+crash_drawn (steps.Crash k) shelf e = cc
+crash_drawn (steps.Tick time) shelf e = absurd (let no : ⊥ = cc in no)
+crash_drawn (steps.Publish worker) shelf e = absurd (let no : ⊥ = cc in no)
+crash_drawn (steps.Take worker target) shelf e = absurd (let no : ⊥ = cc in no)
+crash_drawn (steps.Get worker target) shelf e = absurd (let no : ⊥ = cc in no)
+
 -- the next step is the crash of a shelf that was not opened again
-unfoldable pub lost : (r : StageRules) (left : r.State → ℕ → Type 0) (start here there : Spot r) (source : Source) (k count shelf : ℕ) (course : Course) → k < count
-    → Reached r start source k here course → Crashed r left (step_over r course.generator here.state) shelf here there → LosesShelf r left count source shelf start there
+unfoldable pub lost : (r : StageRules) (left : r.State → ℕ → Reopen → Type 0) (start here there : Spot r) (source : Source) (k count shelf : ℕ) (why : Reopen) (course : Course) → k < count
+    → Reached r start source k here course → Crashed r left (step_over r course.generator here.state) shelf why here there → LosesShelf r left count source shelf why start there
 unfolding ended
-lost r left start here there source k count shelf course few reached (is, later, stands) = record {
+lost r left start here there source k count shelf why course few reached (is, later, stands) = record {
   done = k;
   few = few;
   told = reached.told;
@@ -193,6 +205,6 @@ lost r left start here there source k count shelf course few reached (is, later,
   stands = stands;
   next =
       and_next r start here source k course reached
-      ∙ ap (λ (step : Step). reached.steps ++ step ∷ []) is
+      ∙ ap (λ (step : Step). reached.steps ++ step ∷ []) (crash_drawn (drawn_over r course.generator here.state).0 shelf is)
       ∙ ap (λ steps. steps ++ crash shelf ∷ []) (sym (so_far r start here source k course reached));
 }

@@ -1,11 +1,10 @@
-ghost use Rattle.std.specs.Prelude.{◌≡◌, ◌<◌, ◌≤◌, ◌+◌, ◌^◌, ◌==◌, ◌∷◌, [], ℕ, IfOk, OnOk, OnErr, IsErrOf, IsTrue, string_bytes};
+ghost use Rattle.std.specs.Prelude.{◌≡◌, ◌<◌, ◌≤◌, ◌+◌, ◌^◌, ◌∷◌, [], ℕ, IfOk, OnOk, IsErrOf, IsTrue, string_bytes};
 ghost use Rattle.web_outside.specs.Causes.{Rose};
-ghost use Rattle.measured_run.specs.Fnv.{fnv1a, goes_on};
+ghost use Rattle.measured_run.specs.Fnv.{goes_on};
 ghost use Rattle.play_steps.specs.Played.{spot};
 ghost use Rattle.play_steps.specs.Rules.{KeepsShelves, StaysUp};
 ghost use Rattle.play_steps.specs.Texts.{print};
 ghost use Rattle.measured_run.specs.Generator.{source_of};
-ghost use Rattle.measured_run.specs.Tallies.{grown};
 ghost use Rattle.measured_run.specs.Counting.{line_of};
 ghost use Rattle.measured_run.specs.Drawing.{HasLearned};
 ghost use Rattle.measured_run.specs.Course.{GoesOn, Measures, halt_in, shelves_of};

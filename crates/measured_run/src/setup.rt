@@ -2,6 +2,7 @@
 ghost use Rattle.std.specs.Prelude.{◌≡◌, ◌≤◌, length, IfOk};
 ghost use Rattle.script_nodes.specs.Views.{scripts_of};
 ghost use Rattle.setup_reader.specs.Limits.{AreShort, most_scripts};
+ghost use Rattle.setup_reader.specs.Texts.{IsReadSetup};
 ghost use Rattle.measured_run.specs.Setups.{IsSetup, load_scripts};
 
 use crate::setup_text;
@@ -14,6 +15,7 @@ pub fn load_setup(alloc: Global) -> Result<Setup, AllocError>
     ensures scripts { IfOk result (λ setup. scripts_of setup ≡ load_scripts) }
     ensures few { IfOk result (λ setup. length (scripts_of setup) ≤ most_scripts) }
     ensures short { IfOk result (λ setup. AreShort (scripts_of setup)) }
+    ensures texts { IfOk result (λ setup. IsReadSetup (scripts_of setup)) }
 {
     let text = setup_text(alloc)?;
     match Parsed::parse(alloc, Ending::Input, text.as_bytes()) {

@@ -13,11 +13,11 @@ use Rattle.replay_spec.specs.Runs as runs
 use Rattle.instance_book.specs.declared.ticket.Ticket.{Ticket}
 use Rattle.shelf.specs.declared.rules.Rules.{Rules}
 use Rattle.shelf.specs.declared.shelf.Shelf.{Shelf}
-use Rattle.shelf.specs.Views.{IsOwnShelf}
+use Rattle.shelf.specs.Views.{IsInOrder, IsOwnShelf}
 use Rattle.play_desk.specs.Desk.{Desk, first_desk, first_shelves}
 use Rattle.play_steps.specs.Rules.{StaysUp}
-use Rattle.play_desk.specs.Opening.{AllKept, AllStayKept, AreHome, CountStays, FailedFor, GivesOne, HoldImages, IsClosedBy, IsKept, IsRefusedBy, LeaveOthers, OpensNext, numbered, rules_at}
-use Rattle.play_desk.specs.Staff.{AreFit, HaveOwnNumbers, IsHome, IsServed, desk_with, faults_in, numbers_in, shelf_at, total}
+use Rattle.play_desk.specs.Opening.{AreOpened, AllKept, AllStayKept, AreHome, CountStays, FailedFor, GivesOne, HoldImages, IsClosedBy, IsKept, IsRefusedBy, LeaveOthers, OpensNext, numbered, rules_at}
+use Rattle.play_desk.specs.Staff.{AreFit, HaveOwnNumbers, IsHome, desk_with, faults_in, numbers_in, shelf_at, total}
 use Rattle.play_desk.specs.declared.opening.OpenCause.{OpenCause}
 use Rattle.play_desk.specs.declared.opening.OpenCause.TheVariants as cause
 use Rattle.play_desk.proofs.Places.{in_push, none_there, same_Some}
@@ -25,30 +25,13 @@ use Rattle.play_desk.proofs.Closing.{at_last, in_front}
 use Rattle.play_desk.proofs.Fitting.{number_at, own_numbers}
 use Rattle.play_desk.proofs.Keeping.{all_kept_in}
 
--- Of a rack that was first so, these are the shelves of the numbers below this one, all empty; no disk beyond them was touched.
-pub record AreOpened {D : Type 0} (view : D → View) (rack_tells tells : Bool) (scripts : List Named) (rules : Rules) (first : RackView)
-    (count : ℕ) (xs : List (Shelf D Counting)) (now : RackView) : Type 0 where
-  pub size : length xs ≡ count
-  pub numbers : (k n : ℕ) → slice_get (numbers_in xs) k ≡ Some n → n ≡ k
-  pub served : (k : ℕ) (x : Shelf D Counting) → slice_get xs k ≡ Some x → IsServed view tells scripts x
-  pub own : IsTrue rack_tells → IsTrue tells → (k : ℕ) (x : Shelf D Counting) → slice_get xs k ≡ Some x → IsOwnShelf view tells scripts x
-  pub keeps : IsTrue rack_tells → IsTrue tells → (k : ℕ) (x : Shelf D Counting) → slice_get xs k ≡ Some x
-      → AllKept scripts k (first.holds k) [] (view x.journal.disk).images
-  pub home : IsHome xs now.out
-  pub rest : (n : ℕ) → count ≤ n → AreAmong (now.holds n) (first.holds n)
-  pub empty : IsTrue rack_tells → IsTrue tells → (k : ℕ) → k < count → first.holds k []
-  pub shelves : IsTrue rack_tells → IsTrue tells → map (shelf_at scripts) xs ≡ first_shelves (rules_at scripts rules) scripts count
-  pub later : first.faults ≤ total now.faults (faults_in view xs)
-  pub rack_later : first.faults ≤ now.faults
-  pub failed_later : StaysUp first.failed now.failed
-
 -- at first there is none
 pub opened_none : {D : Type 0} (view : D → View) (rack_tells tells : Bool) (scripts : List Named) (rules : Rules) (first : RackView)
     → AreHome first.out → first.faults < 2 ^ 64 → AreOpened view rack_tells tells scripts rules first 0 [] first
 opened_none view rack_tells tells scripts rules first home few = record {
   size = refl;
   numbers = λ k n e. absurd (let no : None ≡ Some n = e in cc);
-  served = λ k x e. absurd (let no : None ≡ Some x = e in cc);
+  in_order = λ k x e. absurd (let no : None ≡ Some x = e in cc);
   own = λ rack_told told k x e. absurd (let no : None ≡ Some x = e in cc);
   keeps = λ rack_told told k x e. absurd (let no : None ≡ Some x = e in cc);
   home = record {
@@ -124,6 +107,7 @@ module _ {D : Type 0} (view : D → View) (rack_tells tells : Bool) (scripts : L
   )
   closed_by limit (cause.Damaged place) o low rack_told told h = h
   closed_by limit (cause.Other place) o low rack_told told h = h
+  closed_by limit (cause.Full len) o low rack_told told h = h
   closed_by limit cause.Disk o low rack_told told h = (low, o.empty rack_told told)
   closed_by limit cause.Memory o low rack_told told h = (low, o.empty rack_told told)
 
@@ -246,11 +230,11 @@ module _ {D : Type 0} (view : D → View) (rack_tells tells : Bool) (scripts : L
           (λ is. subst (λ n. first.holds n []) (sym is) (o.rest count (omega arith) [] (h.empty rack_told told).0))
           (λ other. o.empty rack_told told k (omega arith))
 
-      are_first : IsTrue rack_tells → IsTrue tells → map (shelf_at scripts) (xs ++ x ∷ []) ≡ first_shelves (rules_at scripts rules) scripts (suc count)
+      are_first : IsTrue rack_tells → IsTrue tells → map (shelf_at view) (xs ++ x ∷ []) ≡ first_shelves (rules_at rules) scripts (suc count)
       are_first rack_told told =
-          map-append (shelf_at scripts) xs (x ∷ [])
-          ∙ ap (λ (ss : List runs.Shelf). ss ++ shelf_at scripts x ∷ []) (o.shelves rack_told told)
-          ∙ ap (λ (s : runs.Shelf). first_shelves (rules_at scripts rules) scripts count ++ s ∷ []) (h.empty rack_told told).1
+          map-append (shelf_at view) xs (x ∷ [])
+          ∙ ap (λ (ss : List runs.Shelf). ss ++ shelf_at view x ∷ []) (o.shelves rack_told told)
+          ∙ ap (λ (s : runs.Shelf). first_shelves (rules_at rules) scripts count ++ s ∷ []) (h.empty rack_told told).1
 
       kept : IsTrue rack_tells → IsTrue tells → AllKept scripts count (first.holds count) [] (view x.journal.disk).images
       kept rack_told told =
@@ -284,9 +268,9 @@ module _ {D : Type 0} (view : D → View) (rack_tells tells : Bool) (scripts : L
       more = record {
         size = length-append xs (x ∷ []) ∙ omega (arith, o.size);
         numbers = all_numbers;
-        served = λ k z e. ⊎_elim (λ was. o.served k z was) (λ is. subst (λ (s : Shelf D Counting). IsServed view tells scripts s) is h.served) (in_push xs x k z e);
+        in_order = λ k z e. ⊎_elim (λ was. o.in_order k z was) (λ is. subst (λ (s : Shelf D Counting). IsInOrder view tells s) is h.in_order) (in_push xs x k z e);
         own = λ rack_told told k z e.
-            ⊎_elim (λ was. o.own rack_told told k z was) (λ is. subst (λ (s : Shelf D Counting). IsOwnShelf view tells scripts s) is (h.own rack_told told)) (in_push xs x k z e);
+            ⊎_elim (λ was. o.own rack_told told k z was) (λ is. subst (λ (s : Shelf D Counting). IsOwnShelf view tells s) is (h.own rack_told told)) (in_push xs x k z e);
         keeps = λ rack_told told k z e.
             ⊎_elim (λ was. o.keeps rack_told told k z was) (λ is. last_kept rack_told told k z e is) (in_push xs x k z e);
         home = taken_home;
@@ -301,12 +285,12 @@ module _ {D : Type 0} (view : D → View) (rack_tells tells : Bool) (scripts : L
 -- where nobody holds a ticket they are fit, and the first desk
 pub fit_opened : {D : Type 0} (view : D → View) (rack_tells tells : Bool) (scripts : List Named) (rules : Rules) (first : RackView) (count : ℕ)
     (xs : List (Shelf D Counting)) (now : RackView) (ts : List (Option Ticket)) → AreOpened view rack_tells tells scripts rules first count xs now → count ≤ 16
-    → ts ≡ replicate 16 None → AreFit view tells scripts xs ts
+    → ts ≡ replicate 16 None → AreFit view tells xs ts
 fit_opened view rack_tells tells scripts rules first count xs now ts o few none =
     let nobody : (w : ℕ) (t : Ticket) → slice_get ts w ≡ Some (Some t) → ⊥ =
     λ w t h. none_there 16 w t (subst (λ (vs : List (Option Ticket)). slice_get vs w ≡ Some (Some t)) none h) in
     record {
-      served = o.served;
+      in_order = o.in_order;
       numbers = o.numbers;
       few = omega (arith, o.size, few);
       count = ap length none;
@@ -316,9 +300,9 @@ fit_opened view rack_tells tells scripts rules first count xs now ts o few none 
 
 pub desk_opened : {D : Type 0} (view : D → View) (rack_tells tells : Bool) (scripts : List Named) (rules : Rules) (first : RackView) (count : ℕ)
     (xs : List (Shelf D Counting)) (now : RackView) (ts : List (Option Ticket)) → AreOpened view rack_tells tells scripts rules first count xs now
-    → IsTrue rack_tells → IsTrue tells → ts ≡ replicate 16 None → desk_with scripts xs ts ≡ first_desk (rules_at scripts rules) scripts count
+    → IsTrue rack_tells → IsTrue tells → ts ≡ replicate 16 None → desk_with view scripts xs ts ≡ first_desk (rules_at rules) scripts count
 desk_opened view rack_tells tells scripts rules first count xs now ts o rack_told told none =
-    ap (λ (vs : List (Option Ticket)). desk_with scripts xs vs) none ∙ ap made (o.shelves rack_told told)
+    ap (λ (vs : List (Option Ticket)). desk_with view scripts xs vs) none ∙ ap made (o.shelves rack_told told)
   where
     made : List runs.Shelf → Desk
     made ss = record { scripts = scripts; shelves = ss; held = replicate 16 None }

@@ -16,8 +16,9 @@ use Rattle.shelf.specs.declared.shelf.Shelf.{Shelf}
 use Rattle.shelf.specs.Owning.{StandsOwn}
 use Rattle.shelf.specs.Views.{book_in, rules_of}
 use Rattle.play_steps.specs.Rules.{StaysUp}
+use Rattle.play_steps.specs.declared.stage.Reopen.{Reopen}
 use Rattle.play_desk.specs.Desk.{Desk}
-use Rattle.play_desk.specs.Opening.{AreHome, CountStays, GivesOne, HoldImages, HoldTheBooks, HoldsTheBook, IsLeft, IsPutBack, KeepsShelvesBut, LeaveOthers, LeavesLost, StandsLost}
+use Rattle.play_desk.specs.Opening.{AreHome, CountStays, GivesOne, HoldImages, HoldTheBooks, HoldsTheBook, IsLeft, IsPutBack, KeepsShelvesBut, LeaveOthers, LeavesLost, StandsLost, TellsItsRoom, TellsRoom}
 use Rattle.play_desk.specs.Staff.{AreFit, AreOwn, HaveOwnNumbers, IsHome, desk_with, faults_in, numbers_in, shelf_at, total}
 use Rattle.play_desk.proofs.Places.{same_Some}
 use Rattle.play_desk.proofs.Fitting.{number_at}
@@ -101,69 +102,73 @@ from_mapped f (x ∷ xs) zero y e = (x, refl, same_Some (f x) y e)
 from_mapped f (x ∷ xs) (suc k) y e = from_mapped f xs k y e
 
 -- what may be held of the disk of an own shelf stands for its book
-pub holds_book : (rules : Rules) (scripts : List Named) (v : View) (number : ℕ) (b : Book) (holds : List ℕ → Type 0)
-    → StandsOwn rules scripts number v b → AreAmong holds v.images → HoldsTheBook rules scripts number holds b
-holds_book rules scripts v number b holds own among = record {
+pub holds_book : (rules : Rules) (v : View) (number : ℕ) (b : Book) (holds : List ℕ → Type 0)
+    → StandsOwn rules number v b → AreAmong holds v.images → HoldsTheBook rules number holds b
+holds_book rules v number b holds own among = record {
   own = (own.images.0, λ image h. own.images.1 image (among image h));
   stands = (own.stands.0, (own.stands.1.0, (λ image h. own.stands.1.1.0 image (among image h), own.stands.1.1.1)));
 }
 
 -- the disks of own shelves stand for their books
 pub books_stand : {D : Type 0} (view : D → View) (tells : Bool) (scripts : List Named) (xs : List (Shelf D Counting)) (ts : List (Option Ticket))
-    (holds : ℕ → List ℕ → Type 0) → IsTrue tells → AreFit view tells scripts xs ts → AreOwn view tells scripts xs ts → HoldImages view xs holds
-    → HoldTheBooks (desk_with scripts xs ts) holds
+    (holds : ℕ → List ℕ → Type 0) → IsTrue tells → AreFit view tells xs ts → AreOwn view tells xs ts → HoldImages view xs holds
+    → HoldTheBooks (desk_with view scripts xs ts) holds
 books_stand view tells scripts xs ts holds told fit own images k s e =
-    let x = from_mapped (shelf_at scripts) xs k s e in
-    let number = (fit.served k x.0 x.1).in_order.number in
-    let b = book_in scripts x.0 in
-    let stands = holds_book (rules_of scripts x.0.rules) scripts (view x.0.journal.disk) x.0.rules.number b (holds x.0.rules.number)
+    let x = from_mapped (shelf_at view) xs k s e in
+    let number = (fit.in_order k x.0 x.1).number in
+    let b = book_in view x.0 in
+    let stands = holds_book (rules_of x.0.rules) (view x.0.journal.disk) x.0.rules.number b (holds x.0.rules.number)
     ((own.own k x.0 x.1).own told) (images k x.0 x.1) in
-    subst (λ (z : runs.Shelf). HoldsTheBook z.rules scripts z.book.shelf (holds z.book.shelf) z.book) x.2
-    (subst (λ n. HoldsTheBook (rules_of scripts x.0.rules) scripts n (holds n) b) (sym number) stands)
+    subst (λ (z : runs.Shelf). HoldsTheBook z.rules z.book.shelf (holds z.book.shelf) z.book) x.2
+    (subst (λ n. HoldsTheBook (rules_of x.0.rules) n (holds n) b) (sym number) stands)
 
 -- ---- behind a shelf that is lost
 
-book_fewer : (rules : Rules) (scripts : List Named) (shelf : ℕ) (held holds : List ℕ → Type 0) (b : Book) → HoldsTheBook rules scripts shelf held b
-    → AreAmong holds held → HoldsTheBook rules scripts shelf holds b
-book_fewer rules scripts shelf held holds b h among = record {
+book_fewer : (rules : Rules) (shelf : ℕ) (held holds : List ℕ → Type 0) (b : Book) → HoldsTheBook rules shelf held b
+    → AreAmong holds held → HoldsTheBook rules shelf holds b
+book_fewer rules shelf held holds b h among = record {
   own = (h.own.0, λ image is. h.own.1 image (among image is));
   stands = (h.stands.0, (h.stands.1.0, (λ image is. h.stands.1.1.0 image (among image is), h.stands.1.1.1)));
 }
 
 -- the disks stand for the books where those of the other shelves went home behind it
 pub left_behind : {D : Type 0} (view : D → View) (tells : Bool) (scripts : List Named) (xs ys : List (Shelf D Counting)) (ts : List (Option Ticket)) (place : ℕ)
-    (mid after : RackView) → IsTrue tells → AreFit view tells scripts xs ts → AreOwn view tells scripts xs ts → KeepsShelvesBut place xs ys
-    → LeavesLost scripts xs place mid.holds → IsPutBack xs place mid.out → IsHome ys mid.out → HoldImages view ys after.holds → LeaveOthers ys mid after
-    → AreHome after.out → IsLeft after (desk_with scripts xs ts) place
-left_behind {D = D} view tells scripts xs ys ts place mid after told fit own kept lost back home images others all_home = record {
+    (why : Reopen) (mid after : RackView) → IsTrue tells → AreFit view tells xs ts → AreOwn view tells xs ts → KeepsShelvesBut place xs ys
+    → LeavesLost view scripts xs place mid.holds → TellsItsRoom view scripts xs place why → IsPutBack xs place mid.out → IsHome ys mid.out
+    → HoldImages view ys after.holds → LeaveOthers ys mid after → AreHome after.out → IsLeft after (desk_with view scripts xs ts) place why
+left_behind {D = D} view tells scripts xs ys ts place why mid after told fit own kept lost room back home images others all_home = record {
   home = all_home;
   others = λ k s e other.
-      let x = from_mapped (shelf_at scripts) xs k s e in
+      let x = from_mapped (shelf_at view) xs k s e in
       let there = kept k x.0 other x.1 in
-      let number = (fit.served k x.0 x.1).in_order.number in
-      let b = book_in scripts x.0 in
-      let stands = holds_book (rules_of scripts x.0.rules) scripts (view x.0.journal.disk) x.0.rules.number b (after.holds x.0.rules.number)
+      let number = (fit.in_order k x.0 x.1).number in
+      let b = book_in view x.0 in
+      let stands = holds_book (rules_of x.0.rules) (view x.0.journal.disk) x.0.rules.number b (after.holds x.0.rules.number)
       ((own.own k x.0 x.1).own told) (images there.0 x.0 there.1) in
-      subst (λ (z : runs.Shelf). HoldsTheBook z.rules scripts z.book.shelf (after.holds z.book.shelf) z.book) x.2
-      (subst (λ n. HoldsTheBook (rules_of scripts x.0.rules) scripts n (after.holds n) b) (sym number) stands);
+      subst (λ (z : runs.Shelf). HoldsTheBook z.rules z.book.shelf (after.holds z.book.shelf) z.book) x.2
+      (subst (λ n. HoldsTheBook (rules_of x.0.rules) n (after.holds n) b) (sym number) stands);
   lost = λ s e.
-      let x = from_mapped (shelf_at scripts) xs place s e in
+      let x = from_mapped (shelf_at view) xs place s e in
       let n = x.0.rules.number in
-      let number = (fit.served place x.0 x.1).in_order.number in
-      let b = book_in scripts x.0 in
+      let number = (fit.in_order place x.0 x.1).number in
+      let b = book_in view x.0 in
       let fewer : AreAmong (after.holds n) (mid.holds n) = others n (λ k is. absurd (let no : true ≡ false = sym (home.ours k n is) ∙ back x.0 x.1 in cc)) in
-      let stands = lost_fewer (rules_of scripts x.0.rules) scripts n (mid.holds n) (after.holds n) b (lost x.0 x.1) fewer in
+      let stands = lost_fewer (rules_of x.0.rules) scripts n (mid.holds n) (after.holds n) b (lost x.0 x.1) fewer in
       subst (λ (z : runs.Shelf). StandsLost z.rules scripts z.book.shelf (after.holds z.book.shelf) z.book) x.2
-      (subst (λ m. StandsLost (rules_of scripts x.0.rules) scripts m (after.holds m) b) (sym number) stands);
+      (subst (λ m. StandsLost (rules_of x.0.rules) scripts m (after.holds m) b) (sym number) stands);
+  room = λ s e.
+      let x = from_mapped (shelf_at view) xs place s e in
+      subst (λ (z : runs.Shelf). TellsRoom z.rules scripts z.book why) x.2 (room x.0 x.1);
 }
 
 -- and where what was left there went home
-pub left_home : {D : Type 0} (xs : List (Shelf D Counting)) (mid after : RackView) (d : Desk) (shelf : ℕ) → IsHome xs mid.out → LeaveOthers xs mid after
-    → AreHome after.out → IsLeft mid d shelf → IsLeft after d shelf
-left_home xs mid after d shelf home others back left = record {
+pub left_home : {D : Type 0} (xs : List (Shelf D Counting)) (mid after : RackView) (d : Desk) (shelf : ℕ) (why : Reopen) → IsHome xs mid.out
+    → LeaveOthers xs mid after → AreHome after.out → IsLeft mid d shelf why → IsLeft after d shelf why
+left_home xs mid after d shelf why home others back left = record {
   home = back;
-  others = λ k s e other. book_fewer s.rules d.scripts s.book.shelf (mid.holds s.book.shelf) (after.holds s.book.shelf) s.book (left.others k s e other) (fewer s.book.shelf);
+  others = λ k s e other. book_fewer s.rules s.book.shelf (mid.holds s.book.shelf) (after.holds s.book.shelf) s.book (left.others k s e other) (fewer s.book.shelf);
   lost = λ s e. lost_fewer s.rules d.scripts s.book.shelf (mid.holds s.book.shelf) (after.holds s.book.shelf) s.book (left.lost s e) (fewer s.book.shelf);
+  room = left.room;
 }
   where
     fewer : (n : ℕ) → AreAmong (after.holds n) (mid.holds n)

@@ -7,7 +7,7 @@ use Rattle.script_nodes.specs.Setup.{Named}
 use Rattle.replay_spec.specs.Book.{Book, draw}
 use Rattle.replay_spec.specs.Rules.{Rules}
 use Rattle.replay_spec.specs.Next.{Ticket}
-use Rattle.replay_spec.specs.Step.{publish, sweep, crash, step, Fate, Reply, taken}
+use Rattle.replay_spec.specs.Step.{publish, sweep, Fate, Reply, taken}
 use Rattle.replay_spec.specs.Runs.{Shelf, empty_shelf}
 use Rattle.replay_spec.specs.Invariant.{Among}
 use Rattle.replay_spec.specs.Laws.{Takes, IsLawful}

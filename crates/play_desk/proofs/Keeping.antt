@@ -1,8 +1,9 @@
 -- What is left of a disk on which nothing was lost.
-use Rattle.std.proofs.Common.{◌≡◌, ◌≢◌, ◌∙◌, inl, inr, refl, subst, ℕ, List, [], Err}
+use Rattle.std.proofs.Common.{◌≡◌, ◌≢◌, ◌∙◌, ap, inl, inr, refl, subst, ℕ, List, [], append-nil, Err}
 use Rattle.web_disk.specs.View.{View, AreAmong}
 use Rattle.script_nodes.specs.Setup.{Named}
-use Rattle.shelf.specs.Opening.{KeepsRecords}
+use Rattle.page_journal.specs.Records.{at_rest, stored}
+use Rattle.shelf.specs.Opening.{KeepsRecords, making_on, opening_bodies}
 use Rattle.shelf.specs.declared.begin.BeginFault.{BeginFault}
 use Rattle.shelf.specs.declared.begin.BeginFault.TheVariants as begin
 use Rattle.play_steps.specs.declared.stage.Reopen.{Reopen}
@@ -11,12 +12,18 @@ use Rattle.play_desk.specs.Opening.{AllKept, IsKept, KeepsBegun, KeepsOpened, ca
 use Rattle.play_desk.specs.declared.opening.OpenCause.{OpenCause}
 use Rattle.play_desk.specs.declared.opening.OpenCause.TheVariants as cause
 
--- a disk on which nothing was lost, and what may be left of it
-pub is_kept : (scripts : List Named) (k : ℕ) (old new : View) (held : List ℕ → Type 0) → AreAmong old.images held → KeepsRecords scripts k old new
+-- a disk on which nothing was lost, and what may be left of it where a shelf was opened
+pub is_kept : (scripts : List Named) (k : ℕ) (old new : View) (held : List ℕ → Type 0) → AreAmong old.images held
+    → KeepsRecords (opening_bodies scripts k (making_on k old)) old new → AllKept scripts k held old.seen new.images
+is_kept scripts k old new held among (inl u) left is = inl (among left (u.1.1 left is))
+is_kept scripts k old new held among (inr (intact, h)) left is = inr (intact, inr (h.1 left is ∙ h.0))
+
+-- and where none was
+pub kept_unopened : (scripts : List Named) (k : ℕ) (old new : View) (held : List ℕ → Type 0) → AreAmong old.images held → KeepsRecords [] old new
     → AllKept scripts k held old.seen new.images
-is_kept scripts k old new held among (inl u) left is = inl (among left (u.1 left is))
-is_kept scripts k old new held among (inr (intact, inl h)) left is = inr (intact, inl (h.1 left is ∙ h.0))
-is_kept scripts k old new held among (inr (intact, inr (none, h))) left is = inr (intact, inr (none, h.1 left is ∙ h.0))
+kept_unopened scripts k old new held among (inl u) left is = inl (among left (u.1.1 left is))
+kept_unopened scripts k old new held among (inr (intact, h)) left is =
+    inr (intact, inl (h.1 left is ∙ h.0 ∙ ap at_rest (append-nil (stored old.seen))))
 
 -- what might be held of a disk that was taken might be held before
 kept_in : (scripts : List Named) (k : ℕ) (held were : List ℕ → Type 0) (read left : List ℕ) → AreAmong were held → IsKept scripts k were read left
@@ -34,18 +41,21 @@ untouched scripts k held holds read among left is = inl (among left is)
 
 -- a disk that was given back, as no shelf was begun on it
 pub not_begun : {D : Type 0} (view : D → View) (scripts : List Named) (k : ℕ) (old new : View) (holds : ℕ → List ℕ → Type 0) (fault : BeginFault)
-    → (fault ≢ begin.DiskFault → KeepsRecords scripts k old new) → AreAmong (holds k) new.images
+    → (fault ≢ begin.DiskFault → KeepsRecords [] old new) → AreAmong (holds k) new.images
     → KeepsBegun view scripts k old holds (Err (reopen_of fault))
 not_begun view scripts k old new holds begin.DiskFault keeps among = tt
 not_begun view scripts k old new holds (begin.Damaged place) keeps among =
     all_kept_in scripts k old.images old.images old.seen new.images (holds k) (λ image h. h) among
-    (is_kept scripts k old new old.images (λ image h. h) (keeps (λ e. let no : ⊥ = cc in no)))
+    (kept_unopened scripts k old new old.images (λ image h. h) (keeps (λ e. let no : ⊥ = cc in no)))
 not_begun view scripts k old new holds (begin.Other place) keeps among =
     all_kept_in scripts k old.images old.images old.seen new.images (holds k) (λ image h. h) among
-    (is_kept scripts k old new old.images (λ image h. h) (keeps (λ e. let no : ⊥ = cc in no)))
+    (kept_unopened scripts k old new old.images (λ image h. h) (keeps (λ e. let no : ⊥ = cc in no)))
+not_begun view scripts k old new holds (begin.Full len) keeps among =
+    all_kept_in scripts k old.images old.images old.seen new.images (holds k) (λ image h. h) among
+    (kept_unopened scripts k old new old.images (λ image h. h) (keeps (λ e. let no : ⊥ = cc in no)))
 not_begun view scripts k old new holds begin.Memory keeps among =
     all_kept_in scripts k old.images old.images old.seen new.images (holds k) (λ image h. h) among
-    (is_kept scripts k old new old.images (λ image h. h) (keeps (λ e. let no : ⊥ = cc in no)))
+    (kept_unopened scripts k old new old.images (λ image h. h) (keeps (λ e. let no : ⊥ = cc in no)))
 
 -- no empty shelf was opened on a disk without bytes
 pub not_opened : {D : Type 0} (view : D → View) (scripts : List Named) (k : ℕ) (old : View) (held : List ℕ → Type 0) (holds : ℕ → List ℕ → Type 0) (why : Reopen)
@@ -55,6 +65,8 @@ not_opened view scripts k old held holds reopen.Disk none among kept = tt
 not_opened view scripts k old held holds (reopen.Damaged place) none among kept =
     subst (λ read. AllKept scripts k held read (holds k)) none (all_kept_in scripts k held old.images old.seen (holds k) (holds k) among (λ image h. h) kept)
 not_opened view scripts k old held holds (reopen.Other place) none among kept =
+    subst (λ read. AllKept scripts k held read (holds k)) none (all_kept_in scripts k held old.images old.seen (holds k) (holds k) among (λ image h. h) kept)
+not_opened view scripts k old held holds (reopen.Full len) none among kept =
     subst (λ read. AllKept scripts k held read (holds k)) none (all_kept_in scripts k held old.images old.seen (holds k) (holds k) among (λ image h. h) kept)
 not_opened view scripts k old held holds reopen.Memory none among kept =
     subst (λ read. AllKept scripts k held read (holds k)) none (all_kept_in scripts k held old.images old.seen (holds k) (holds k) among (λ image h. h) kept)
@@ -66,6 +78,7 @@ unread view scripts k held holds cause.Disk among = tt
 unread view scripts k held holds cause.NotEmpty among = untouched scripts k held (holds k) [] among
 unread view scripts k held holds (cause.Damaged place) among = untouched scripts k held (holds k) [] among
 unread view scripts k held holds (cause.Other place) among = untouched scripts k held (holds k) [] among
+unread view scripts k held holds (cause.Full len) among = untouched scripts k held (holds k) [] among
 unread view scripts k held holds cause.Memory among = untouched scripts k held (holds k) [] among
 
 -- so it is told where the next shelf is not opened
@@ -75,4 +88,5 @@ closed_kept view scripts k held holds cause.Disk kept other = absurd (other refl
 closed_kept view scripts k held holds cause.NotEmpty kept other = kept
 closed_kept view scripts k held holds (cause.Damaged place) kept other = kept
 closed_kept view scripts k held holds (cause.Other place) kept other = kept
+closed_kept view scripts k held holds (cause.Full len) kept other = kept
 closed_kept view scripts k held holds cause.Memory kept other = kept

@@ -1,6 +1,10 @@
 -- Tickets that are open.
 use Rattle.std.proofs.Common.{◌≡◌, ◌≢◌, ◌∙◌, ap, sym, subst, refl, ℕ, ◌==◌, not, List, [], ◌∷◌, ◌++◌, filter, Contains}
 use Rattle.page_names.specs.Views.{target_of}
+use Rattle.script_nodes.specs.Views.{library_of}
+use Rattle.script_nodes.specs.declared.library.Library.{Library}
+use Rattle.web_disk.specs.View.{View}
+use Rattle.web_outside.specs.declared.nonces.Counting.{Counting}
 use Rattle.replay_spec.specs.Book.{Book}
 use Rattle.replay_spec.specs.Admission.{admit}
 use Rattle.replay_spec.specs.Laws.{Moment, then_book, book_after, AreLawful, IsLawful, Leads}
@@ -8,6 +12,8 @@ use Rattle.replay_spec.proofs.Stand.{among_of}
 use Rattle.instance_book.specs.Fits.{FitsAs}
 use Rattle.instance_book.specs.declared.ticket.Ticket.{Ticket}
 use Rattle.shelf.specs.Going.{TicketsGoOnToFit}
+use Rattle.shelf.specs.Views.{book_in, library_in}
+use Rattle.shelf.specs.declared.shelf.Shelf.{Shelf}
 use Rattle.play_desk.specs.Staff.{IsOpen}
 use Rattle.play_desk.proofs.Kept.{among_other, of_among}
 
@@ -26,18 +32,19 @@ pub leads_here : (b : Book) → Leads b b
 leads_here b = record { moments = []; lawful = tt; there = refl }
 
 -- a ticket that is open is for the visit of its target where that is admitted now
-pub fits_now : TicketsGoOnToFit → (b : Book) (t : Ticket) → IsOpen b t → FitsAs b.scripts b t (admit b (target_of t.target))
-fits_now law b t o = law o.then b o.orderly o.leads o.setup t o.admitted o.fits
+pub fits_now : {D : Type 0} (view : D → View) → TicketsGoOnToFit → (x : Shelf D Counting) (t : Ticket) → IsOpen view x t
+    → FitsAs (library_in x).all (book_in view x) t (admit (book_in view x) (target_of t.target))
+fits_now view law x t o = law (library_in x).all o.then (book_in view x) o.orderly o.leads o.setup t o.admitted o.fits
 
 -- an open ticket stays so
-pub stays_open : (b c : Book) (m : Moment) (t : Ticket) → IsLawful m.event b → then_book m b ≡ c → c.scripts ≡ b.scripts → IsOpen b t
-    → IsOpen c t
-stays_open b c m t lawful is setup o = record {
+pub stays_open : {D : Type 0} (view : D → View) (x y : Shelf D Counting) (m : Moment) (t : Ticket) → IsLawful m.event (book_in view x)
+    → then_book m (book_in view x) ≡ book_in view y → y.library ≡ x.library → IsOpen view x t → IsOpen view y t
+stays_open view x y m t lawful is same o = record {
   then = o.then;
   orderly = o.orderly;
-  leads = subst (Leads o.then) is (leads_on o.then b m o.leads lawful);
-  setup = setup ∙ o.setup;
-  fits = o.fits;
+  leads = subst (Leads o.then) is (leads_on o.then (book_in view x) m o.leads lawful);
+  setup = ap (λ (l : Library). (library_of l).setup) same ∙ o.setup;
+  fits = subst (λ (l : Library). FitsAs (library_of l).all o.then t (admit o.then (target_of t.target))) (sym same) o.fits;
   admitted = o.admitted;
 }
 

@@ -1,5 +1,5 @@
 -- A crash of one of the shelves.
-use Rattle.std.proofs.Common.{◌≡◌, ◌≢◌, ◌∙◌, ap, sym, subst, ⊎_elim, ℕ, ◌<◌, ◌≤◌, Bool, true, List, [], length, replicate, slice_get, slice_set, Some, None, Option, option_map, map, arith}
+use Rattle.std.proofs.Common.{◌≡◌, ◌≢◌, ◌∙◌, ap, sym, subst, ⊎_elim, ℕ, ◌≤◌, Bool, true, List, [], length, replicate, slice_get, slice_set, Some, None, Option, option_map, map, arith}
 use Rattle.std.proofs.lemmas.Bool.{cases_eq}
 use Rattle.std.proofs.lemmas.List.{length-map, map-set}
 use Rattle.play_desk.proofs.Stepping.{crashes, is_event, shelf_there}
@@ -28,19 +28,19 @@ use Rattle.play_desk.specs.Staff.{AreFit, HaveOwnNumbers, IsHome, desk_with, fau
 use Rattle.play_desk.proofs.Places.{none_there, same_Some}
 use Rattle.play_desk.proofs.Fitting.{number_at, numbers_set}
 use Rattle.play_desk.proofs.Counting.{faults_set}
-use Rattle.play_desk.proofs.Removing.{out_of, skip, at_out, skip_apart, skip_not, still_in, sum_out, map_out, length_out}
+use Rattle.play_desk.proofs.Removing.{out_of, skip, at_out, skip_apart, skip_not, still_in, sum_out, map_out}
 
 numbers_out : {D : Type 0} (xs : List (Shelf D Counting)) (k j : ℕ) → slice_get (numbers_in (out_of xs k)) j ≡ slice_get (numbers_in xs) (skip k j)
 numbers_out xs k j = ap (λ (ns : List ℕ). slice_get ns j) (map_out (λ s. s.rules.number) xs k) ∙ at_out (numbers_in xs) k j
 
 -- a desk without shelves is fit where nobody holds a ticket
-pub fit_none : {D : Type 0} (view : D → View) (tells : Bool) (scripts : List Named) (xs : List (Shelf D Counting)) (ts : List (Option Ticket))
-    → xs ≡ [] → ts ≡ replicate 16 None → AreFit view tells scripts xs ts
-fit_none {D = D} view tells scripts xs ts empty none =
+pub fit_none : {D : Type 0} (view : D → View) (tells : Bool) (xs : List (Shelf D Counting)) (ts : List (Option Ticket))
+    → xs ≡ [] → ts ≡ replicate 16 None → AreFit view tells xs ts
+fit_none {D = D} view tells xs ts empty none =
     let nobody : (w : ℕ) (t : Ticket) → slice_get ts w ≡ Some (Some t) → ⊥ =
     λ w t h. none_there 16 w t (subst (λ (vs : List (Option Ticket)). slice_get vs w ≡ Some (Some t)) none h) in
     record {
-      served = λ k x e. absurd (nowhere k x e);
+      in_order = λ k x e. absurd (nowhere k x e);
       numbers = λ k n e. absurd (let no = subst (λ (ys : List (Shelf D Counting)). slice_get (numbers_in ys) k ≡ Some n) empty e in let never : ⊥ = cc in never);
       few = (let size = ap length empty in omega (arith, size));
       count = ap length none;
@@ -126,49 +126,49 @@ stays_set view xs k x y rack now here stays =
 -- ---- the event crash
 
 -- a shelf that has crashed is the one behind the event
-pub crash_happens : {D : Type 0} (scripts : List Named) (x y : Shelf D Counting) (fate : Fate)
-    → IsCrashed (rules_of scripts x.rules) (book_in scripts x) (counting (counted x.nonces 0)) scripts fate (book_in scripts y)
+pub crash_happens : {D : Type 0} (view : D → View) (scripts : List Named) (x y : Shelf D Counting) (fate : Fate)
+    → IsCrashed (rules_of x.rules) (book_in view x) (counting (counted x.nonces 0)) scripts fate (book_in view y)
     → y.rules ≡ x.rules → y.nonces ≡ x.nonces
-    → happening (shelf_at scripts x) (crash scripts) fate ≡ (spec.live (length (book_in scripts y).instances), shelf_at scripts y)
-crash_happens scripts x y fate h rules nonces =
+    → happening (shelf_at view x) (crash scripts) fate ≡ (spec.live (length (book_in view y).instances), shelf_at view y)
+crash_happens view scripts x y fate h rules nonces =
     let given : counting (counted x.nonces 0) ≡ counted x.nonces 0 = omega arith in
-    ap (λ (p : spec.Reply × Book). in_desk p.0 p.1 (rules_of scripts x.rules) (drawn_by p.0 (counted x.nonces 0))) h
-    ∙ ap (λ n. with_nonces n (rules_of scripts x.rules)) given
-    ∙ ap (λ (c : Counting). with_nonces (counted c 0) (rules_of scripts x.rules)) (sym nonces)
-    ∙ ap (λ (r : Rules). with_nonces (counted y.nonces 0) (rules_of scripts r)) (sym rules)
+    ap (λ (p : spec.Reply × Book). in_desk p.0 p.1 (rules_of x.rules) (drawn_by p.0 (counted x.nonces 0))) h
+    ∙ ap (λ n. with_nonces n (rules_of x.rules)) given
+    ∙ ap (λ (c : Counting). with_nonces (counted c 0) (rules_of x.rules)) (sym nonces)
+    ∙ ap (λ (r : Rules). with_nonces (counted y.nonces 0) (rules_of r)) (sym rules)
   where
     in_desk : spec.Reply → Book → spec_rules.Rules → ℕ → spec.Reply × runs.Shelf
     in_desk r b l n = (r, (let s : runs.Shelf = record { rules = l; book = b; nonces = counting n } in s))
 
     with_nonces : ℕ → spec_rules.Rules → spec.Reply × runs.Shelf
-    with_nonces n l = (spec.live (length (book_in scripts y).instances), (let s : runs.Shelf = record { rules = l; book = book_in scripts y; nonces = n } in s))
+    with_nonces n l = (spec.live (length (book_in view y).instances), (let s : runs.Shelf = record { rules = l; book = book_in view y; nonces = n } in s))
 
-pub crash_step : {D : Type 0} (scripts : List Named) (xs : List (Shelf D Counting)) (ts us : List (Option Ticket)) (k n live : ℕ) (x y : Shelf D Counting)
-    (fate : Fate) → happening (shelf_at scripts x) (crash scripts) fate ≡ (spec.live n, shelf_at scripts y) → n ≡ live
+pub crash_step : {D : Type 0} (view : D → View) (scripts : List Named) (xs : List (Shelf D Counting)) (ts us : List (Option Ticket)) (k n live : ℕ) (x y : Shelf D Counting)
+    (fate : Fate) → happening (shelf_at view x) (crash scripts) fate ≡ (spec.live n, shelf_at view y) → n ≡ live
     → map (option_map ticket_of) us ≡ without_shelf (length xs) k 0 (map (option_map ticket_of) ts)
-    → crashed_by (desk_with scripts xs ts) k (happening (shelf_at scripts x) (crash scripts) fate) ≡ (live, desk_with scripts (slice_set xs k y) us)
-crash_step scripts xs ts us k n live x y fate h is held =
-    ap (crashed_by (desk_with scripts xs ts) k) h
-    ∙ ap (λ m. (n, made (slice_set (map (shelf_at scripts) xs) k (shelf_at scripts y)) (without_shelf m k 0 (map (option_map ticket_of) ts)))) (length-map xs (shelf_at scripts))
-    ∙ ap (λ (hs : List (Option next.Ticket)). (n, made (slice_set (map (shelf_at scripts) xs) k (shelf_at scripts y)) hs)) (sym held)
-    ∙ ap (λ (ss : List runs.Shelf). (n, made ss (map (option_map ticket_of) us))) (sym (map-set (shelf_at scripts) xs k y))
-    ∙ ap (λ m. (m, desk_with scripts (slice_set xs k y) us)) is
+    → crashed_by (desk_with view scripts xs ts) k (happening (shelf_at view x) (crash scripts) fate) ≡ (live, desk_with view scripts (slice_set xs k y) us)
+crash_step view scripts xs ts us k n live x y fate h is held =
+    ap (crashed_by (desk_with view scripts xs ts) k) h
+    ∙ ap (λ m. (n, made (slice_set (map (shelf_at view) xs) k (shelf_at view y)) (without_shelf m k 0 (map (option_map ticket_of) ts)))) (length-map xs (shelf_at view))
+    ∙ ap (λ (hs : List (Option next.Ticket)). (n, made (slice_set (map (shelf_at view) xs) k (shelf_at view y)) hs)) (sym held)
+    ∙ ap (λ (ss : List runs.Shelf). (n, made ss (map (option_map ticket_of) us))) (sym (map-set (shelf_at view) xs k y))
+    ∙ ap (λ m. (m, desk_with view scripts (slice_set xs k y) us)) is
   where
     made : List runs.Shelf → List (Option next.Ticket) → Desk
     made ss hs = record { scripts = scripts; shelves = ss; held = hs }
 
 -- what was in doubt lost or kept, the desk is behind the event
-pub crash_comes : {D : Type 0} (scripts : List Named) (xs : List (Shelf D Counting)) (ts us : List (Option Ticket)) (k live : ℕ) (x y : Shelf D Counting)
-    → slice_get xs k ≡ Some x → HasCrashed scripts x y → y.rules ≡ x.rules → y.nonces ≡ x.nonces → length (book_in scripts y).instances ≡ live
+pub crash_comes : {D : Type 0} (view : D → View) (scripts : List Named) (xs : List (Shelf D Counting)) (ts us : List (Option Ticket)) (k live : ℕ) (x y : Shelf D Counting)
+    → slice_get xs k ≡ Some x → HasCrashed view scripts x y → y.rules ≡ x.rules → y.nonces ≡ x.nonces → length (book_in view y).instances ≡ live
     → map (option_map ticket_of) us ≡ without_shelf (length xs) k 0 (map (option_map ticket_of) ts)
-    → Comes is_fault ⊥ (desk_crash (desk_with scripts xs ts) k) (desk_with scripts xs ts) live (desk_with scripts (slice_set xs k y) us)
-crash_comes scripts xs ts us k live x y here crashed rules nonces is held =
+    → Comes is_fault ⊥ (desk_crash (desk_with view scripts xs ts) k) (desk_with view scripts xs ts) live (desk_with view scripts (slice_set xs k y) us)
+crash_comes view scripts xs ts us k live x y here crashed rules nonces is held =
     ⊎_elim (λ h. by_fate spec.lost h (λ fails. let no : ⊥ = cc in no)) (λ h. by_fate spec.kept h (λ fails. let no : ⊥ = cc in no)) (crashed (counting (counted x.nonces 0)))
   where
-    by_fate : (fate : Fate) → IsCrashed (rules_of scripts x.rules) (book_in scripts x) (counting (counted x.nonces 0)) scripts fate (book_in scripts y)
+    by_fate : (fate : Fate) → IsCrashed (rules_of x.rules) (book_in view x) (counting (counted x.nonces 0)) scripts fate (book_in view y)
         → (is_fault fate ≡ true → ⊥)
-        → Comes is_fault ⊥ (desk_crash (desk_with scripts xs ts) k) (desk_with scripts xs ts) live (desk_with scripts (slice_set xs k y) us)
+        → Comes is_fault ⊥ (desk_crash (desk_with view scripts xs ts) k) (desk_with view scripts xs ts) live (desk_with view scripts (slice_set xs k y) us)
     by_fate fate h fails =
-        is_event (desk_with scripts xs ts) (desk_with scripts (slice_set xs k y) us) _ _ live ⊥ fate
-        (crashes (desk_with scripts xs ts) k (shelf_at scripts x) (shelf_there scripts xs ts k x here))
-        (crash_step scripts xs ts us k (length (book_in scripts y).instances) live x y fate (crash_happens scripts x y fate h rules nonces) is held) fails
+        is_event (desk_with view scripts xs ts) (desk_with view scripts (slice_set xs k y) us) _ _ live ⊥ fate
+        (crashes (desk_with view scripts xs ts) k (shelf_at view x) (shelf_there view scripts xs ts k x here))
+        (crash_step view scripts xs ts us k (length (book_in view y).instances) live x y fate (crash_happens view scripts x y fate h rules nonces) is held) fails

@@ -1,5 +1,5 @@
 -- Places of lists that are read and written.
-use Rattle.std.proofs.Common.{◌≡◌, ◌≢◌, ◌⊎◌, inl, inr, ap, sym, refl, ℕ, ◌<◌, ◌==◌, ◌++◌, ◌∙◌, true, false, zero, suc, List, [], ◌∷◌, length, replicate, slice_get, slice_set, slice_index_or, Some, None, arith}
+use Rattle.std.proofs.Common.{◌≡◌, ◌≢◌, ◌⊎◌, inl, inr, ap, sym, refl, ℕ, ◌+◌, ◌<◌, ◌==◌, ◌++◌, ◌∙◌, true, false, zero, suc, List, [], ◌∷◌, length, replicate, take, slice_get, slice_set, slice_index_or, Some, None, arith}
 use Rattle.std.proofs.lemmas.Bool.{eq-eqb}
 
 pub get_set : {A : Type 0} (xs : List A) (i : ℕ) (x : A) → i < length xs → slice_get (slice_set xs i x) i ≡ Some x
@@ -60,3 +60,11 @@ pub some_at : {A : Type 0} (xs : List A) (k : ℕ) → k < length xs → (x : A)
 some_at [] k h = absurd (omega arith)
 some_at (y ∷ xs) zero h = (y, refl)
 some_at (y ∷ xs) (suc k) h = some_at xs k (omega arith)
+
+-- one more of what a list begins with
+pub take_more : {A : Type 0} (xs : List A) (k : ℕ) (x : A) → slice_get xs k ≡ Some x → take (k + 1) xs ≡ take k xs ++ x ∷ []
+take_more [] k x e = absurd (let no : None ≡ Some x = e in cc)
+take_more (y ∷ xs) zero x e = ap (λ z. z ∷ []) (same_Some y x e)
+take_more (y ∷ xs) (suc k) x e =
+    let is : suc k + 1 ≡ suc (k + 1) = omega arith in
+    ap (λ n. take n (y ∷ xs)) is ∙ ap (λ ys. y ∷ ys) (take_more xs k x e)

@@ -1,33 +1,60 @@
 -- What a shelf is that is opened again on what a crash left.
-use Rattle.std.proofs.Common.{◌≡◌, ◌⊎◌, ⊎_elim, refl, subst, ℕ, ◌≤◌, List, [], Result, Ok, Err, IfOk, arith}
-use Rattle.std.specs.Prelude.{IsErrOf}
+use Rattle.std.proofs.Common.{◌≡◌, ◌⊎◌, inl, inr, ⊎_elim, refl, subst, ℕ, ◌≤◌, List, [], Result, Ok, Err, IfOk, arith}
+use Rattle.std.specs.Prelude.{IfErr, IsErrOf}
 use Rattle.web_outside.specs.Causes.{Rose}
 use Rattle.web_outside.specs.declared.nonces.Counting.{Counting}
 use Rattle.web_disk.specs.View.{View, AreAmong}
 use Rattle.script_nodes.specs.Setup.{Named}
+use Rattle.setup_reader.specs.Texts.{setup_of_texts}
+use Rattle.replay_spec.specs.Step.{lost, kept}
 use Rattle.replay_spec.specs.Book.{Book}
 use Rattle.replay_spec.specs.Rules.{Rules}
 use Rattle.journal_spec.specs.Making.{Making, damaged, other, book_in_bytes}
-use Rattle.journal_spec.specs.Standing.{IsBook, Stands, StaysThroughout, if_kept}
+use Rattle.journal_spec.specs.Standing.{IsBook, Between, Stands, OpensThroughout, if_kept}
 use Rattle.journal_spec.specs.Laws.{ImagesMakeBooks}
 use Rattle.shelf.specs.Views.{book_in, rules_of}
-use Rattle.shelf.specs.Opening.{AReopenedShelfHasCrashed}
+use Rattle.shelf.specs.Opening.{IsCrashed, AReopenedShelfHasCrashed}
 use Rattle.shelf.specs.Owning.{HasOwnImages, StandsMeasured, StandsOwn, StaysOwnThroughout, IsOwnImage}
 use Rattle.page_journal.specs.Records.{Intact, records}
 use Rattle.shelf.specs.declared.shelf.Shelf.{Shelf}
 use Rattle.play_steps.specs.declared.stage.Reopen.{Reopen}
 use Rattle.play_steps.specs.declared.stage.Reopen.TheVariants as reopen
-use Rattle.play_desk.specs.Opening.{CountRose, CountStays, Finds, HasCrashed, StandsLost, StaysLost, cause_of}
+use Rattle.play_desk.specs.Opening.{CountRose, CountStays, Finds, FindsBook, HasCrashed, HoldsOpened, StandsLost, StaysLost, TellsRoom, cause_of}
 use Rattle.play_desk.specs.declared.opening.OpenCause.TheVariants as cause
 
-pub reopened_ok : {D : Type 0} (view : D → View) → AReopenedShelfHasCrashed view → (scripts : List Named) (old : Shelf D Counting)
-    → StandsMeasured (rules_of scripts old.rules) scripts old.rules.number (view old.journal.disk) (book_in scripts old)
-    → (images : List ℕ → Type 0) → AreAmong images (view old.journal.disk).images → (opened : Result (Shelf D Counting) Reopen)
-    → Finds view scripts old.rules.number images opened → IfOk opened (HasCrashed scripts old)
-reopened_ok view law scripts old stands images among (Ok s) found = λ nonce.
-    law scripts old.rules.number (rules_of scripts old.rules) (book_in scripts old) (book_in scripts s) nonce old.journal.disk found.0 refl stands
+-- a book that is found is the one behind the event crash, what was in doubt lost or kept
+has_crashed : {D : Type 0} (view : D → View) → AReopenedShelfHasCrashed view → (scripts : List Named) (old : Shelf D Counting)
+    → StandsMeasured (rules_of old.rules) old.rules.number (view old.journal.disk) (book_in view old)
+    → (images : List ℕ → Type 0) → AreAmong images (view old.journal.disk).images → (b : Book) → FindsBook view scripts old.rules.number images b
+    → (nonce : ℕ)
+    → IsCrashed (rules_of old.rules) (book_in view old) nonce scripts lost b ⊎ IsCrashed (rules_of old.rules) (book_in view old) nonce scripts kept b
+has_crashed view law scripts old stands images among b found nonce =
+    law scripts old.rules.number (rules_of old.rules) (book_in view old) b nonce old.journal.disk found.0 refl stands
     (λ image here. among image (found.1 image here)) found.2
+
+pub reopened_ok : {D : Type 0} (view : D → View) → AReopenedShelfHasCrashed view → (scripts : List Named) (old : Shelf D Counting)
+    → StandsMeasured (rules_of old.rules) old.rules.number (view old.journal.disk) (book_in view old)
+    → (images : List ℕ → Type 0) → AreAmong images (view old.journal.disk).images → (opened : Result (Shelf D Counting) Reopen)
+    → Finds view scripts old.rules.number images opened → IfOk opened (HasCrashed view scripts old)
+reopened_ok view law scripts old stands images among (Ok s) found = has_crashed view law scripts old stands images among (book_in view s) found
 reopened_ok view law scripts old stands images among (Err why) found = tt
+
+-- where there is no room for the setup, this is so of the book behind the event crash
+pub tells_room : {D : Type 0} (view : D → View) → AReopenedShelfHasCrashed view → (scripts : List Named) (old : Shelf D Counting)
+    → StandsMeasured (rules_of old.rules) old.rules.number (view old.journal.disk) (book_in view old)
+    → (images : List ℕ → Type 0) → AreAmong images (view old.journal.disk).images → (opened : Result (Shelf D Counting) Reopen)
+    → Finds view scripts old.rules.number images opened → IfErr opened (TellsRoom (rules_of old.rules) scripts (book_in view old))
+tells_room view law scripts old stands images among (Ok s) found = tt
+tells_room view law scripts old stands images among (Err (reopen.Full len)) found = record {
+  book = found.0;
+  crashed = has_crashed view law scripts old stands images among found.0 found.1;
+  length = found.2;
+  long = found.3;
+}
+tells_room view law scripts old stands images among (Err (reopen.Damaged place)) found = tt
+tells_room view law scripts old stands images among (Err (reopen.Other place)) found = tt
+tells_room view law scripts old stands images among (Err reopen.Disk) found = tt
+tells_room view law scripts old stands images among (Err reopen.Memory) found = tt
 
 -- what makes a book makes no fault
 no_damage : (making : Making) (place : ℕ) (a b : Book) → IsBook making a ⊎ IsBook making b → making ≡ damaged place → ⊥
@@ -39,30 +66,32 @@ no_other making place a b h e =
     ⊎_elim (λ x. let is = x.1 in let no : ⊥ = cc in no) (λ x. let is = x.1 in let no : ⊥ = cc in no) h
 
 pub undamaged : {D : Type 0} (view : D → View) → ImagesMakeBooks → (scripts : List Named) (number : ℕ) (disk : D) (b : Book)
-    → Stands scripts number (view disk) b → (images : List ℕ → Type 0) → AreAmong images (view disk).images
+    → Stands setup_of_texts number (view disk) b → (images : List ℕ → Type 0) → AreAmong images (view disk).images
     → (opened : Result (Shelf D Counting) Reopen) → Finds view scripts number images opened → (place : ℕ) → IsErrOf opened (reopen.Damaged place) → ⊥
 undamaged view law scripts number disk b stands images among (Ok s) found place is = let no : ⊥ = cc in no
 undamaged view law scripts number disk b stands images among (Err (reopen.Damaged at)) found place is =
-    no_damage (book_in_bytes scripts number found.0) at b (if_kept stands.0 b)
-    (law scripts number b (if_kept stands.0 b) stands.1.0 found.0 (stands.1.1 found.0 (among found.0 found.1))) found.2
+    no_damage (book_in_bytes setup_of_texts number found.0) at b (if_kept stands.0 b)
+    (law setup_of_texts number b (if_kept stands.0 b) stands.1.0 found.0 (stands.1.1 found.0 (among found.0 found.1))) found.2
 undamaged view law scripts number disk b stands images among (Err (reopen.Other at)) found place is = let no : ⊥ = cc in no
+undamaged view law scripts number disk b stands images among (Err (reopen.Full len)) found place is = let no : ⊥ = cc in no
 undamaged view law scripts number disk b stands images among (Err reopen.Disk) found place is = let no : ⊥ = cc in no
 undamaged view law scripts number disk b stands images among (Err reopen.Memory) found place is = let no : ⊥ = cc in no
 
 pub none_other : {D : Type 0} (view : D → View) → ImagesMakeBooks → (scripts : List Named) (number : ℕ) (disk : D) (b : Book)
-    → Stands scripts number (view disk) b → (images : List ℕ → Type 0) → AreAmong images (view disk).images
+    → Stands setup_of_texts number (view disk) b → (images : List ℕ → Type 0) → AreAmong images (view disk).images
     → (opened : Result (Shelf D Counting) Reopen) → Finds view scripts number images opened → (place : ℕ) → IsErrOf opened (reopen.Other place) → ⊥
 none_other view law scripts number disk b stands images among (Ok s) found place is = let no : ⊥ = cc in no
 none_other view law scripts number disk b stands images among (Err (reopen.Other at)) found place is =
-    no_other (book_in_bytes scripts number found.0) at b (if_kept stands.0 b)
-    (law scripts number b (if_kept stands.0 b) stands.1.0 found.0 (stands.1.1 found.0 (among found.0 found.1))) found.2
+    no_other (book_in_bytes setup_of_texts number found.0) at b (if_kept stands.0 b)
+    (law setup_of_texts number b (if_kept stands.0 b) stands.1.0 found.0 (stands.1.1 found.0 (among found.0 found.1))) found.2
 none_other view law scripts number disk b stands images among (Err (reopen.Damaged at)) found place is = let no : ⊥ = cc in no
+none_other view law scripts number disk b stands images among (Err (reopen.Full len)) found place is = let no : ⊥ = cc in no
 none_other view law scripts number disk b stands images among (Err reopen.Disk) found place is = let no : ⊥ = cc in no
 none_other view law scripts number disk b stands images among (Err reopen.Memory) found place is = let no : ⊥ = cc in no
 
 -- no bytes are own ones
-pub empty_is_own : (scripts : List Named) (shelf : ℕ) (image : List ℕ) → image ≡ [] → IsOwnImage scripts shelf image
-empty_is_own scripts shelf image none bodies intact =
+pub empty_is_own : (shelf : ℕ) (image : List ℕ) → image ≡ [] → IsOwnImage shelf image
+empty_is_own shelf image none bodies intact =
     absurd (let no : records [] ≡ Intact bodies = subst (λ (bytes : List ℕ). records bytes ≡ Intact bodies) none intact in let never : ⊥ = cc in never)
 
 -- ---- causes
@@ -71,6 +100,7 @@ pub disk_cause : (why : Reopen) → cause_of why ≡ cause.Disk → why ≡ reop
 disk_cause reopen.Disk e = refl
 disk_cause (reopen.Damaged place) e = absurd (let no : ⊥ = cc in no)
 disk_cause (reopen.Other place) e = absurd (let no : ⊥ = cc in no)
+disk_cause (reopen.Full len) e = absurd (let no : ⊥ = cc in no)
 disk_cause reopen.Memory e = absurd (let no : ⊥ = cc in no)
 
 pub rose_after : (old mid new disk : ℕ) → CountStays old 0 mid disk → CountRose mid disk new 0 → Rose old new
@@ -79,37 +109,43 @@ rose_after old mid new disk stays rose = (let a = stays 0 in let b = rose 0 in o
 -- ---- a shelf that is lost
 
 -- a disk that holds what the disk of an own shelf may hold is one of an own shelf
-pub own_among : (rules : Rules) (scripts : List Named) (shelf : ℕ) (v w : View) (b : Book) → StandsOwn rules scripts shelf v b → AreAmong w.images v.images
-    → StandsOwn rules scripts shelf w b
-own_among rules scripts shelf v w b s among = record {
+pub own_among : (rules : Rules) (shelf : ℕ) (v w : View) (b : Book) → StandsOwn rules shelf v b → AreAmong w.images v.images → StandsOwn rules shelf w b
+own_among rules shelf v w b s among = record {
   images = (s.images.0, λ image h. s.images.1 image (among image h));
   stands = (s.stands.0, (s.stands.1.0, (λ image h. s.stands.1.1.0 image (among image h), s.stands.1.1.1)));
 }
 
 -- what the disk of an own shelf may hold stands for its book
-pub lost_among : (rules : Rules) (scripts : List Named) (shelf : ℕ) (v : View) (holds : List ℕ → Type 0) (b : Book) → StandsOwn rules scripts shelf v b
+pub lost_among : (rules : Rules) (scripts : List Named) (shelf : ℕ) (v : View) (holds : List ℕ → Type 0) (b : Book) → StandsOwn rules shelf v b
     → AreAmong holds v.images → StandsLost rules scripts shelf holds b
 lost_among rules scripts shelf v holds b s among = record {
   own = λ image h. (s.images.0, s.images.1 image (among image h));
-  stands = (s.stands.0, (s.stands.1.0, (λ image h. s.stands.1.1.0 image (among image h), s.stands.1.1.1)));
+  stands = (s.stands.0, (s.stands.1.0, (inl (λ image h. s.stands.1.1.0 image (among image h)), s.stands.1.1.1)));
 }
+
+opened_fewer : {shelf : ℕ} {before after : Book} (k : Between setup_of_texts shelf before after) (scripts : List Named) (held holds : List ℕ → Type 0)
+    → HoldsOpened k scripts held → AreAmong holds held → HoldsOpened k scripts holds
+opened_fewer k scripts held holds (inl h) among = inl (λ image is. h image (among image is))
+opened_fewer k scripts held holds (inr (inl h)) among = inr (inl (h.0, λ image is. h.1 image (among image is)))
+opened_fewer k scripts held holds (inr (inr h)) among = inr (inr (h.0, λ image is. h.1 image (among image is)))
 
 -- so does what may be left of it
 pub lost_fewer : (rules : Rules) (scripts : List Named) (shelf : ℕ) (held holds : List ℕ → Type 0) (b : Book) → StandsLost rules scripts shelf held b
     → AreAmong holds held → StandsLost rules scripts shelf holds b
 lost_fewer rules scripts shelf held holds b s among = record {
   own = λ image h. s.own image (among image h);
-  stands = (s.stands.0, (s.stands.1.0, (λ image h. s.stands.1.1.0 image (among image h), s.stands.1.1.1)));
+  stands = (s.stands.0, (s.stands.1.0, (opened_fewer s.stands.1.0 scripts held holds s.stands.1.1.0 among, s.stands.1.1.1)));
 }
 
--- a crash at any moment of an opening leaves the disk of an own shelf standing for its book, so it does at its end
+-- a crash at any moment of an opening leaves the disk of an own shelf standing for its book, with the setup or without it, so it does at its
+-- end
 pub stays_lost : (scripts : List Named) (shelf : ℕ) (old new : View) (holds : List ℕ → Type 0)
-    → ((t : ℕ) (image : List ℕ) → t ≤ new.moment → new.images image → new.since t image) → StaysThroughout scripts shelf old new
-    → (HasOwnImages scripts shelf old → StaysOwnThroughout scripts shelf old new) → AreAmong holds new.images → StaysLost scripts shelf old holds
+    → ((t : ℕ) (image : List ℕ) → t ≤ new.moment → new.images image → new.since t image) → OpensThroughout setup_of_texts shelf scripts old new
+    → (HasOwnImages shelf old → StaysOwnThroughout shelf old new) → AreAmong holds new.images → StaysLost scripts shelf old holds
 stays_lost scripts shelf old new holds now throughout owns among rules b s =
     let own = owns s.images in
     let stands = throughout b (if_kept s.stands.0 b) s.stands.1.0 s.stands.1.1.0 in
     record {
       own = λ image h. own.each image (now old.moment image own.later (among image h));
-      stands = (s.stands.0, (s.stands.1.0, (λ image h. stands.each image (now old.moment image stands.later (among image h)), s.stands.1.1.1)));
+      stands = (s.stands.0, (s.stands.1.0, (opened_fewer s.stands.1.0 scripts new.images holds stands.stands among, s.stands.1.1.1)));
     }

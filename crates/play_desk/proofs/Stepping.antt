@@ -1,6 +1,6 @@
 -- What the calls of a shelf are as steps of a desk.
 use Rattle.std.proofs.Common.{◌≡◌, ◌∙◌, ap, sym, subst, refl, ℕ, ◌<◌, ◌==◌, ◌^◌, List, length, map, slice_get, slice_set, Bool, true, false, Option, Some, None, option_map, Result, Ok, Err, arith}
-use Rattle.std.specs.Prelude.{is_some, IfSome}
+use Rattle.std.specs.Prelude.{is_some, option_and_then, IfSome}
 use Rattle.std.proofs.lemmas.List.{length-map, map-set}
 use Rattle.std.proofs.lemmas.Option.{slice_get-map}
 use Rattle.script_value.specs.Val.{Val}
@@ -10,7 +10,8 @@ use Rattle.script_value.specs.declared.outcome.Refusal.{Refusal}
 use Rattle.script_value.specs.declared.outcome.Refusal.TheVariants.{Unknown}
 use Rattle.web_outside.specs.declared.nonces.Counting.{Counting}
 use Rattle.script_nodes.specs.Setup.{Named}
-use Rattle.page_names.specs.Names.{Destination, start, page, destination_of}
+use Rattle.web_disk.specs.View.{View}
+use Rattle.page_names.specs.Names.{Destination, destination_of}
 use Rattle.replay_spec.specs.Book.{Book, Doubt, draw}
 use Rattle.replay_spec.specs.Admission.{or_else, when, admit, refusal_of}
 use Rattle.replay_spec.specs.Next as next
@@ -85,38 +86,44 @@ pub is_event : {A : Type 0} (d e : Desk) (call : Call Desk Fate A) (by : Fate �
     → by fate ≡ (a, e) → (is_fault fate ≡ true → rose) → Comes is_fault rose call d a e
 is_event d e call by a rose fate is comes fails = subst (λ c. Comes is_fault rose c d a e) (sym is) (fate, comes, fails)
 
+-- what rose is told in another way
+pub comes_over : {State Fate Answer : Type 0} (fails : Fate → Bool) (rose told : Type 0) (call : Call State Fate Answer) (old : State) (a : Answer)
+    (new : State) → (rose → told) → Comes fails rose call old a new → Comes fails told call old a new
+comes_over fails rose told (answered x) old a new so h = h
+comes_over fails rose told (event by) old a new so h = (h.0, h.1, λ e. so (h.2 e))
+
 -- ---- the desk behind them
 
-pub shelf_there : {D : Type 0} (scripts : List Named) (xs : List (code.Shelf D Counting)) (ts : List (Option Ticket)) (k : ℕ) (x : code.Shelf D Counting)
-    → slice_get xs k ≡ Some x → slice_get (desk_with scripts xs ts).shelves k ≡ Some (shelf_at scripts x)
-shelf_there scripts xs ts k x here = slice_get-map (shelf_at scripts) xs k ∙ ap (option_map (shelf_at scripts)) here
+pub shelf_there : {D : Type 0} (view : D → View) (scripts : List Named) (xs : List (code.Shelf D Counting)) (ts : List (Option Ticket)) (k : ℕ) (x : code.Shelf D Counting)
+    → slice_get xs k ≡ Some x → slice_get (desk_with view scripts xs ts).shelves k ≡ Some (shelf_at view x)
+shelf_there view scripts xs ts k x here = slice_get-map (shelf_at view) xs k ∙ ap (option_map (shelf_at view)) here
 
-pub no_shelf_there : {D : Type 0} (scripts : List Named) (xs : List (code.Shelf D Counting)) (ts : List (Option Ticket)) (k : ℕ)
-    → slice_get xs k ≡ None → slice_get (desk_with scripts xs ts).shelves k ≡ None
-no_shelf_there scripts xs ts k here = slice_get-map (shelf_at scripts) xs k ∙ ap (option_map (shelf_at scripts)) here
+pub no_shelf_there : {D : Type 0} (view : D → View) (scripts : List Named) (xs : List (code.Shelf D Counting)) (ts : List (Option Ticket)) (k : ℕ)
+    → slice_get xs k ≡ None → slice_get (desk_with view scripts xs ts).shelves k ≡ None
+no_shelf_there view scripts xs ts k here = slice_get-map (shelf_at view) xs k ∙ ap (option_map (shelf_at view)) here
 
-pub count_is : {D : Type 0} (scripts : List Named) (xs : List (code.Shelf D Counting)) (ts : List (Option Ticket))
-    → length (desk_with scripts xs ts).shelves ≡ length xs
-count_is scripts xs ts = length-map xs (shelf_at scripts)
+pub count_is : {D : Type 0} (view : D → View) (scripts : List Named) (xs : List (code.Shelf D Counting)) (ts : List (Option Ticket))
+    → length (desk_with view scripts xs ts).shelves ≡ length xs
+count_is view scripts xs ts = length-map xs (shelf_at view)
 
 -- the ticket that is held, as the desk holds it
 pub held_there : (tickets : List (Option Ticket)) (worker : ℕ) (o : Option Ticket) → slice_get tickets worker ≡ Some o
     → slice_get (map (option_map ticket_of) tickets) worker ≡ Some (option_map ticket_of o)
 held_there tickets worker o found = slice_get-map (option_map ticket_of) tickets worker ∙ ap (option_map (option_map ticket_of)) found
 
-pub with_is : {D : Type 0} (scripts : List Named) (xs : List (code.Shelf D Counting)) (ts : List (Option Ticket)) (k : ℕ) (y : code.Shelf D Counting)
-    → with_shelf (desk_with scripts xs ts) k (shelf_at scripts y) ≡ desk_with scripts (slice_set xs k y) ts
-with_is scripts xs ts k y =
+pub with_is : {D : Type 0} (view : D → View) (scripts : List Named) (xs : List (code.Shelf D Counting)) (ts : List (Option Ticket)) (k : ℕ) (y : code.Shelf D Counting)
+    → with_shelf (desk_with view scripts xs ts) k (shelf_at view y) ≡ desk_with view scripts (slice_set xs k y) ts
+with_is view scripts xs ts k y =
     ap (λ (ss : List Shelf). (let d : Desk = record { scripts = scripts; shelves = ss; held = map (option_map ticket_of) ts } in d))
-    (sym (map-set (shelf_at scripts) xs k y))
+    (sym (map-set (shelf_at view) xs k y))
 
-pub behind_is : {D : Type 0} (scripts : List Named) (xs : List (code.Shelf D Counting)) (ts : List (Option Ticket)) (k worker : ℕ) (y : code.Shelf D Counting)
+pub behind_is : {D : Type 0} (view : D → View) (scripts : List Named) (xs : List (code.Shelf D Counting)) (ts : List (Option Ticket)) (k worker : ℕ) (y : code.Shelf D Counting)
     (o : Option Ticket)
-    → behind (desk_with scripts xs ts) k (shelf_at scripts y) worker (option_map ticket_of o) ≡ desk_with scripts (slice_set xs k y) (slice_set ts worker o)
-behind_is scripts xs ts k worker y o =
-    ap (λ (hs : List (Option next.Ticket)). behind_with (slice_set (map (shelf_at scripts) xs) k (shelf_at scripts y)) hs)
+    → behind (desk_with view scripts xs ts) k (shelf_at view y) worker (option_map ticket_of o) ≡ desk_with view scripts (slice_set xs k y) (slice_set ts worker o)
+behind_is view scripts xs ts k worker y o =
+    ap (λ (hs : List (Option next.Ticket)). behind_with (slice_set (map (shelf_at view) xs) k (shelf_at view y)) hs)
     (sym (map-set (option_map ticket_of) ts worker o))
-    ∙ ap (λ (ss : List Shelf). behind_with ss (map (option_map ticket_of) (slice_set ts worker o))) (sym (map-set (shelf_at scripts) xs k y))
+    ∙ ap (λ (ss : List Shelf). behind_with ss (map (option_map ticket_of) (slice_set ts worker o))) (sym (map-set (shelf_at view) xs k y))
   where
     behind_with : List Shelf → List (Option next.Ticket) → Desk
     behind_with ss hs = record { scripts = scripts; shelves = ss; held = hs }
@@ -133,46 +140,45 @@ swept_so : (d : Desk) (k : ℕ) (x : Result ℕ Reply) (s : Shelf) → swept_by 
 swept_so d k (Ok n) s = refl
 swept_so d k (Err e) s = swept_err d k e s
 
-pub sweep_step : {D : Type 0} (scripts : List Named) (xs : List (code.Shelf D Counting)) (ts : List (Option Ticket)) (k : ℕ) (x y : code.Shelf D Counting)
-    (tick : ℕ) (r : Result ℕ Reply) → Happens scripts x y (sweep tick) (swept_of r)
-    → swept_by (desk_with scripts xs ts) k (happening (shelf_at scripts x) (sweep tick) (fate_by (swept_of r))) ≡ (r, desk_with scripts (slice_set xs k y) ts)
-sweep_step scripts xs ts k x y tick r h =
-    ap (swept_by (desk_with scripts xs ts) k) h
-    ∙ (swept_so (desk_with scripts xs ts) k r (shelf_at scripts y) ∙ ap (λ (e : Desk). (r, e)) (with_is scripts xs ts k y))
+pub sweep_step : {D : Type 0} (view : D → View) (scripts : List Named) (xs : List (code.Shelf D Counting)) (ts : List (Option Ticket)) (k : ℕ) (x y : code.Shelf D Counting)
+    (tick : ℕ) (r : Result ℕ Reply) → Happens view x y (sweep tick) (swept_of r)
+    → swept_by (desk_with view scripts xs ts) k (happening (shelf_at view x) (sweep tick) (fate_by (swept_of r))) ≡ (r, desk_with view scripts (slice_set xs k y) ts)
+sweep_step view scripts xs ts k x y tick r h =
+    ap (swept_by (desk_with view scripts xs ts) k) h
+    ∙ (swept_so (desk_with view scripts xs ts) k r (shelf_at view y) ∙ ap (λ (e : Desk). (r, e)) (with_is view scripts xs ts k y))
 
-pub take_step : {D : Type 0} (scripts : List Named) (xs : List (code.Shelf D Counting)) (ts : List (Option Ticket)) (k worker : ℕ) (x y : code.Shelf D Counting)
-    (d : Destination) (a : Val) (t : Ticket) → Happens scripts x y (take d a) (spec.taken t.number t.nonce)
+pub take_step : {D : Type 0} (view : D → View) (scripts : List Named) (xs : List (code.Shelf D Counting)) (ts : List (Option Ticket)) (k worker : ℕ) (x y : code.Shelf D Counting)
+    (d : Destination) (a : Val) (t : Ticket) → Happens view x y (take d a) (spec.taken t.number t.nonce)
     → ticket_of t ≡ record { target = d; answer = a; number = t.number; nonce = t.nonce }
-    → taken_by (desk_with scripts xs ts) k worker d a (happening (shelf_at scripts x) (take d a) plain)
-    ≡ (Ok t.number, desk_with scripts (slice_set xs k y) (slice_set ts worker (Some t)))
-take_step scripts xs ts k worker x y d a t h ticket =
-    ap (taken_by (desk_with scripts xs ts) k worker d a) h
-    ∙ (ap (λ (u : next.Ticket). (Ok t.number, behind (desk_with scripts xs ts) k (shelf_at scripts y) worker (Some u))) (sym ticket)
-    ∙ ap (λ (e : Desk). (Ok t.number, e)) (behind_is scripts xs ts k worker y (Some t)))
+    → taken_by (desk_with view scripts xs ts) k worker d a (happening (shelf_at view x) (take d a) plain)
+    ≡ (Ok t.number, desk_with view scripts (slice_set xs k y) (slice_set ts worker (Some t)))
+take_step view scripts xs ts k worker x y d a t h ticket =
+    ap (taken_by (desk_with view scripts xs ts) k worker d a) h
+    ∙ (ap (λ (u : next.Ticket). (Ok t.number, behind (desk_with view scripts xs ts) k (shelf_at view y) worker (Some u))) (sym ticket)
+    ∙ ap (λ (e : Desk). (Ok t.number, e)) (behind_is view scripts xs ts k worker y (Some t)))
 
-pub refused_step : {D : Type 0} (scripts : List Named) (xs : List (code.Shelf D Counting)) (ts : List (Option Ticket)) (k worker : ℕ) (x y : code.Shelf D Counting)
-    (d : Destination) (a : Val) (e : Reply) → Happens scripts x y (take d a) (reply_of e)
-    → taken_by (desk_with scripts xs ts) k worker d a (happening (shelf_at scripts x) (take d a) (fate_by (reply_of e)))
-    ≡ (Err e, desk_with scripts (slice_set xs k y) ts)
-refused_step scripts xs ts k worker x y d a e h =
-    ap (taken_by (desk_with scripts xs ts) k worker d a) h
-    ∙ (taken_err (desk_with scripts xs ts) k worker d a e (shelf_at scripts y) ∙ ap (λ (z : Desk). (Err e, z)) (with_is scripts xs ts k y))
+pub refused_step : {D : Type 0} (view : D → View) (scripts : List Named) (xs : List (code.Shelf D Counting)) (ts : List (Option Ticket)) (k worker : ℕ) (x y : code.Shelf D Counting)
+    (d : Destination) (a : Val) (e : Reply) → Happens view x y (take d a) (reply_of e)
+    → taken_by (desk_with view scripts xs ts) k worker d a (happening (shelf_at view x) (take d a) (fate_by (reply_of e)))
+    ≡ (Err e, desk_with view scripts (slice_set xs k y) ts)
+refused_step view scripts xs ts k worker x y d a e h =
+    ap (taken_by (desk_with view scripts xs ts) k worker d a) h
+    ∙ (taken_err (desk_with view scripts xs ts) k worker d a e (shelf_at view y) ∙ ap (λ (z : Desk). (Err e, z)) (with_is view scripts xs ts k y))
 
-pub publish_step : {D : Type 0} (scripts : List Named) (xs : List (code.Shelf D Counting)) (ts : List (Option Ticket)) (k worker : ℕ) (x y : code.Shelf D Counting)
-    (t : Ticket) (e : Reply) → Happens scripts x y (publish (ticket_of t)) (reply_of e)
-    → published_by (desk_with scripts xs ts) k worker (happening (shelf_at scripts x) (publish (ticket_of t)) (fate_by (reply_of e)))
-    ≡ (e, desk_with scripts (slice_set xs k y) (slice_set ts worker None))
-publish_step scripts xs ts k worker x y t e h =
-    ap (published_by (desk_with scripts xs ts) k worker) h
-    ∙ (ap (λ (r : Reply). (r, behind (desk_with scripts xs ts) k (shelf_at scripts y) worker None)) (told_is e)
-    ∙ ap (λ (z : Desk). (e, z)) (behind_is scripts xs ts k worker y None))
+pub publish_step : {D : Type 0} (view : D → View) (scripts : List Named) (xs : List (code.Shelf D Counting)) (ts : List (Option Ticket)) (k worker : ℕ) (x y : code.Shelf D Counting)
+    (t : Ticket) (e : Reply) → Happens view x y (publish (ticket_of t)) (reply_of e)
+    → published_by (desk_with view scripts xs ts) k worker (happening (shelf_at view x) (publish (ticket_of t)) (fate_by (reply_of e)))
+    ≡ (e, desk_with view scripts (slice_set xs k y) (slice_set ts worker None))
+publish_step view scripts xs ts k worker x y t e h =
+    ap (published_by (desk_with view scripts xs ts) k worker) h
+    ∙ (ap (λ (r : Reply). (r, behind (desk_with view scripts xs ts) k (shelf_at view y) worker None)) (told_is e)
+    ∙ ap (λ (z : Desk). (e, z)) (behind_is view scripts xs ts k worker y None))
 
-pub holds_it : (tickets : List (Option Ticket)) (worker : ℕ) (t : Ticket) (d : Desk) → d.held ≡ map (option_map ticket_of) (slice_set tickets worker (Some t))
-    → worker < length tickets → is_some (desk.ticket_of d worker) ≡ true
-holds_it tickets worker t d is low =
-    let there : slice_get d.held worker ≡ Some (Some (ticket_of t)) =
-    ap (λ (hs : List (Option next.Ticket)). slice_get hs worker) is
-    ∙ held_there (slice_set tickets worker (Some t)) worker (Some t) (get_set tickets worker (Some t) low) in
+pub holds_it : (tickets : List (Option Ticket)) (worker : ℕ) (t : Ticket) → worker < length tickets
+    → is_some (option_and_then (λ u. u) (slice_get (map (option_map ticket_of) (slice_set tickets worker (Some t))) worker)) ≡ true
+holds_it tickets worker t low =
+    let there : slice_get (map (option_map ticket_of) (slice_set tickets worker (Some t))) worker ≡ Some (Some (ticket_of t)) =
+    held_there (slice_set tickets worker (Some t)) worker (Some t) (get_set tickets worker (Some t) low) in
     rw there refl
 
 -- ---- what a take comes to

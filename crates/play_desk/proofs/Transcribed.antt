@@ -1,14 +1,17 @@
 -- A run of steps, entered in a ledger.
-use Rattle.std.proofs.Common.{◌≡◌, ◌∙◌, ap, sym, subst, refl, ℕ, ◌+◌, zero, suc, Bool, true, false, List, map, [], ◌∷◌, ◌++◌, length, append_assoc, append-nil, Option, Some, None, Result, Ok, Err, if◌then◌else◌}
+use Rattle.std.proofs.Common.{◌≡◌, ◌∙◌, ap, sym, subst, refl, ℕ, ◌+◌, zero, suc, Bool, true, false, List, map, [], ◌∷◌, ◌++◌, length, append_assoc, append-nil, Option, Some, None, Result, Ok, Err, option_map, if◌then◌else◌}
+use Rattle.std.specs.Prelude.{is_some, unwrap_or}
 use Rattle.std.proofs.lemmas.List.{map-append}
+use Rattle.script_nodes.specs.Setup.{Named}
 use Rattle.script_value.specs.declared.outcome.Reply as outcome
 use Rattle.replay_spec.specs.Step.{Fate, Reply}
-use Rattle.play_steps.specs.Step.{Step, take, publish, get, tick, crash, lines_in}
+use Rattle.play_steps.specs.Step.{Step, take, publish, get, tick, crash, edit, crash_edited, lines_in}
 use Rattle.play_steps.specs.Reports.{take_report, sweep_report}
 use Rattle.play_steps.specs.Rules.{Call, answered, event}
 use Rattle.play_steps.specs.declared.report.Report.{Report}
 use Rattle.play_steps.specs.declared.report.Report.TheVariants.{Replied, Reopened}
-use Rattle.play_steps.specs.Transcript.{Run, End, done, bad_line, went, stopped, behind, goes_on, first_fate, later_fates, fits, called, published, got, swept, performed, text_of, transcript}
+use Rattle.play_steps.specs.Transcript.{Run, End, done, bad_line, went, stopped, behind, goes_on, first_fate, later_fates, fits, called, published, got, swept, crashed, performed, text_of, transcript}
+use Rattle.play_desk.specs.Edits.{edited}
 use Rattle.play_desk.specs.Desk.{Desk, desk_rules, desk_take, desk_publish, desk_sweep, desk_crash}
 use Rattle.play_desk.specs.Ledger.{Entry, Ledger, ledger_of, ledger_rules, ledger_take, ledger_publish, ledger_sweep, ledger_crash}
 use Rattle.play_desk.specs.Laws.{AreRuns, AreLawfulRuns, TranscriptsAreRuns}
@@ -165,6 +168,26 @@ swept_follows time (suc count) shelf d fates =
     (λ x e later. behind_told e (sweep_report shelf x ∷ []) (swept desk_rules time count (shelf + 1) e later)
     (λ l. swept ledger_rules time count (shelf + 1) l later) (swept_follows time count (shelf + 1) e later))
 
+-- an edit, which enters nothing
+edit_follows : (o : Option (List Named)) (d : Desk) (fates : List Fate)
+    → Follows d (went desk_rules [] (unwrap_or (option_map (λ scripts. record d { scripts = scripts }) o) d) fates)
+    (λ l. went ledger_rules [] (unwrap_or (option_map (λ scripts. record l { scripts = scripts }) o) l) fates)
+edit_follows None d fates = told_follows [] d fates
+edit_follows (Some scripts) d fates = record {
+  replies = [];
+  entries = [];
+  is = λ later before.
+      ap (as_entered (went desk_rules [] (let e : Desk = record d { scripts = scripts } in e) fates) later) (sym (append-nil before));
+  all = refl;
+  runs = no_runs d.shelves;
+  lawful = λ n o. (no_lawful d.shelves, o);
+}
+
+crash_follows : (shelf : ℕ) (d : Desk) (fates : List Fate) → Follows d (crashed desk_rules shelf d fates) (λ l. crashed ledger_rules shelf l fates)
+crash_follows shelf d fates =
+    after_call d (desk_crash d shelf) (λ l. ledger_crash l shelf) fates (λ live. went desk_rules (Reopened shelf live ∷ []))
+    (λ live. went ledger_rules (Reopened shelf live ∷ [])) (crash_enters d shelf) (λ live. told_follows (Reopened shelf live ∷ []))
+
 step_follows : (step : Step) (d : Desk) (fates : List Fate) → Follows d (performed desk_rules step d fates) (λ l. performed ledger_rules step l fates)
 step_follows (take worker target) d fates =
     after_call d (desk_take d worker target) (λ l. ledger_take l worker target) fates (λ x. went desk_rules (take_report worker x ∷ []))
@@ -176,9 +199,17 @@ step_follows (get worker target) d fates =
 step_follows (tick time) d fates =
     again d (swept desk_rules time (length d.shelves) 0 d fates) (λ l. swept ledger_rules time (length d.shelves) 0 l fates)
     (λ l. swept ledger_rules time l.count 0 l fates) (swept_follows time (length d.shelves) 0 d fates) (λ later before. refl)
-step_follows (crash shelf) d fates =
-    after_call d (desk_crash d shelf) (λ l. ledger_crash l shelf) fates (λ live. went desk_rules (Reopened shelf live ∷ []))
-    (λ live. went ledger_rules (Reopened shelf live ∷ [])) (crash_enters d shelf) (λ live. told_follows (Reopened shelf live ∷ []))
+step_follows (crash shelf) d fates = crash_follows shelf d fates
+step_follows (edit name text) d fates =
+    again d (performed desk_rules (edit name text) d fates)
+    (λ l. went ledger_rules [] (unwrap_or (option_map (λ scripts. record l { scripts = scripts }) (edited d.scripts name text)) l) fates)
+    (λ l. performed ledger_rules (edit name text) l fates) (edit_follows (edited d.scripts name text) d fates) (λ later before. refl)
+step_follows (crash_edited shelf) d fates = crash_follows shelf d fates
+
+-- a value that is mapped is there, whatever it is mapped to
+same_some : {A B C : Type 0} (f : A → B) (g : A → C) (o : Option A) → is_some (option_map f o) ≡ is_some (option_map g o)
+same_some f g None = refl
+same_some f g (Some x) = refl
 
 -- a step fits the ledger where it fits the desk
 same_fits : (step : Step) (d : Desk) (later : List Reply) (before : List Entry) → fits ledger_rules step (ledger_of d later before) ≡ fits desk_rules step d
@@ -187,6 +218,9 @@ same_fits (publish worker) d later before = refl
 same_fits (get worker target) d later before = refl
 same_fits (tick time) d later before = refl
 same_fits (crash shelf) d later before = refl
+same_fits (edit name text) d later before =
+    same_some (λ scripts. record (ledger_of d later before) { scripts = scripts }) (λ scripts. record d { scripts = scripts }) (edited d.scripts name text)
+same_fits (crash_edited shelf) d later before = refl
 
 run_follows : (steps : List (Option Step)) (d : Desk) (number : ℕ) (fates : List Fate)
     → Follows d (transcript desk_rules d number steps fates) (λ l. transcript ledger_rules l number steps fates)
@@ -229,6 +263,7 @@ transcripts_are_runs d number steps fates =
         text = sym (ap (λ (x : Run ledger_rules). text_of x) is);
         end = sym (ap (λ (x : Run ledger_rules). x.end) is);
         all = ap (λ (x : Run ledger_rules). map (λ e. e.reply) x.state.entries) is ∙ h.all;
+        scripts = sym (ap (λ (x : Run ledger_rules). x.state.scripts) is);
         held = sym (ap (λ (x : Run ledger_rules). x.state.held) is);
         runs = subst (λ (es : List Entry). AreRuns es d.shelves (transcript desk_rules d number steps fates).state.shelves)
             (sym (ap (λ (x : Run ledger_rules). x.state.entries) is)) h.runs;

@@ -1,5 +1,5 @@
 -- What the steps of a run do: the shelves of one program, and the tickets that its workers hold.
-use Rattle.std.specs.Prelude.{ℕ, zero, suc, ◌+◌, ◌%◌, ◌^◌, ◌==◌, Bool, true, false, List, [], ◌∷◌, ◌++◌, length, Option, Some, None, Result, Ok, Err, is_some, replicate, slice_get, slice_set, option_and_then, if◌then◌else◌}
+use Rattle.std.specs.Prelude.{ℕ, zero, suc, ◌+◌, ◌%◌, ◌^◌, ◌==◌, Bool, true, false, List, [], ◌∷◌, ◌++◌, length, Option, Some, None, Result, Ok, Err, is_some, replicate, slice_get, slice_set, option_and_then, option_map, if◌then◌else◌}
 use Rattle.script_value.specs.Val.{Val}
 use Rattle.script_value.specs.declared.outcome.Refusal.TheVariants.{Unknown}
 use Rattle.script_value.specs.declared.outcome.Reply.{Reply}
@@ -12,6 +12,7 @@ use Rattle.replay_spec.specs.Step.{Event, take, publish, sweep, crash, Fate, pla
 use Rattle.replay_spec.specs.Step as spec
 use Rattle.replay_spec.specs.Runs.{Shelf, empty_shelf, shelf_step}
 use Rattle.play_steps.specs.Rules.{StageRules, Call, answered, event}
+use Rattle.play_desk.specs.Edits.{edited}
 use Rattle.play_desk.specs.Target.{answer_to, path_and_query, shelf_for}
 
 -- a reply as it is told; what only a take, a sweep or a crash is answered has no text of its own here
@@ -23,7 +24,6 @@ told (spec.refusal r) = reply.Refused r
 told (spec.fault k) = reply.Fault k
 told (spec.out_of_fuel cost) = reply.Fuel cost
 told (spec.shelf_full count) = reply.ShelfFull count
-told (spec.instance_full count) = reply.InstanceFull count
 told (spec.oversize length) = reply.Oversize length
 told (spec.journal_full length) = reply.JournalFull length
 told (spec.disk_failed count) = reply.DiskFault count
@@ -31,7 +31,7 @@ told (spec.down count) = reply.Down count
 told spec.worn = reply.Worn
 told _ = reply.Memory
 
--- a desk: the setup, the shelves in their order, and the ticket that each worker holds
+-- a desk: the setup that a shelf is opened with next, the shelves in their order, and the ticket that each worker holds
 pub record Desk : Type 0 where
   pub scripts : List Named
   pub shelves : List Shelf
@@ -145,9 +145,13 @@ abbrev pub crash_on : Desk → (shelf : ℕ) → Option Shelf → Call Desk Fate
 crash_on d k None = answered 0
 crash_on d k (Some s) = event (λ fate. crashed_by d k (happening s (crash d.scripts) fate))
 
--- a crash of a shelf, which is opened again under the same setup
+-- a crash of a shelf, which is opened again with the desk's setup
 abbrev pub desk_crash : Desk → (shelf : ℕ) → Call Desk Fate ℕ
 desk_crash d k = crash_on d k (slice_get d.shelves k)
+
+-- an edit changes the setup, and no shelf
+abbrev pub desk_edit : Desk → (name text : List ℕ) → Option Desk
+desk_edit d name text = option_map (λ scripts. record d { scripts = scripts }) (edited d.scripts name text)
 
 -- whether a fate is that a call of the disk failed
 abbrev pub is_fault : Fate → Bool
@@ -167,4 +171,5 @@ desk_rules = record {
   publish = desk_publish;
   sweep = desk_sweep;
   crash = desk_crash;
+  edit = desk_edit;
 }

@@ -44,6 +44,7 @@ pub record IsRunOfEvents (d : Desk) (number : ℕ) (steps : List (Option Step)) 
   pub text : text_of (transcript desk_rules d number steps fates) ≡ print_of d number steps fates replies
   pub end : (transcript desk_rules d number steps fates).end ≡ (reading d number steps fates replies).end
   pub all : map (λ e. e.reply) (events_of d number steps fates replies) ≡ replies
+  pub scripts : (transcript desk_rules d number steps fates).state.scripts ≡ (reading d number steps fates replies).state.scripts
   pub held : (transcript desk_rules d number steps fates).state.held ≡ (reading d number steps fates replies).state.held
   pub runs : AreRuns (events_of d number steps fates replies) d.shelves (transcript desk_rules d number steps fates).state.shelves
   pub lawful : (rules : ℕ → Rules) (scripts : List Named) (count : ℕ) → d ≡ first_desk rules scripts count

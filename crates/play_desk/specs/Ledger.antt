@@ -1,6 +1,6 @@
 -- The events that lines are. A ledger is a stage without shelves: it is given the replies to come, and enters each event with the
 -- next of them.
-use Rattle.std.specs.Prelude.{ℕ, List, [], ◌∷◌, ◌++◌, Option, Some, None, Result, Ok, Err, is_some, slice_get, slice_set, length, nat_lt, option_and_then, if◌then◌else◌}
+use Rattle.std.specs.Prelude.{ℕ, List, [], ◌∷◌, ◌++◌, Option, Some, None, Result, Ok, Err, is_some, slice_get, slice_set, length, nat_lt, option_and_then, option_map, if◌then◌else◌}
 use Rattle.script_value.specs.Val.{Val}
 use Rattle.script_value.specs.declared.outcome.Refusal.TheVariants.{Unknown}
 use Rattle.script_value.specs.declared.outcome.Reply as outcome
@@ -12,6 +12,7 @@ use Rattle.script_nodes.specs.Setup.{Named}
 use Rattle.play_steps.specs.Rules.{StageRules, Call, answered, event}
 use Rattle.play_steps.specs.Step.{Step}
 use Rattle.play_steps.specs.Transcript.{Run, text_of, transcript}
+use Rattle.play_desk.specs.Edits.{edited}
 use Rattle.play_desk.specs.Target.{answer_to, path_and_query, shelf_for}
 use Rattle.play_desk.specs.Desk.{Desk, told, is_fault, without_shelf}
 
@@ -22,7 +23,7 @@ pub record Entry : Type 0 where
   pub fate : Fate
   pub reply : Reply
 
--- a ledger: the setup; how many shelves there are; the ticket that each worker holds; the replies to come; and what was entered
+-- a ledger: the setup that a shelf is opened with next; how many shelves there are; the ticket that each worker holds; the replies to come; and what was entered
 pub record Ledger : Type 0 where
   pub scripts : List Named
   pub count : ℕ
@@ -115,6 +116,10 @@ ledger_crash l k =
     then event (λ fate. crashed_in (entered l k (crash l.scripts) fate) k (first_reply l.replies))
     else answered 0
 
+-- an edit changes the setup, and is no event
+abbrev pub ledger_edit : Ledger → (name text : List ℕ) → Option Ledger
+ledger_edit l name text = option_map (λ scripts. record l { scripts = scripts }) (edited l.scripts name text)
+
 -- what a run's steps enter in a ledger
 abbrev pub ledger_rules : StageRules
 ledger_rules = record {
@@ -128,6 +133,7 @@ ledger_rules = record {
   publish = ledger_publish;
   sweep = ledger_sweep;
   crash = ledger_crash;
+  edit = ledger_edit;
 }
 
 -- the lines from this desk on, read with these fates and these replies to their events

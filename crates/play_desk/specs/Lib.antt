@@ -1,4 +1,5 @@
 pub mod Target
+pub mod Edits
 pub mod Desk
 pub mod Ledger
 pub mod Laws

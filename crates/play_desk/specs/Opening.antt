@@ -1,10 +1,10 @@
 -- How shelves are opened on the disks of a rack, and closed.
-use Rattle.std.specs.Prelude.{⊤, ◌≡◌, ◌≢◌, ◌⊎◌, ◌≤◌, ◌<◌, ◌+◌, ℕ, Bool, true, false, IsTrue, List, [], ◌∷◌, ◌++◌, slice_get, Some, Result, Ok, Err, IfErr, IsErrOf}
+use Rattle.std.specs.Prelude.{⊤, ◌≡◌, ◌≢◌, ◌⊎◌, ◌≤◌, ◌<◌, ◌+◌, ◌^◌, ℕ, Bool, true, false, IsTrue, List, [], ◌∷◌, ◌++◌, length, map, slice_get, Some, Result, Ok, Err, IfErr, IsErrOf}
 use Rattle.web_outside.specs.Causes.{Rose}
 use Rattle.web_outside.specs.declared.nonces.Counting.{Counting}
 use Rattle.web_disk.specs.View.{View, RackView, AreAmong}
 use Rattle.script_nodes.specs.Setup.{Named}
-use Rattle.script_nodes.specs.declared.setup.Setup.{Setup}
+use Rattle.setup_reader.specs.Texts.{setup_of_texts}
 use Rattle.replay_spec.specs.Book.{Book}
 use Rattle.replay_spec.specs.Rules as runs
 use Rattle.replay_spec.specs.Rules.{empty_book}
@@ -12,23 +12,22 @@ use Rattle.replay_spec.specs.Runs as runs_spec
 use Rattle.replay_spec.specs.Runs.{empty_shelf}
 use Rattle.replay_spec.specs.Step.{lost, kept}
 use Rattle.page_journal.specs.Records.{Intact, records, at_rest, stored}
-use Rattle.journal_records.specs.Records.{IsInGrammar, begin_of}
-use Rattle.journal_spec.specs.Keeping.{first_body}
 use Rattle.journal_spec.specs.Making.{damaged, other, book_in_bytes}
+use Rattle.journal_spec.specs.Opening.{opened_book}
 use Rattle.journal_spec.specs.Standing.{Between, HoldIn, IsOneOf, if_kept}
 use Rattle.journal_spec.specs.Laws.{MeasuresDoubt}
-use Rattle.shelf.specs.Views.{book_in, rules_of, IsOwnShelf}
-use Rattle.shelf.specs.Opening.{IsCrashed, KeepsRecords}
+use Rattle.shelf.specs.Views.{book_in, rules_of, IsInOrder, IsOwnShelf}
+use Rattle.shelf.specs.Opening.{IsCrashed, opening_bodies}
 use Rattle.shelf.specs.Owning.{OwnRecords, HoldOwn, HoldsOwnRecords, StandsOwn}
 use Rattle.shelf.specs.declared.begin.BeginFault.{BeginFault}
 use Rattle.shelf.specs.declared.begin.BeginFault.TheVariants as begin
 use Rattle.shelf.specs.declared.rules.Rules.{Rules}
 use Rattle.shelf.specs.declared.shelf.Shelf.{Shelf}
-use Rattle.play_steps.specs.Rules.{Crashes}
+use Rattle.play_steps.specs.Rules.{Crashes, StaysUp}
 use Rattle.play_steps.specs.declared.stage.Reopen.{Reopen}
 use Rattle.play_steps.specs.declared.stage.Reopen.TheVariants as reopen
-use Rattle.play_desk.specs.Desk.{Desk, desk_rules}
-use Rattle.play_desk.specs.Staff.{IsServed, desk_of, numbers_in, shelf_at, total}
+use Rattle.play_desk.specs.Desk.{Desk, desk_rules, first_shelves}
+use Rattle.play_desk.specs.Staff.{AreNumbered, IsHome, desk_of, faults_in, numbers_in, shelf_at, total}
 use Rattle.play_desk.specs.declared.staff.Staff.{Staff}
 use Rattle.play_desk.specs.declared.opening.OpenCause.{OpenCause}
 use Rattle.play_desk.specs.declared.opening.OpenCause.TheVariants as cause
@@ -38,12 +37,8 @@ abbrev pub numbered : Rules → (number : ℕ) → Rules
 numbered rules number = record rules { number = number }
 
 -- what the events of the shelf of each number run under
-abbrev pub rules_at : List Named → Rules → (number : ℕ) → runs.Rules
-rules_at scripts rules number = rules_of scripts (numbered rules number)
-
--- the record that a journal begins with can be written, of each of so many shelves
-abbrev pub CanBegin : List Named → (shelves : ℕ) → Type 0
-CanBegin scripts shelves = (k : ℕ) → k < shelves → IsInGrammar (begin_of k scripts)
+abbrev pub rules_at : Rules → (number : ℕ) → runs.Rules
+rules_at rules number = rules_of (numbered rules number)
 
 -- a take of the disk of this number failed, or a call of that disk, which went back to the rack
 pub record FailedFor (number : ℕ) (old new : RackView) : Type 0 where
@@ -54,7 +49,7 @@ pub record FailedFor (number : ℕ) (old new : RackView) : Type 0 where
 abbrev pub IsNeverDamaged : {T : Type 0} → Result T Reopen → Type 0
 IsNeverDamaged result = (place : ℕ) → IsErrOf result (reopen.Damaged place) → ⊥
 
--- the answer is not that a record on the disk is of another shelf or of other scripts
+-- the answer is not that a record on the disk is of another shelf
 abbrev pub IsNeverOther : {T : Type 0} → Result T Reopen → Type 0
 IsNeverOther result = (place : ℕ) → IsErrOf result (reopen.Other place) → ⊥
 
@@ -107,21 +102,31 @@ CountStays rack disk rack_now disk_now = (others : ℕ) → total rack (disk + o
 abbrev pub CountRose : (rack disk rack_now disk_now : ℕ) → Type 0
 CountRose rack disk rack_now disk_now = (others : ℕ) → Rose (total rack (disk + others)) (total rack_now (disk_now + others))
 
--- What is found where a disk may hold these images: a shelf whose book is one of the two that the disk stands between, whatever
--- these are; or an image that makes no shelf.
+-- the book is one of the two that the disk stands between, whatever these are, opened again with this setup
+abbrev pub FindsBook : {D : Type 0} → (D → View) → List Named → (number : ℕ) → (holds : List ℕ → Type 0) → Book → Type 0
+FindsBook {D = D} view scripts number holds b =
+    (disk : D) × AreAmong (view disk).images holds × IsOneOf setup_of_texts number scripts (view disk) b
+
+-- such a book has a journal of this length, which is longer than one may be
+abbrev pub FindsNoRoom : {D : Type 0} → (D → View) → List Named → (number : ℕ) → (holds : List ℕ → Type 0) → (len : ℕ) → Type 0
+FindsNoRoom view scripts number holds len = (b : Book) × FindsBook view scripts number holds b × (b.length ≡ len) × (2 ^ 30 < len)
+
+-- What is found where a disk may hold these images: a shelf whose book is one that the disk stands for; or an image that makes no shelf; or
+-- that such a book has no room for the setup.
 abbrev pub Finds : {D : Type 0} → (D → View) → List Named → (number : ℕ) → (holds : List ℕ → Type 0) → Result (Shelf D Counting) Reopen → Type 0
-Finds {D = D} view scripts number holds (Ok s) =
-    (disk : D) × AreAmong (view disk).images holds × IsOneOf scripts number (view disk) (book_in scripts s)
+Finds view scripts number holds (Ok s) = FindsBook view scripts number holds (book_in view s)
 Finds view scripts number holds (Err (reopen.Damaged place)) =
-    (image : List ℕ) × holds image × (book_in_bytes scripts number image ≡ damaged place)
+    (image : List ℕ) × holds image × (book_in_bytes setup_of_texts number image ≡ damaged place)
 Finds view scripts number holds (Err (reopen.Other place)) =
-    (image : List ℕ) × holds image × (book_in_bytes scripts number image ≡ other place)
+    (image : List ℕ) × holds image × (book_in_bytes setup_of_texts number image ≡ other place)
+Finds view scripts number holds (Err (reopen.Full len)) = FindsNoRoom view scripts number holds len
 Finds view scripts number holds (Err _) = ⊤
 
 -- why a shelf was not begun, as it is told
 abbrev pub reopen_of : BeginFault → Reopen
 reopen_of (begin.Damaged place) = reopen.Damaged place
 reopen_of (begin.Other place) = reopen.Other place
+reopen_of (begin.Full len) = reopen.Full len
 reopen_of begin.DiskFault = reopen.Disk
 reopen_of begin.Memory = reopen.Memory
 
@@ -137,11 +142,12 @@ disk_faults view (Ok disk) = (view disk).faults
 disk_faults view (Err why) = 0
 
 -- why no empty shelf is opened on a disk that may hold this: one that is not empty may hold some bytes, and an empty one is neither
--- damaged nor another's
+-- damaged nor another's, and has room for any setup
 abbrev pub IsRefusedBy : (holds : List ℕ → Type 0) → OpenCause → Type 0
 IsRefusedBy holds cause.NotEmpty = (image : List ℕ) × holds image × (image ≢ [])
 IsRefusedBy holds (cause.Damaged place) = ⊥
 IsRefusedBy holds (cause.Other place) = ⊥
+IsRefusedBy holds (cause.Full len) = ⊥
 IsRefusedBy holds _ = ⊤
 
 -- a disk is taken without bytes where it may hold none
@@ -149,20 +155,26 @@ abbrev pub TakesEmpty : {D : Type 0} → (D → View) → (holds : List ℕ → 
 TakesEmpty view holds (Ok disk) = ((view disk).seen ≡ []) × holds []
 TakesEmpty view holds (Err why) = IsRefusedBy holds why
 
--- On a disk without bytes an empty shelf is begun; it is neither damaged nor another's.
-abbrev pub BeginsEmpty : {D : Type 0} → List Named → Rules → Result (Shelf D Counting) Reopen → Type 0
-BeginsEmpty scripts rules (Ok s) = book_in scripts s ≡ empty_book (rules_of scripts rules) scripts rules.number
-BeginsEmpty scripts rules (Err (reopen.Damaged place)) = ⊥
-BeginsEmpty scripts rules (Err (reopen.Other place)) = ⊥
-BeginsEmpty scripts rules (Err _) = ⊤
+-- On a disk without bytes an empty shelf is begun; it is neither damaged nor another's, and has room for any setup.
+abbrev pub BeginsEmpty : {D : Type 0} → (D → View) → List Named → Rules → Result (Shelf D Counting) Reopen → Type 0
+BeginsEmpty view scripts rules (Ok s) = book_in view s ≡ empty_book (rules_of rules) scripts rules.number
+BeginsEmpty view scripts rules (Err (reopen.Damaged place)) = ⊥
+BeginsEmpty view scripts rules (Err (reopen.Other place)) = ⊥
+BeginsEmpty view scripts rules (Err (reopen.Full len)) = ⊥
+BeginsEmpty view scripts rules (Err _) = ⊤
+
+-- the records of the journal of a shelf that is opened with this setup on bytes that were read: those that stand there, and behind them what
+-- the opening tells
+abbrev pub opened_bodies : List Named → (shelf : ℕ) → (read : List ℕ) → List (List ℕ)
+opened_bodies scripts shelf read = stored read ++ opening_bodies scripts shelf (book_in_bytes setup_of_texts shelf read)
 
 -- What may be left of the disk of a shelf on which nothing was lost, and of which this was read: what it might hold before; or the
--- records that were read, at rest; or the first one, where there was none.
+-- records that were read, at rest; or these and what the opening tells.
 abbrev pub IsKept : List Named → (shelf : ℕ) → (held : List ℕ → Type 0) → (read left : List ℕ) → Type 0
 IsKept scripts shelf held read left =
     held left
     ⊎ (((records read ≡ Intact (stored read)) ⊎ (read ≡ []))
-    × ((left ≡ at_rest (stored read)) ⊎ ((stored read ≡ []) × (left ≡ at_rest (first_body scripts shelf ∷ [])))))
+    × ((left ≡ at_rest (stored read)) ⊎ (left ≡ at_rest (opened_bodies scripts shelf read))))
 
 -- whatever is left of the disk of a shelf is what may be left where nothing was lost on it
 abbrev pub AllKept : List Named → (shelf : ℕ) → (held : List ℕ → Type 0) → (read : List ℕ) → (holds : List ℕ → Type 0) → Type 0
@@ -171,7 +183,7 @@ AllKept scripts shelf held read holds = (left : List ℕ) → holds left → IsK
 -- nothing was lost on a disk where a shelf was begun, nor where it was not, unless a call of the disk failed
 abbrev pub KeepsBegun : {D : Type 0} → (D → View) → List Named → (number : ℕ) → (disk : View) → (holds : ℕ → List ℕ → Type 0)
     → Result (Shelf D Counting) Reopen → Type 0
-KeepsBegun view scripts number disk holds (Ok s) = KeepsRecords scripts number disk (view s.journal.disk)
+KeepsBegun view scripts number disk holds (Ok s) = AllKept scripts number disk.images disk.seen (view s.journal.disk).images
 KeepsBegun view scripts number disk holds (Err reopen.Disk) = ⊤
 KeepsBegun view scripts number disk holds (Err why) = AllKept scripts number disk.images disk.seen (holds number)
 
@@ -203,13 +215,14 @@ abbrev pub cause_of : Reopen → OpenCause
 cause_of reopen.Disk = cause.Disk
 cause_of (reopen.Damaged place) = cause.Damaged place
 cause_of (reopen.Other place) = cause.Other place
+cause_of (reopen.Full len) = cause.Full len
 cause_of reopen.Memory = cause.Memory
 
 -- an empty shelf is opened where the disk may hold nothing
-abbrev pub OpensEmpty : {D : Type 0} → List Named → Rules → (holds : List ℕ → Type 0) → Result (Shelf D Counting) OpenCause → Type 0
-OpensEmpty scripts rules holds (Ok s) =
-    holds [] × (shelf_at scripts s ≡ empty_shelf (rules_of scripts rules) scripts rules.number)
-OpensEmpty scripts rules holds (Err why) = IsRefusedBy holds why
+abbrev pub OpensEmpty : {D : Type 0} → (D → View) → List Named → Rules → (holds : List ℕ → Type 0) → Result (Shelf D Counting) OpenCause → Type 0
+OpensEmpty view scripts rules holds (Ok s) =
+    holds [] × (shelf_at view s ≡ empty_shelf (rules_of rules) scripts rules.number)
+OpensEmpty view scripts rules holds (Err why) = IsRefusedBy holds why
 
 -- An empty shelf of these limits was opened, and stands behind the others; its disk is out. Of disks that tell what they hold, its
 -- disk may have held nothing.
@@ -217,21 +230,51 @@ pub record OpensNext {D : Type 0} (view : D → View) (rack_tells tells : Bool) 
     (shelves now : List (Shelf D Counting)) (old new : RackView) : Type 0 where
   pub shelf : Shelf D Counting
   pub behind : now ≡ shelves ++ shelf ∷ []
-  pub served : IsServed view tells scripts shelf
+  pub in_order : IsInOrder view tells shelf
   pub rules : shelf.rules ≡ limits
-  pub empty : IsTrue rack_tells → IsTrue tells → OpensEmpty scripts limits (old.holds limits.number) (Ok shelf)
-  pub own : IsTrue rack_tells → IsTrue tells → IsOwnShelf view tells scripts shelf
+  pub empty : IsTrue rack_tells → IsTrue tells → OpensEmpty view scripts limits (old.holds limits.number) (Ok shelf)
+  pub own : IsTrue rack_tells → IsTrue tells → IsOwnShelf view tells shelf
   pub keeps : IsTrue rack_tells → IsTrue tells → KeepsOpened view scripts limits.number (old.holds limits.number) new.holds (Ok shelf)
   pub taken : TakesOne limits.number old new
   pub later : CountStays old.faults 0 new.faults (view shelf.journal.disk).faults
   pub rack_later : old.faults ≤ new.faults
 
--- the one shelf is the other after the event crash, what was in doubt lost or kept
-abbrev pub HasCrashed : {D : Type 0} → List Named → (old new : Shelf D Counting) → Type 0
-HasCrashed scripts old new =
+-- Of a rack that was first so, these are the shelves of the numbers below this one, all empty; no disk beyond them was touched.
+pub record AreOpened {D : Type 0} (view : D → View) (rack_tells tells : Bool) (scripts : List Named) (rules : Rules) (first : RackView)
+    (count : ℕ) (xs : List (Shelf D Counting)) (now : RackView) : Type 0 where
+  pub size : length xs ≡ count
+  pub numbers : AreNumbered xs
+  pub in_order : (k : ℕ) (x : Shelf D Counting) → slice_get xs k ≡ Some x → IsInOrder view tells x
+  pub own : IsTrue rack_tells → IsTrue tells → (k : ℕ) (x : Shelf D Counting) → slice_get xs k ≡ Some x → IsOwnShelf view tells x
+  pub keeps : IsTrue rack_tells → IsTrue tells → (k : ℕ) (x : Shelf D Counting) → slice_get xs k ≡ Some x
+      → AllKept scripts k (first.holds k) [] (view x.journal.disk).images
+  pub home : IsHome xs now.out
+  pub rest : (n : ℕ) → count ≤ n → AreAmong (now.holds n) (first.holds n)
+  pub empty : IsTrue rack_tells → IsTrue tells → (k : ℕ) → k < count → first.holds k []
+  pub shelves : IsTrue rack_tells → IsTrue tells → map (shelf_at view) xs ≡ first_shelves (rules_at rules) scripts count
+  pub later : first.faults ≤ total now.faults (faults_in view xs)
+  pub rack_later : first.faults ≤ now.faults
+  pub failed_later : StaysUp first.failed now.failed
+
+-- the one shelf is the other after the event crash with this setup, what was in doubt lost or kept
+abbrev pub HasCrashed : {D : Type 0} → (D → View) → List Named → (old new : Shelf D Counting) → Type 0
+HasCrashed view scripts old new =
     (nonce : ℕ)
-    → IsCrashed (rules_of scripts old.rules) (book_in scripts old) nonce scripts lost (book_in scripts new)
-    ⊎ IsCrashed (rules_of scripts old.rules) (book_in scripts old) nonce scripts kept (book_in scripts new)
+    → IsCrashed (rules_of old.rules) (book_in view old) nonce scripts lost (book_in view new)
+    ⊎ IsCrashed (rules_of old.rules) (book_in view old) nonce scripts kept (book_in view new)
+
+-- Behind the event crash with this setup, what was in doubt lost or kept, the book would have a journal of this length, which is longer than
+-- one may be.
+pub record HasNoRoom (rules : runs.Rules) (scripts : List Named) (b : Book) (len : ℕ) : Type 0 where
+  pub book : Book
+  pub crashed : (nonce : ℕ) → IsCrashed rules b nonce scripts lost book ⊎ IsCrashed rules b nonce scripts kept book
+  pub length : book.length ≡ len
+  pub long : 2 ^ 30 < len
+
+-- where a shelf that crashed has no room for the setup, this is so of its book; other causes tell nothing of it
+abbrev pub TellsRoom : (rules : runs.Rules) → List Named → Book → Reopen → Type 0
+TellsRoom rules scripts b (reopen.Full len) = HasNoRoom rules scripts b len
+TellsRoom rules scripts b _ = ⊤
 
 -- the count of a shelf's number rose over what its disk had failed
 abbrev pub FailsAt : {D : Type 0} → (D → View) → List (Shelf D Counting) → (place : ℕ) → (old new : RackView) → Type 0
@@ -239,9 +282,9 @@ FailsAt {D = D} view shelves place old new =
     (s : Shelf D Counting) → slice_get shelves place ≡ Some s
     → Rose (old.failed s.rules.number + (view s.journal.disk).faults) (new.failed s.rules.number)
 
--- a crash of a shelf is the desk's, and the disk does not fail by it
-abbrev pub CrashesShelf : {D : Type 0} → Setup → (old : Staff D) → (place live : ℕ) → (new : Staff D) → Type 0
-CrashesShelf setup old place live new = Crashes desk_rules ⊥ (desk_of setup old) place live (desk_of setup new)
+-- a crash of a shelf, which is opened again with this setup, is the desk's, and the disk does not fail by it
+abbrev pub CrashesShelf : {D : Type 0} → (D → View) → List Named → (old : Staff D) → (place live : ℕ) → (new : Staff D) → Type 0
+CrashesShelf view scripts old place live new = Crashes desk_rules ⊥ (desk_of view scripts old) place live (desk_of view scripts new)
 
 -- the disk of this number is not empty: it may hold some bytes, and each disk before it may hold none
 pub record IsNotEmpty (holds : ℕ → List ℕ → Type 0) (number : ℕ) : Type 0 where
@@ -251,11 +294,12 @@ pub record IsNotEmpty (holds : ℕ → List ℕ → Type 0) (number : ℕ) : Typ
   pub some : image ≢ []
 
 -- Why a desk was not opened, of disks that tell what they hold. The disks of the shelves before it may hold nothing; an empty disk is
--- neither damaged nor another's.
+-- neither damaged nor another's, and has room for any setup.
 abbrev pub IsClosedBy : (holds : ℕ → List ℕ → Type 0) → (count number : ℕ) → OpenCause → Type 0
 IsClosedBy holds count number cause.NotEmpty = (number < count) × IsNotEmpty holds number
 IsClosedBy holds count number (cause.Damaged place) = ⊥
 IsClosedBy holds count number (cause.Other place) = ⊥
+IsClosedBy holds count number (cause.Full len) = ⊥
 IsClosedBy holds count number _ = (number < count) × ((k : ℕ) → k < number → holds k [])
 
 -- what the disk of each of these shelves may hold, now that it was given back, it might have held before
@@ -270,19 +314,29 @@ LeaveOthers shelves before after =
 
 -- What the disk of this shelf may hold has own records, and makes the book, with what is in doubt or without it, whose record is as
 -- long as the rules measure it.
-pub record HoldsTheBook (rules : runs.Rules) (scripts : List Named) (shelf : ℕ) (holds : List ℕ → Type 0) (b : Book) : Type 0 where
-  pub own : (o : OwnRecords scripts shelf) × ((image : List ℕ) → holds image → HoldOwn o image)
-  pub stands : (n : ℕ) × ((k : Between scripts shelf b (if_kept n b)) × (HoldIn k holds × MeasuresDoubt rules n b))
+pub record HoldsTheBook (rules : runs.Rules) (shelf : ℕ) (holds : List ℕ → Type 0) (b : Book) : Type 0 where
+  pub own : (o : OwnRecords shelf) × ((image : List ℕ) → holds image → HoldOwn o image)
+  pub stands : (n : ℕ) × ((k : Between setup_of_texts shelf b (if_kept n b)) × (HoldIn k holds × MeasuresDoubt rules n b))
 
--- What the disk of this shelf may hold, which crashed and was not opened again, whatever failed then: it has own records, and makes the
--- book, with what is in doubt or without it.
+-- what a disk may hold makes the book, or the book that is opened again with this setup
+abbrev pub HoldsWithSetup : (shelf : ℕ) → List Named → (holds : List ℕ → Type 0) → Book → Type 0
+HoldsWithSetup shelf scripts holds b = (l : Between setup_of_texts shelf b (opened_book shelf scripts b)) × HoldIn l holds
+
+-- what a disk may hold that was opened again with this setup, or was not, makes one of two books, or what makes one of these with the setup
+-- or without it
+abbrev pub HoldsOpened : {shelf : ℕ} {before after : Book} → Between setup_of_texts shelf before after → List Named → (holds : List ℕ → Type 0) → Type 0
+HoldsOpened {shelf = shelf} {before = before} {after = after} k scripts holds =
+    HoldIn k holds ⊎ (HoldsWithSetup shelf scripts holds before ⊎ HoldsWithSetup shelf scripts holds after)
+
+-- What the disk of this shelf may hold, which crashed and was not opened again with this setup, whatever failed then: it has own records, and
+-- makes the book, with what is in doubt or without it, and with the setup or without it.
 pub record StandsLost (rules : runs.Rules) (scripts : List Named) (shelf : ℕ) (holds : List ℕ → Type 0) (b : Book) : Type 0 where
-  pub own : (image : List ℕ) → holds image → HoldsOwnRecords scripts shelf image
-  pub stands : (n : ℕ) × ((k : Between scripts shelf b (if_kept n b)) × (HoldIn k holds × MeasuresDoubt rules n b))
+  pub own : (image : List ℕ) → holds image → HoldsOwnRecords shelf image
+  pub stands : (n : ℕ) × ((k : Between setup_of_texts shelf b (if_kept n b)) × (HoldsOpened k scripts holds × MeasuresDoubt rules n b))
 
--- what a disk may hold now stands for each book that the disk of an own shelf stood for
+-- what a disk may hold now, in or behind an opening with this setup, stands for each book that the disk of an own shelf stood for
 abbrev pub StaysLost : List Named → (shelf : ℕ) → View → (holds : List ℕ → Type 0) → Type 0
-StaysLost scripts shelf v holds = (rules : runs.Rules) (b : Book) → StandsOwn rules scripts shelf v b → StandsLost rules scripts shelf holds b
+StaysLost scripts shelf v holds = (rules : runs.Rules) (b : Book) → StandsOwn rules shelf v b → StandsLost rules scripts shelf holds b
 
 -- what a crash may leave of the disk of a shelf that was opened, or what the rack holds of it where it was not
 abbrev pub left_on : {D E : Type 0} → (D → View) → (number : ℕ) → (holds : ℕ → List ℕ → Type 0) → Result (Shelf D Counting) E → List ℕ → Type 0
@@ -292,16 +346,17 @@ left_on view number holds (Err why) = holds number
 -- the disks that are given back stand for the books of a desk
 abbrev pub HoldTheBooks : (desk : Desk) → (holds : ℕ → List ℕ → Type 0) → Type 0
 HoldTheBooks d holds =
-    (k : ℕ) (s : runs_spec.Shelf) → slice_get d.shelves k ≡ Some s
-    → HoldsTheBook s.rules d.scripts s.book.shelf (holds s.book.shelf) s.book
+    (k : ℕ) (s : runs_spec.Shelf) → slice_get d.shelves k ≡ Some s → HoldsTheBook s.rules s.book.shelf (holds s.book.shelf) s.book
 
--- What a rack holds where this shelf of a desk crashed and was not opened again: each disk is home, and stands for the book of its shelf.
-pub record IsLeft (rack : RackView) (d : Desk) (shelf : ℕ) : Type 0 where
+-- What a rack holds where this shelf of a desk crashed and was not opened again for this cause: each disk is home, and stands for the book of
+-- its shelf.
+pub record IsLeft (rack : RackView) (d : Desk) (shelf : ℕ) (why : Reopen) : Type 0 where
   pub home : AreHome rack.out
   pub others : (k : ℕ) (s : runs_spec.Shelf) → slice_get d.shelves k ≡ Some s → k ≢ shelf
-      → HoldsTheBook s.rules d.scripts s.book.shelf (rack.holds s.book.shelf) s.book
+      → HoldsTheBook s.rules s.book.shelf (rack.holds s.book.shelf) s.book
   pub lost : (s : runs_spec.Shelf) → slice_get d.shelves shelf ≡ Some s
       → StandsLost s.rules d.scripts s.book.shelf (rack.holds s.book.shelf) s.book
+  pub room : (s : runs_spec.Shelf) → slice_get d.shelves shelf ≡ Some s → TellsRoom s.rules d.scripts s.book why
 
 -- each shelf but the one at this place stands among these
 abbrev pub KeepsShelvesBut : {D : Type 0} → (place : ℕ) → (old new : List (Shelf D Counting)) → Type 0
@@ -313,7 +368,12 @@ abbrev pub IsPutBack : {D : Type 0} → List (Shelf D Counting) → (place : ℕ
 IsPutBack {D = D} shelves place out = (s : Shelf D Counting) → slice_get shelves place ≡ Some s → out s.rules.number ≡ false
 
 -- what a rack holds of the disk of the shelf that was at this place stands for its book
-abbrev pub LeavesLost : {D : Type 0} → List Named → List (Shelf D Counting) → (place : ℕ) → (holds : ℕ → List ℕ → Type 0) → Type 0
-LeavesLost {D = D} scripts shelves place holds =
+abbrev pub LeavesLost : {D : Type 0} → (D → View) → List Named → List (Shelf D Counting) → (place : ℕ) → (holds : ℕ → List ℕ → Type 0) → Type 0
+LeavesLost {D = D} view scripts shelves place holds =
     (s : Shelf D Counting) → slice_get shelves place ≡ Some s
-    → StandsLost (rules_of scripts s.rules) scripts s.rules.number (holds s.rules.number) (book_in scripts s)
+    → StandsLost (rules_of s.rules) scripts s.rules.number (holds s.rules.number) (book_in view s)
+
+-- where there was no room for the setup, this is so of the book of the shelf that was at this place
+abbrev pub TellsItsRoom : {D : Type 0} → (D → View) → List Named → List (Shelf D Counting) → (place : ℕ) → Reopen → Type 0
+TellsItsRoom {D = D} view scripts shelves place why =
+    (s : Shelf D Counting) → slice_get shelves place ≡ Some s → TellsRoom (rules_of s.rules) scripts (book_in view s) why

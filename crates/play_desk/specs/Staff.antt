@@ -1,5 +1,5 @@
 -- What shelves with their workers stand for, and what holds of them between the steps of a run.
-use Rattle.std.specs.Prelude.{◌≡◌, ◌≢◌, ◌≤◌, ◌-◌, ◌+◌, ◌^◌, ℕ, Bool, true, List, map, length, min, sum_by, slice_get, Contains, Option, Some, None, Result, is_some, option_map}
+use Rattle.std.specs.Prelude.{◌≡◌, ◌≢◌, ◌≤◌, ◌-◌, ◌+◌, ◌^◌, ℕ, Bool, true, List, map, length, min, sum_by, slice_get, Option, Some, None, Result, is_some, option_map, option_and_then}
 use Rattle.server_limits.specs.Limits.{most_shelves}
 use Rattle.web_outside.specs.Causes.{Rose}
 use Rattle.web_outside.specs.Counted.{counted}
@@ -7,68 +7,62 @@ use Rattle.web_outside.specs.declared.nonces.Counting.{Counting}
 use Rattle.web_disk.specs.View.{View}
 use Rattle.page_names.specs.Views.{target_of}
 use Rattle.script_nodes.specs.Setup.{Named}
-use Rattle.script_nodes.specs.Views.{scripts_of}
-use Rattle.script_nodes.specs.declared.setup.Setup.{Setup}
-use Rattle.journal_records.specs.Records.{IsInGrammar, begin_of}
+use Rattle.setup_reader.specs.Texts.{IsReadSetup}
 use Rattle.replay_spec.specs.Book.{Book}
 use Rattle.replay_spec.specs.Admission.{admit, refusal_of}
 use Rattle.replay_spec.specs.Invariant.{IsOrderly}
 use Rattle.replay_spec.specs.Laws.{Leads}
 use Rattle.replay_spec.specs.Runs as runs
 use Rattle.instance_book.specs.Fits.{FitsAs, IsRunnable}
-use Rattle.instance_book.specs.Prepares.{HasItsScript}
 use Rattle.instance_book.specs.Views.{ticket_of}
 use Rattle.instance_book.specs.declared.ticket.Ticket.{Ticket}
-use Rattle.shelf.specs.Ranges.{AreInRange}
-use Rattle.shelf.specs.Views.{book_in, shelf_of, IsInOrder, IsOwnShelf}
+use Rattle.replay_spec.specs.Next as next
+use Rattle.shelf.specs.Views.{book_in, library_in, shelf_of, HasTargetScript, IsInOrder, IsOut, IsOwnShelf}
 use Rattle.shelf.specs.declared.shelf.Shelf.{Shelf}
 use Rattle.script_value.specs.declared.outcome.Reply.{Reply}
 use Rattle.play_steps.specs.Rules.{Takes, Publishes, Sweeps}
-use Rattle.play_desk.specs.Desk as desk
 use Rattle.play_desk.specs.Desk.{Desk, desk_rules}
 use Rattle.play_desk.specs.Target.{shelf_for}
 use Rattle.play_desk.specs.declared.staff.Staff.{Staff}
 
 -- a shelf as a desk keeps it: it has given as many nonces as its counter tells
-abbrev pub shelf_at : {D : Type 0} → List Named → Shelf D Counting → runs.Shelf
-shelf_at scripts s = shelf_of scripts (counted s.nonces 0) s
+abbrev pub shelf_at : {D : Type 0} → (D → View) → Shelf D Counting → runs.Shelf
+shelf_at view s = shelf_of view (counted s.nonces 0) s
 
--- the shelves with their workers' tickets
-abbrev pub desk_with : {D : Type 0} → List Named → List (Shelf D Counting) → List (Option Ticket) → Desk
-desk_with scripts shelves tickets = record {
+-- the shelves with their workers' tickets, and the setup that a shelf is opened with next
+abbrev pub desk_with : {D : Type 0} → (D → View) → List Named → List (Shelf D Counting) → List (Option Ticket) → Desk
+desk_with view scripts shelves tickets = record {
   scripts = scripts;
-  shelves = map (shelf_at scripts) shelves;
+  shelves = map (shelf_at view) shelves;
   held = map (option_map ticket_of) tickets;
 }
 
-abbrev pub desk_of : {D : Type 0} → Setup → Staff D → Desk
-desk_of setup s = desk_with (scripts_of setup) s.shelves.items s.tickets
+abbrev pub desk_of : {D : Type 0} → (D → View) → List Named → Staff D → Desk
+desk_of view scripts s = desk_with view scripts s.shelves.items s.tickets
+
+-- the ticket that a worker holds
+abbrev pub held_by : {D : Type 0} → Staff D → (worker : ℕ) → Option next.Ticket
+held_by s worker = option_and_then (λ t. t) (slice_get (map (option_map ticket_of) s.tickets) worker)
 
 -- the worker holds a ticket
-abbrev pub HoldsTicket : {D : Type 0} → Setup → Staff D → (worker : ℕ) → Type 0
-HoldsTicket setup s worker = is_some (desk.ticket_of (desk_of setup s) worker) ≡ true
+abbrev pub HoldsTicket : {D : Type 0} → Staff D → (worker : ℕ) → Type 0
+HoldsTicket s worker = is_some (held_by s worker) ≡ true
 
--- what a publish asks of the ticket: its number is out, and it can be run
-pub record IsUnspent (scripts : List Named) (b : Book) (t : Ticket) : Type 0 where
-  pub out : Contains b.out t.number
-  pub runs : IsRunnable scripts t
-  pub script : HasItsScript scripts t (target_of t.target)
+-- what a publish asks of the ticket: its number is out on the shelf, and it can be run over the shelf's library
+pub record IsUnspent {D : Type 0} (view : D → View) (s : Shelf D Counting) (t : Ticket) : Type 0 where
+  pub out : IsOut view s t
+  pub runs : IsRunnable (library_in s).all t
+  pub script : HasTargetScript (library_in s) t
 
 -- the ticket is for the visit that its target was admitted as when it was taken, on the book that the shelf had then, which had the
 -- same setup
-pub record IsOpen (b : Book) (t : Ticket) : Type 0 where
+pub record IsOpen {D : Type 0} (view : D → View) (s : Shelf D Counting) (t : Ticket) : Type 0 where
   pub then : Book
   pub orderly : IsOrderly then
-  pub leads : Leads then b
-  pub setup : b.scripts ≡ then.scripts
-  pub fits : FitsAs then.scripts then t (admit then (target_of t.target))
+  pub leads : Leads then (book_in view s)
+  pub setup : (book_in view s).scripts ≡ then.scripts
+  pub fits : FitsAs (library_in s).all then t (admit then (target_of t.target))
   pub admitted : refusal_of (admit then (target_of t.target)) ≡ None
-
--- a shelf that is in order, and that can be opened again
-pub record IsServed {D : Type 0} (view : D → View) (tells : Bool) (scripts : List Named) (s : Shelf D Counting) : Type 0 where
-  pub in_order : IsInOrder view tells scripts s
-  pub limits : AreInRange s.rules
-  pub begins : IsInGrammar (begin_of s.rules.number scripts)
 
 -- the place of the shelf that a worker's ticket is of, among so many
 abbrev pub place_of : (count worker : ℕ) → Ticket → ℕ
@@ -79,17 +73,16 @@ abbrev pub KeepsOthers : (count place : ℕ) → (old new : List (Option Ticket)
 KeepsOthers count place old new =
     (w : ℕ) (t : Ticket) → slice_get new w ≡ Some (Some t) → (slice_get old w ≡ Some (Some t)) × (place_of count w t ≢ place)
 
--- this holds of the ticket on the book of the shelf at a place
-pub record HoldsAt {D : Type 0} (Q : Book → Ticket → Type 0) (scripts : List Named) (shelves : List (Shelf D Counting)) (place : ℕ)
-    (t : Ticket) : Type 0 where
+-- this holds of the ticket on the shelf at a place
+pub record HoldsAt {D : Type 0} (Q : Shelf D Counting → Ticket → Type 0) (shelves : List (Shelf D Counting)) (place : ℕ) (t : Ticket) : Type 0 where
   pub shelf : Shelf D Counting
   pub there : slice_get shelves place ≡ Some shelf
-  pub held : Q (book_in scripts shelf) t
+  pub held : Q shelf t
 
--- this holds of each ticket that a worker holds, on the book of the ticket's shelf
-abbrev pub OfEachTicket : {D : Type 0} → (Book → Ticket → Type 0) → List Named → List (Shelf D Counting) → List (Option Ticket) → Type 0
-OfEachTicket Q scripts shelves tickets =
-    (w : ℕ) (t : Ticket) → slice_get tickets w ≡ Some (Some t) → HoldsAt Q scripts shelves (place_of (length shelves) w t) t
+-- this holds of each ticket that a worker holds, on the ticket's shelf
+abbrev pub OfEachTicket : {D : Type 0} → (Shelf D Counting → Ticket → Type 0) → List (Shelf D Counting) → List (Option Ticket) → Type 0
+OfEachTicket Q shelves tickets =
+    (w : ℕ) (t : Ticket) → slice_get tickets w ≡ Some (Some t) → HoldsAt Q shelves (place_of (length shelves) w t) t
 
 -- the numbers of shelves
 abbrev pub numbers_in : {D : Type 0} → List (Shelf D Counting) → List ℕ
@@ -108,34 +101,37 @@ HaveOwnNumbers shelves =
 abbrev pub AreNumbered : {D : Type 0} → List (Shelf D Counting) → Type 0
 AreNumbered shelves = (k n : ℕ) → slice_get (numbers_in shelves) k ≡ Some n → n ≡ k
 
--- Each shelf is served, under the number that is its place. What workers hold are tickets that their shelves can publish, on each of
+-- Each shelf is in order, under the number that is its place. What workers hold are tickets that their shelves can publish, on each of
 -- different numbers.
-pub record AreFit {D : Type 0} (view : D → View) (tells : Bool) (scripts : List Named) (shelves : List (Shelf D Counting))
-    (tickets : List (Option Ticket)) : Type 0 where
-  pub served : (k : ℕ) (x : Shelf D Counting) → slice_get shelves k ≡ Some x → IsServed view tells scripts x
+pub record AreFit {D : Type 0} (view : D → View) (tells : Bool) (shelves : List (Shelf D Counting)) (tickets : List (Option Ticket)) : Type 0 where
+  pub in_order : (k : ℕ) (x : Shelf D Counting) → slice_get shelves k ≡ Some x → IsInOrder view tells x
   pub numbers : AreNumbered shelves
   pub few : length shelves ≤ most_shelves
   pub count : length tickets ≡ 16
-  pub unspent : OfEachTicket (IsUnspent scripts) scripts shelves tickets
+  pub unspent : OfEachTicket (IsUnspent view) shelves tickets
   pub apart : (v w : ℕ) (t u : Ticket) → slice_get tickets v ≡ Some (Some t) → slice_get tickets w ≡ Some (Some u)
       → place_of (length shelves) v t ≡ place_of (length shelves) w u → t.number ≡ u.number → v ≡ w
 
-abbrev pub IsFit : {D : Type 0} → (D → View) → Bool → List Named → Staff D → Type 0
-IsFit view tells scripts s = AreFit view tells scripts s.shelves.items s.tickets
+abbrev pub IsFit : {D : Type 0} → (D → View) → Bool → Staff D → Type 0
+IsFit view tells s = AreFit view tells s.shelves.items s.tickets
+
+-- The setup that a shelf is opened with next is what its names and texts are read as, and the shelves with their workers' tickets are fit.
+pub record IsReady {D : Type 0} (view : D → View) (tells : Bool) (scripts : List Named) (s : Staff D) : Type 0 where
+  pub read : IsReadSetup scripts
+  pub fit : IsFit view tells s
 
 -- Each shelf is this program's own, and what workers hold are tickets that are open on their shelves. So it is of shelves that were
 -- opened on empty disks, which tell their bytes, whatever happens then.
-pub record AreOwn {D : Type 0} (view : D → View) (tells : Bool) (scripts : List Named) (shelves : List (Shelf D Counting))
-    (tickets : List (Option Ticket)) : Type 0 where
-  pub own : (k : ℕ) (x : Shelf D Counting) → slice_get shelves k ≡ Some x → IsOwnShelf view tells scripts x
-  pub are_open : OfEachTicket IsOpen scripts shelves tickets
+pub record AreOwn {D : Type 0} (view : D → View) (tells : Bool) (shelves : List (Shelf D Counting)) (tickets : List (Option Ticket)) : Type 0 where
+  pub own : (k : ℕ) (x : Shelf D Counting) → slice_get shelves k ≡ Some x → IsOwnShelf view tells x
+  pub are_open : OfEachTicket (IsOpen view) shelves tickets
 
-abbrev pub IsOwn : {D : Type 0} → (D → View) → Bool → List Named → Staff D → Type 0
-IsOwn view tells scripts s = AreOwn view tells scripts s.shelves.items s.tickets
+abbrev pub IsOwn : {D : Type 0} → (D → View) → Bool → Staff D → Type 0
+IsOwn view tells s = AreOwn view tells s.shelves.items s.tickets
 
 -- shelves and tickets that were this program's own are so still
-abbrev pub KeepsOwn : {D : Type 0} → (D → View) → Bool → Setup → (old new : Staff D) → Type 0
-KeepsOwn view tells setup old new = IsOwn view tells (scripts_of setup) old → IsOwn view tells (scripts_of setup) new
+abbrev pub KeepsOwn : {D : Type 0} → (D → View) → Bool → (old new : Staff D) → Type 0
+KeepsOwn view tells old new = IsOwn view tells old → IsOwn view tells new
 
 -- how often a rack and disks that are out of it have failed, up to the type's end
 abbrev pub total : (rack disks : ℕ) → ℕ
@@ -154,22 +150,21 @@ pub record IsHome {D : Type 0} (shelves : List (Shelf D Counting)) (out : ℕ �
 abbrev pub RisesBy : {D : Type 0} → (D → View) → (old new : Staff D) → Type 0
 RisesBy view old new = RoseBeside (faults_in view old.shelves.items) (faults_in view new.shelves.items)
 
--- a worker's take of a target does what the desk's does
-abbrev pub TakesTicket : {D : Type 0} → (D → View) → Setup → (old : Staff D) → (worker : ℕ) → (target : List ℕ) → Result ℕ Reply
-    → (new : Staff D) → Type 0
-TakesTicket view setup old worker target result new =
-    Takes desk_rules (RisesBy view old new) (desk_of setup old) worker target result (desk_of setup new)
+-- a worker's take of a target does what the desk's does, whatever setup a shelf is opened with next
+abbrev pub TakesTicket : {D : Type 0} → (D → View) → (old : Staff D) → (worker : ℕ) → (target : List ℕ) → Result ℕ Reply → (new : Staff D) → Type 0
+TakesTicket view old worker target result new =
+    (scripts : List Named) → Takes desk_rules (RisesBy view old new) (desk_of view scripts old) worker target result (desk_of view scripts new)
 
 -- a publish of what a worker holds, of own shelves, does what the desk's does
-abbrev pub PublishesTicket : {D : Type 0} → (D → View) → Bool → Setup → (old : Staff D) → (worker : ℕ) → Reply → (new : Staff D) → Type 0
-PublishesTicket view tells setup old worker reply new =
-    IsOwn view tells (scripts_of setup) old
-    → Publishes desk_rules (RisesBy view old new) (desk_of setup old) worker reply (desk_of setup new)
+abbrev pub PublishesTicket : {D : Type 0} → (D → View) → Bool → (old : Staff D) → (worker : ℕ) → Reply → (new : Staff D) → Type 0
+PublishesTicket view tells old worker reply new =
+    IsOwn view tells old
+    → (scripts : List Named) → Publishes desk_rules (RisesBy view old new) (desk_of view scripts old) worker reply (desk_of view scripts new)
 
 -- a sweep of a shelf does what the desk's does
-abbrev pub SweepsShelf : {D : Type 0} → (D → View) → Setup → (old : Staff D) → (shelf tick : ℕ) → Result ℕ Reply → (new : Staff D) → Type 0
-SweepsShelf view setup old shelf tick result new =
-    Sweeps desk_rules (RisesBy view old new) (desk_of setup old) shelf tick result (desk_of setup new)
+abbrev pub SweepsShelf : {D : Type 0} → (D → View) → (old : Staff D) → (shelf tick : ℕ) → Result ℕ Reply → (new : Staff D) → Type 0
+SweepsShelf view old shelf tick result new =
+    (scripts : List Named) → Sweeps desk_rules (RisesBy view old new) (desk_of view scripts old) shelf tick result (desk_of view scripts new)
 
 -- a staff has the same shelves as before, and the count of their disks' faults did not fall
 pub record StaysThere {D : Type 0} (view : D → View) (old new : Staff D) : Type 0 where

@@ -1,18 +1,19 @@
 -- Lines read as events, computed.
-use Rattle.std.specs.Prelude.{◌≡◌, ℕ, List, [], ◌∷◌, map, Some, codes, refl}
+use Rattle.std.specs.Prelude.{◌≡◌, ℕ, List, [], ◌∷◌, ◌++◌, map, replicate, Some, None, codes, refl}
 use Rattle.percent_encoding.specs.Percent.{percent_decode}
 use Rattle.page_names.specs.Names.{start, destination_of, named_by}
 use Rattle.replay_spec.specs.Rules.{Rules}
 use Rattle.replay_spec.specs.Next.{Ticket}
 use Rattle.replay_spec.specs.Step.{Fate, plain, no_memory, Reply, taken, shown, ended, swept, memory}
 use Rattle.replay_spec.specs.Step as event
-use Rattle.play_steps.specs.Step.{take, publish, get, tick}
-use Rattle.play_steps.specs.declared.report.Report.TheVariants.{Taken, Replied}
+use Rattle.play_steps.specs.Step.{take, publish, get, tick, edit}
+use Rattle.play_steps.specs.declared.report.Report.TheVariants.{Taken, Replied, Swept}
 use Rattle.script_value.specs.declared.outcome.Refusal.TheVariants.{Unknown}
 use Rattle.script_value.specs.declared.outcome.Reply.TheVariants.{Refused, Ended}
 use Rattle.script_nodes.specs.Setup.{Named}
 use Rattle.play_steps.specs.Transcript.{bad_line, transcript}
 use Rattle.play_desk.specs.Target.{answer_to}
+use Rattle.play_desk.specs.Edits.{placed_at}
 use Rattle.play_desk.specs.Desk.{first_desk}
 use Rattle.play_desk.specs.Ledger.{Entry, reading, events_of}
 
@@ -71,3 +72,29 @@ pub what_names_nothing_takes_no_fate :
     ≡ taking no_memory memory ∷ []
 unfolding transcript destination_of named_by percent_decode
 what_names_nothing_takes_no_fate rules scripts = refl
+
+-- a script is put in the place of the one of its name, or behind the others, and a sixteenth one nowhere
+pub scripts_are_placed :
+    (a b s : Named)
+    → placed_at (a ∷ b ∷ []) s (Some 0) ∷ placed_at (a ∷ b ∷ []) s None ∷ placed_at (replicate 14 a) s None ∷ placed_at (replicate 15 a) s None ∷ []
+    ≡ Some (s ∷ b ∷ []) ∷ Some (a ∷ b ∷ s ∷ []) ∷ Some (replicate 14 a ++ s ∷ []) ∷ None ∷ []
+scripts_are_placed a b s = refl
+
+-- an edit under what is no script's name does not fit, and ends the run
+pub what_is_no_name_ends_a_run :
+    (rules : ℕ → Rules) (scripts : List Named)
+    → reading (first_desk rules scripts 1) 1 (map Some (tick 60 ∷ edit (codes "a b") [] ∷ tick 60 ∷ [])) [] (swept 0 ∷ [])
+    ≡ record {
+      told = Swept 0 0 ∷ [];
+      end = bad_line 2;
+      state = record {
+        scripts = scripts;
+        count = 1;
+        held = (first_desk rules scripts 1).held;
+        replies = [];
+        entries = record { shelf = 0; event = event.sweep 60; fate = plain; reply = swept 0 } ∷ [];
+      };
+      fates = [];
+    }
+unfolding transcript
+what_is_no_name_ends_a_run rules scripts = refl

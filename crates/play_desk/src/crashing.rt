@@ -1,8 +1,9 @@
-ghost use Rattle.std.specs.Prelude.{◌≡◌, ◌≤◌, ◌<◌, ◌+◌, [], IsTrue, IfOk, OnErr, OnOk, IsErrOf, length};
+ghost use Rattle.std.specs.Prelude.{◌≡◌, ◌≤◌, ◌<◌, [], IsTrue, IfErr, IfOk, OnErr, OnOk, IsErrOf, length};
 ghost use Rattle.web_outside.specs.Causes.{Rose};
 ghost use Rattle.script_nodes.specs.Views.{scripts_of};
 ghost use Rattle.play_steps.specs.Rules.{StaysUp};
-ghost use Rattle.play_desk.specs.Opening.{CrashesShelf, FailsAt, IsLeft, IsNeverDamaged, IsNeverOther, IsPutBack, KeepsShelvesBut, LeavesLost};
+ghost use Rattle.setup_reader.specs.Texts.{IsReadSetup};
+ghost use Rattle.play_desk.specs.Opening.{CrashesShelf, FailsAt, IsLeft, IsNeverDamaged, IsNeverOther, IsPutBack, KeepsShelvesBut, LeavesLost, TellsItsRoom};
 ghost use Rattle.play_desk.specs.Staff.{HaveOwnNumbers, IsFit, IsHome, IsOwn, KeepsOwn, desk_of, faults_in, total};
 
 use crate::desk_disks::put_all_back;
@@ -14,8 +15,8 @@ use std::alloc::Global;
 use std::mem;
 use web_disk::{Disk, Rack};
 
-// Lets the disk of the shelf at this place crash, and opens the shelf again on what is left there; its
-// tickets are lost. A shelf that is not opened again stands there no longer, and its disk is in the rack.
+// Lets the disk of the shelf at this place crash, and opens the shelf again with the setup on what is left
+// there; its tickets are lost. A shelf that is not opened again stands there no longer, and its disk is in the rack.
 fn reopen_at<D: Disk, R: Rack<D>>(
     alloc: Global,
     setup: &Setup,
@@ -25,23 +26,26 @@ fn reopen_at<D: Disk, R: Rack<D>>(
     place: u32,
 ) -> Result<u32, Reopen>
     requires place { place < length staff.old.shelves.items }
-    requires fit { IsFit D.view D.tells (scripts_of setup.now) staff.old }
+    requires read { IsReadSetup (scripts_of setup.now) }
+    requires fit { IsFit D.view D.tells staff.old }
     requires home { IsHome staff.old.shelves.items (R.view rack.old).out }
     ensures step { IsTrue R.tells → IsTrue D.tells →
-        IsOwn D.view D.tells (scripts_of setup.now) staff.old →
-        IfOk result (λ live. CrashesShelf setup.now staff.old place live staff.new) }
+        IsOwn D.view D.tells staff.old →
+        IfOk result (λ live. CrashesShelf D.view (scripts_of setup.now) staff.old place live staff.new) }
     ensures count { OnOk result (length staff.new.shelves.items ≡ length staff.old.shelves.items) }
-    ensures fit { OnOk result (IsFit D.view D.tells (scripts_of setup.now) staff.new) }
+    ensures fit { OnOk result (IsFit D.view D.tells staff.new) }
     ensures own { IsTrue R.tells → IsTrue D.tells →
-        OnOk result (KeepsOwn D.view D.tells setup.now staff.old staff.new) }
+        OnOk result (KeepsOwn D.view D.tells staff.old staff.new) }
     ensures numbers { OnErr result (HaveOwnNumbers staff.new.shelves.items) }
     ensures gone { OnErr result
         (IsPutBack staff.old.shelves.items place (R.view rack.new).out) }
     ensures others { OnErr result
         (KeepsShelvesBut place staff.old.shelves.items staff.new.shelves.items) }
     ensures left { IsTrue R.tells → IsTrue D.tells →
-        IsOwn D.view D.tells (scripts_of setup.now) staff.old → OnErr result (LeavesLost
+        IsOwn D.view D.tells staff.old → OnErr result (LeavesLost D.view
         (scripts_of setup.now) staff.old.shelves.items place (R.view rack.new).holds) }
+    ensures room { IsTrue R.tells → IsTrue D.tells → IsOwn D.view D.tells staff.old → IfErr result
+        (TellsItsRoom D.view (scripts_of setup.now) staff.old.shelves.items place) }
     ensures home { IsHome staff.new.shelves.items (R.view rack.new).out }
     ensures damaged { IsTrue R.tells → IsTrue D.tells → IsNeverDamaged result }
     ensures other { IsTrue R.tells → IsTrue D.tells → IsNeverOther result }
@@ -73,8 +77,8 @@ fn reopen_at<D: Disk, R: Rack<D>>(
     }
 }
 
-/// Lets the disk of the shelf at this place crash, and opens the shelf again on what is left there; its
-/// tickets are lost. Where it is not opened again, all shelves are closed, their disks go back to the
+/// Lets the disk of the shelf at this place crash, and opens the shelf again with the setup on what is left
+/// there; its tickets are lost. Where it is not opened again, all shelves are closed, their disks go back to the
 /// rack, and nobody holds a ticket.
 pub fn crash<D: Disk, R: Rack<D>>(
     alloc: Global,
@@ -85,19 +89,21 @@ pub fn crash<D: Disk, R: Rack<D>>(
     place: u32,
 ) -> Result<u32, Reopen>
     requires place { place < length staff.old.shelves.items }
-    requires fit { IsFit D.view D.tells (scripts_of setup.now) staff.old }
+    requires read { IsReadSetup (scripts_of setup.now) }
+    requires fit { IsFit D.view D.tells staff.old }
     requires home { IsHome staff.old.shelves.items (R.view rack.old).out }
     ensures step { IsTrue R.tells → IsTrue D.tells →
-        IsOwn D.view D.tells (scripts_of setup.now) staff.old →
-        IfOk result (λ live. CrashesShelf setup.now staff.old place live staff.new) }
+        IsOwn D.view D.tells staff.old →
+        IfOk result (λ live. CrashesShelf D.view (scripts_of setup.now) staff.old place live staff.new) }
     ensures count { OnOk result (length staff.new.shelves.items ≡ length staff.old.shelves.items) }
     ensures closed { OnErr result (staff.new.shelves.items ≡ []) }
-    ensures fit { IsFit D.view D.tells (scripts_of setup.now) staff.new }
+    ensures fit { IsFit D.view D.tells staff.new }
     ensures own { IsTrue R.tells → IsTrue D.tells →
-        KeepsOwn D.view D.tells setup.now staff.old staff.new }
+        KeepsOwn D.view D.tells staff.old staff.new }
     ensures left { IsTrue R.tells → IsTrue D.tells →
-        IsOwn D.view D.tells (scripts_of setup.now) staff.old →
-        OnErr result (IsLeft (R.view rack.new) (desk_of setup.now staff.old) place) }
+        IsOwn D.view D.tells staff.old →
+        IfErr result (IsLeft (R.view rack.new)
+        (desk_of D.view (scripts_of setup.now) staff.old) place) }
     ensures home { IsHome staff.new.shelves.items (R.view rack.new).out }
     ensures damaged { IsTrue R.tells → IsTrue D.tells → IsNeverDamaged result }
     ensures other { IsTrue R.tells → IsTrue D.tells → IsNeverOther result }

@@ -1,19 +1,20 @@
-ghost use Rattle.std.specs.Prelude.{◌≡◌, ◌&&◌};
+ghost use Rattle.std.specs.Prelude.{◌&&◌};
 
 use crate::crashing::crash;
+use crate::editing::edited;
 use crate::staff::{Staff, holds, publish, sweep, take};
 use play_steps::{Reopen, Stage};
 use script_nodes::Setup;
 use script_value::Reply;
-use std::alloc::Global;
+use std::alloc::{AllocError, Global};
 use std::marker::PhantomData;
 use web_disk::{Disk, Rack};
 
-/// What the steps of a run are performed on: shelves of a setup, whose disks are those of a rack, and the
-/// tickets that workers hold.
+/// What the steps of a run are performed on: shelves, whose disks are those of a rack, the tickets that workers
+/// hold, and the setup that a shelf is opened with next.
 pub struct Desk<'s, D: Disk, R> {
     pub(crate) alloc: Global,
-    pub(crate) setup: &'s Setup,
+    pub(crate) setup: Setup,
     pub(crate) directory: &'s str,
     pub(crate) staff: Staff<D>,
     pub(crate) devices: PhantomData<R>,
@@ -23,7 +24,7 @@ impl<'s, D: Disk, R: Rack<D>> Stage for Desk<'s, D, R> {
     ghost use Rattle.script_nodes.specs.Views.{scripts_of};
     ghost use Rattle.play_desk.specs.Desk.{desk_rules};
     ghost use Rattle.play_desk.specs.Opening.{IsLeft};
-    ghost use Rattle.play_desk.specs.Staff.{IsFit, IsHome, IsOwn, desk_of, faults_in, total};
+    ghost use Rattle.play_desk.specs.Staff.{IsHome, IsOwn, IsReady, desk_of, faults_in, total};
 
     type Devices = R;
 
@@ -31,11 +32,11 @@ impl<'s, D: Disk, R: Rack<D>> Stage for Desk<'s, D, R> {
 
     ghost tells = { R.tells && D.tells };
 
-    ghost state = { λ d. desk_of d.setup.now d.staff };
+    ghost state = { λ d. desk_of D.view (scripts_of d.setup) d.staff };
 
-    ghost sound = { λ d. IsFit D.view D.tells (scripts_of d.setup.now) d.staff };
+    ghost sound = { λ d. IsReady D.view D.tells (scripts_of d.setup) d.staff };
 
-    ghost own = { λ d. IsOwn D.view D.tells (scripts_of d.setup.now) d.staff };
+    ghost own = { λ d. IsOwn D.view D.tells d.staff };
 
     ghost at_home = { λ d rack. IsHome d.staff.shelves.items (R.view rack).out };
 
@@ -51,29 +52,39 @@ impl<'s, D: Disk, R: Rack<D>> Stage for Desk<'s, D, R> {
     }
 
     fn holds(&self, worker: u32) -> bool {
-        holds(self.setup, &self.staff, worker)
+        holds(&self.staff, worker)
     }
 
     fn take(&mut self, worker: u32, target: &[u8]) -> Result<u64, Reply> {
-        take(self.alloc, self.setup, &mut self.staff, worker, target)
+        take(self.alloc, &mut self.staff, worker, target)
     }
 
     fn publish(&mut self, worker: u32) -> Reply {
-        publish(self.alloc, self.setup, &mut self.staff, worker)
+        publish(self.alloc, &mut self.staff, worker)
     }
 
     fn sweep(&mut self, shelf: u32, tick: u64) -> Result<u32, Reply> {
-        sweep(self.alloc, self.setup, &mut self.staff, shelf, tick)
+        sweep(self.alloc, &mut self.staff, shelf, tick)
     }
 
     fn crash(&mut self, devices: &mut R, shelf: u32) -> Result<u32, Reopen> {
         crash(
             self.alloc,
-            self.setup,
+            &self.setup,
             self.directory,
             &mut self.staff,
             devices,
             shelf,
         )
+    }
+
+    fn edit(&mut self, name: &[u8], text: &[u8]) -> Result<bool, AllocError> {
+        match edited(self.alloc, &self.setup, name, text)? {
+            Some(setup) => {
+                self.setup = setup;
+                Ok(true)
+            }
+            None => Ok(false),
+        }
     }
 }

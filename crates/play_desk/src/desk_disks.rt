@@ -1,11 +1,11 @@
 ghost use Rattle.std.specs.Prelude.{◌≡◌, ◌≤◌, ◌<◌, ℕ, [], false, length, IsTrue, IfOk, IfErr, IsErrOf, OnErr, OnOk};
 ghost use Rattle.script_nodes.specs.Views.{scripts_of};
-ghost use Rattle.journal_records.specs.Records.{IsInGrammar, begin_of};
+ghost use Rattle.setup_reader.specs.Texts.{IsReadSetup};
 ghost use Rattle.shelf.specs.Ranges.{AreInRange};
 ghost use Rattle.play_steps.specs.Rules.{StaysUp};
 ghost use Rattle.play_desk.specs.Desk.{first_desk};
-ghost use Rattle.play_desk.specs.Staff.{HaveOwnNumbers, IsFit, IsHome, IsOwn, desk_of, faults_in, total};
-ghost use Rattle.play_desk.specs.Opening.{AllStayKept, AreHome, CanBegin, CountStays, FailedFor, GivesOne, HoldImages, HoldTheBooks, IsClosedBy, IsRefusedBy, KeepsClosed, LeaveOthers, OpensNext, numbered, rules_at};
+ghost use Rattle.play_desk.specs.Staff.{HaveOwnNumbers, IsHome, IsOwn, IsReady, desk_of, faults_in, total};
+ghost use Rattle.play_desk.specs.Opening.{AllStayKept, AreHome, AreOpened, CountStays, FailedFor, GivesOne, HoldImages, HoldTheBooks, IsClosedBy, IsRefusedBy, KeepsClosed, LeaveOthers, OpensNext, numbered, rules_at};
 
 use crate::desk::Desk;
 use crate::opening::{OpenCause, OpenFault, opened, put_back};
@@ -60,8 +60,7 @@ fn open_next<D: Disk, R: Rack<D>>(
     rules: Rules,
 ) -> Result<(), OpenCause>
     requires range { AreInRange rules }
-    requires few { length (scripts_of setup.now) ≤ 256 }
-    requires begins { IsInGrammar (begin_of rules.number (scripts_of setup.now)) }
+    requires read { IsReadSetup (scripts_of setup.now) }
     requires home { (R.view rack.old).out rules.number ≡ false }
     ensures opened { OnOk result (OpensNext D.view R.tells D.tells (scripts_of setup.now) rules
         shelves.old.items shelves.new.items (R.view rack.old) (R.view rack.new)) }
@@ -86,33 +85,20 @@ fn open_next<D: Disk, R: Rack<D>>(
     }
 }
 
-/// Opens empty shelves of the setup, from number 0 on, on the rack's disks of this directory, with
-/// workers that hold nothing. The limits are those of each shelf, but for its number.
-///
-/// A disk that is not empty, or that fails, is told with the number of its shelf, and then all disks go
-/// back to the rack. Nothing was lost on any then, but on one of which a call failed, and nothing was
-/// written on those behind it.
-pub fn open_desk<'s, D: Disk, R: Rack<D>>(
+// Opens empty shelves of the setup, from number 0 on. Where one is not opened, all disks go back to the
+// rack.
+fn open_all<D: Disk, R: Rack<D>>(
     alloc: Global,
     rack: &mut R,
-    directory: &'s str,
-    setup: &'s Setup,
+    directory: &str,
+    setup: &Setup,
     rules: Rules,
-) -> Result<Desk<'s, D, R>, OpenFault>
+) -> Result<Vec<Shelf<D, Counting>>, OpenFault>
     requires range { AreInRange rules }
-    requires few { length (scripts_of setup.now) ≤ 256 }
-    requires begins { CanBegin (scripts_of setup.now) rules.shelves }
+    requires read { IsReadSetup (scripts_of setup.now) }
     requires home { AreHome (R.view rack.old).out }
-    ensures setup { IfOk result (λ d. d.setup.now ≡ setup.entry.now) }
-    ensures desk { IsTrue R.tells → IsTrue D.tells → IfOk result (λ d. desk_of d.setup.now d.staff
-        ≡ first_desk (rules_at (scripts_of setup.now) rules) (scripts_of setup.now) rules.shelves) }
-    ensures count { IfOk result (λ d. length d.staff.shelves.items ≡ rules.shelves) }
-    ensures empty { IsTrue R.tells → IsTrue D.tells →
-        IfOk result (λ d. (k : ℕ) → k < rules.shelves → (R.view rack.old).holds k []) }
-    ensures sound { IfOk result (λ d. IsFit D.view D.tells (scripts_of d.setup.now) d.staff) }
-    ensures own { IsTrue R.tells → IsTrue D.tells →
-        IfOk result (λ d. IsOwn D.view D.tells (scripts_of d.setup.now) d.staff) }
-    ensures home { IfOk result (λ d. IsHome d.staff.shelves.items (R.view rack.new).out) }
+    ensures opened { IfOk result (λ shelves. AreOpened D.view R.tells D.tells (scripts_of setup.now)
+        rules (R.view rack.old) rules.shelves shelves.items (R.view rack.new)) }
     ensures closed { IsTrue R.tells → IsTrue D.tells →
         IfErr result (λ e. IsClosedBy (R.view rack.old).holds rules.shelves e.shelf e.why) }
     ensures keeps { IsTrue R.tells → IsTrue D.tells →
@@ -123,8 +109,6 @@ pub fn open_desk<'s, D: Disk, R: Rack<D>>(
         FailedFor e.shelf (R.view rack.old) (R.view rack.new)) }
     ensures later { (R.view rack.old).faults ≤ (R.view rack.new).faults }
     ensures failed_later { StaysUp (R.view rack.old).failed (R.view rack.new).failed }
-    ensures later_open { IfOk result (λ d. (R.view rack.old).faults
-        ≤ total (R.view rack.new).faults (faults_in D.view d.staff.shelves.items)) }
 {
     // A count is below 2^64, so it does not fall where those of the disks are added.
     let _count = rack.faults();
@@ -136,28 +120,74 @@ pub fn open_desk<'s, D: Disk, R: Rack<D>>(
             return Err(OpenFault { shelf: number, why });
         }
     }
-    Ok(Desk {
-        alloc,
-        setup,
-        directory,
-        staff: Staff {
-            shelves,
-            tickets: no_tickets(),
-        },
-        devices: PhantomData,
-    })
+    Ok(shelves)
+}
+
+/// Opens empty shelves of the setup, from number 0 on, on the rack's disks of this directory, with
+/// workers that hold nothing. The limits are those of each shelf, but for its number.
+///
+/// A disk that is not empty, or that fails, is told with the number of its shelf, and then all disks go
+/// back to the rack. Nothing was lost on any then, but on one of which a call failed, and nothing was
+/// written on those behind it.
+pub fn open_desk<'s, D: Disk, R: Rack<D>>(
+    alloc: Global,
+    rack: &mut R,
+    directory: &'s str,
+    setup: Setup,
+    rules: Rules,
+) -> Result<Desk<'s, D, R>, OpenFault>
+    requires range { AreInRange rules }
+    requires read { IsReadSetup (scripts_of setup) }
+    requires home { AreHome (R.view rack.old).out }
+    ensures setup { IfOk result (λ d. d.setup ≡ setup) }
+    ensures desk { IsTrue R.tells → IsTrue D.tells →
+        IfOk result (λ d. desk_of D.view (scripts_of d.setup) d.staff
+        ≡ first_desk (rules_at rules) (scripts_of setup) rules.shelves) }
+    ensures count { IfOk result (λ d. length d.staff.shelves.items ≡ rules.shelves) }
+    ensures empty { IsTrue R.tells → IsTrue D.tells →
+        IfOk result (λ d. (k : ℕ) → k < rules.shelves → (R.view rack.old).holds k []) }
+    ensures sound { IfOk result (λ d. IsReady D.view D.tells (scripts_of d.setup) d.staff) }
+    ensures own { IsTrue R.tells → IsTrue D.tells →
+        IfOk result (λ d. IsOwn D.view D.tells d.staff) }
+    ensures home { IfOk result (λ d. IsHome d.staff.shelves.items (R.view rack.new).out) }
+    ensures closed { IsTrue R.tells → IsTrue D.tells →
+        IfErr result (λ e. IsClosedBy (R.view rack.old).holds rules.shelves e.shelf e.why) }
+    ensures keeps { IsTrue R.tells → IsTrue D.tells →
+        IfErr result (λ e. AllStayKept (scripts_of setup)
+        (R.view rack.old).holds (R.view rack.new).holds e.shelf e.why) }
+    ensures all_home { IfErr result (λ e. AreHome (R.view rack.new).out) }
+    ensures disk { IfErr result (λ e. e.why ≡ OpenCause.Disk →
+        FailedFor e.shelf (R.view rack.old) (R.view rack.new)) }
+    ensures later { (R.view rack.old).faults ≤ (R.view rack.new).faults }
+    ensures failed_later { StaysUp (R.view rack.old).failed (R.view rack.new).failed }
+    ensures later_open { IfOk result (λ d. (R.view rack.old).faults
+        ≤ total (R.view rack.new).faults (faults_in D.view d.staff.shelves.items)) }
+{
+    match open_all(alloc, rack, directory, &setup, rules) {
+        Ok(shelves) => Ok(Desk {
+            alloc,
+            setup,
+            directory,
+            staff: Staff {
+                shelves,
+                tickets: no_tickets(),
+            },
+            devices: PhantomData,
+        }),
+        Err(fault) => Err(fault),
+    }
 }
 
 impl<'s, D: Disk, R: Rack<D>> Desk<'s, D, R> {
     /// Closes the shelves, and gives their disks back to the rack. Each disk stands for the last book of its
     /// shelf.
     pub fn close(self, rack: &mut R)
-        requires sound { IsFit D.view D.tells (scripts_of self.setup.now) self.staff }
+        requires sound { IsReady D.view D.tells (scripts_of self.setup) self.staff }
         requires home { IsHome self.staff.shelves.items (R.view rack.old).out }
         ensures home { AreHome (R.view rack.new).out }
         ensures books { IsTrue R.tells → IsTrue D.tells →
-            IsOwn D.view D.tells (scripts_of self.entry.setup.now) self.entry.staff →
-            HoldTheBooks (desk_of self.entry.setup.now self.entry.staff) (R.view rack.new).holds }
+            IsOwn D.view D.tells self.entry.staff → HoldTheBooks
+            (desk_of D.view (scripts_of self.entry.setup) self.entry.staff) (R.view rack.new).holds }
         ensures later { total (R.view rack.old).faults (faults_in D.view self.entry.staff.shelves.items)
             ≤ (R.view rack.new).faults }
         ensures failed_later { StaysUp (R.view rack.old).failed (R.view rack.new).failed }

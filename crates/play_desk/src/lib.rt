@@ -7,6 +7,7 @@ mod answer;
 mod crashing;
 mod desk;
 mod desk_disks;
+mod editing;
 mod opening;
 mod staff;
 

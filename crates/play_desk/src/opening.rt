@@ -1,13 +1,12 @@
-ghost use Rattle.std.specs.Prelude.{◌≡◌, ◌≤◌, ◌+◌, [], length, true, false, IsTrue, IfOk, IfErr, OnOk, OnErr, IsErrOf};
+ghost use Rattle.std.specs.Prelude.{◌≡◌, ◌≤◌, ◌+◌, [], true, false, IsTrue, IfOk, IfErr, OnOk, OnErr, IsErrOf};
 ghost use Rattle.script_nodes.specs.Views.{scripts_of};
-ghost use Rattle.journal_records.specs.Records.{IsInGrammar, begin_of};
+ghost use Rattle.setup_reader.specs.Texts.{IsReadSetup};
 ghost use Rattle.web_disk.specs.View.{AreAmong};
 ghost use Rattle.web_outside.specs.Causes.{Rose};
 ghost use Rattle.shelf.specs.Ranges.{AreInRange};
-ghost use Rattle.play_desk.specs.Opening.{BeginsEmpty, CountRose, CountStays, FailedFor, Finds, GivesOne, GivesUnread, HasCrashed, IsNeverDamaged, IsNeverOther, IsOutside, KeepsBegun, KeepsOpened, OpensEmpty, OpensOne, StandsLost, StaysLost, TakesEmpty, TakesOrLeaves, cause_of, disk_faults, faults_left, left_on, reopen_of};
-ghost use Rattle.play_desk.specs.Staff.{IsServed};
+ghost use Rattle.play_desk.specs.Opening.{BeginsEmpty, CountRose, CountStays, FailedFor, Finds, GivesOne, GivesUnread, HasCrashed, IsNeverDamaged, IsNeverOther, IsOutside, KeepsBegun, KeepsOpened, OpensEmpty, OpensOne, StandsLost, StaysLost, TakesEmpty, TakesOrLeaves, TellsRoom, cause_of, disk_faults, faults_left, left_on, reopen_of};
 ghost use Rattle.shelf.specs.Owning.{IsOwnImage};
-ghost use Rattle.shelf.specs.Views.{IsOwnShelf, book_in, rules_of};
+ghost use Rattle.shelf.specs.Views.{IsInOrder, IsOwnShelf, book_in, rules_of};
 
 use journal_spec::images_make_books;
 use play_steps::Reopen;
@@ -17,7 +16,7 @@ use std::alloc::Global;
 use web_disk::{Disk, Rack, RackFault};
 use web_outside::Counting;
 
-/// Why a desk was not opened.
+/// Why a shelf was not opened.
 #[derive(Clone, Copy, Debug, PartialEq, Eq)]
 pub enum OpenCause {
     /// The disk has bytes already.
@@ -26,14 +25,23 @@ pub enum OpenCause {
     Disk,
     /// What stands at this place of its journal is no record.
     Damaged { place: u64 },
-    /// The record at this place is that of another shelf or of other scripts.
+    /// The record at this place is that of another shelf.
     Other { place: u64 },
+    /// With the setup that it is opened with, its journal would have this length in bytes, too many.
+    Full { len: u64 },
     /// There was no memory.
     Memory,
 }
 
 impl OpenCause {
-    /// The cause for which a shelf was not opened.
+    /// The cause for which a shelf was not begun.
+    pub fn by(fault: BeginFault) -> OpenCause
+        ensures { result ≡ cause_of (reopen_of fault) }
+    {
+        OpenCause::of(why_not(fault))
+    }
+
+    /// The cause for which a shelf was not opened again.
     pub fn of(why: Reopen) -> OpenCause
         ensures { result ≡ cause_of why }
     {
@@ -41,6 +49,7 @@ impl OpenCause {
             Reopen::Disk => OpenCause::Disk,
             Reopen::Damaged { place } => OpenCause::Damaged { place },
             Reopen::Other { place } => OpenCause::Other { place },
+            Reopen::Full { len } => OpenCause::Full { len },
             Reopen::Memory => OpenCause::Memory,
         }
     }
@@ -83,6 +92,7 @@ fn why_not(fault: BeginFault) -> Reopen
     match fault {
         BeginFault::Damaged { place } => Reopen::Damaged { place },
         BeginFault::Other { place } => Reopen::Other { place },
+        BeginFault::Full { len } => Reopen::Full { len },
         BeginFault::DiskFault => Reopen::Disk,
         BeginFault::Memory => Reopen::Memory,
     }
@@ -98,18 +108,17 @@ fn begun<D: Disk, R: Rack<D>>(
     rules: Rules,
 ) -> Result<Shelf<D, Counting>, Reopen>
     requires range { AreInRange rules }
-    requires few { length (scripts_of setup.now) ≤ 256 }
-    requires begins { IsInGrammar (begin_of rules.number (scripts_of setup.now)) }
-    ensures served { IfOk result (IsServed D.view D.tells (scripts_of setup.now)) }
+    requires read { IsReadSetup (scripts_of setup.now) }
+    ensures in_order { IfOk result (IsInOrder D.view D.tells) }
     ensures rules { IfOk result (λ s. s.rules ≡ rules) }
     ensures nonces { IfOk result (λ s. s.nonces ≡ nonces) }
     ensures found { IsTrue D.tells →
         Finds D.view (scripts_of setup.now) rules.number (D.view disk).images result }
     ensures empty { IsTrue D.tells → (D.view disk).seen ≡ [] →
-        BeginsEmpty (scripts_of setup.now) rules result }
+        BeginsEmpty D.view (scripts_of setup.now) rules result }
     ensures own { IsTrue D.tells →
-        IsOwnImage (scripts_of setup.now) rules.number (D.view disk).seen →
-        IfOk result (IsOwnShelf D.view D.tells (scripts_of setup.now)) }
+        IsOwnImage rules.number (D.view disk).seen →
+        IfOk result (IsOwnShelf D.view D.tells) }
     ensures keeps { IsTrue R.tells → IsTrue D.tells → (R.view rack.old).out rules.number ≡ true →
         KeepsBegun D.view (scripts_of setup.now) rules.number
         (D.view disk) (R.view rack.new).holds result }
@@ -154,8 +163,8 @@ pub fn put_back<D: Disk, R: Rack<D>>(rack: &mut R, shelf: Shelf<D, Counting>) ->
     nonces
 }
 
-/// Lets the disk of the shelf crash, and opens the shelf again on what is left there. It goes on with
-/// the same nonces.
+/// Lets the disk of the shelf crash, and opens the shelf again with the setup on what is left there. It goes
+/// on with the same nonces.
 pub fn reopened<D: Disk, R: Rack<D>>(
     alloc: Global,
     setup: &Setup,
@@ -163,22 +172,25 @@ pub fn reopened<D: Disk, R: Rack<D>>(
     rack: &mut R,
     shelf: Shelf<D, Counting>,
 ) -> Result<Shelf<D, Counting>, Reopen>
-    requires served { IsServed D.view D.tells (scripts_of setup.now) shelf }
+    requires in_order { IsInOrder D.view D.tells shelf }
+    requires read { IsReadSetup (scripts_of setup.now) }
     requires out { (R.view rack.old).out shelf.rules.number ≡ true }
-    ensures served { IfOk result (IsServed D.view D.tells (scripts_of setup.now)) }
+    ensures in_order { IfOk result (IsInOrder D.view D.tells) }
     ensures rules { IfOk result (λ s. s.rules ≡ shelf.rules) }
     ensures nonces { IfOk result (λ s. s.nonces ≡ shelf.nonces) }
     ensures crashed { IsTrue R.tells → IsTrue D.tells →
-        IsOwnShelf D.view D.tells (scripts_of setup.now) shelf →
-        IfOk result (HasCrashed (scripts_of setup.now) shelf) }
+        IsOwnShelf D.view D.tells shelf →
+        IfOk result (HasCrashed D.view (scripts_of setup.now) shelf) }
     ensures own { IsTrue R.tells → IsTrue D.tells →
-        IsOwnShelf D.view D.tells (scripts_of setup.now) shelf →
-        IfOk result (IsOwnShelf D.view D.tells (scripts_of setup.now)) }
+        IsOwnShelf D.view D.tells shelf →
+        IfOk result (IsOwnShelf D.view D.tells) }
     ensures left { IsTrue R.tells → IsTrue D.tells →
-        IsOwnShelf D.view D.tells (scripts_of setup.now) shelf →
-        StandsLost (rules_of (scripts_of setup.now) shelf.rules) (scripts_of setup.now)
+        IsOwnShelf D.view D.tells shelf →
+        StandsLost (rules_of shelf.rules) (scripts_of setup.now)
         shelf.rules.number (left_on D.view shelf.rules.number (R.view rack.new).holds result)
-        (book_in (scripts_of setup.now) shelf) }
+        (book_in D.view shelf) }
+    ensures room { IsTrue R.tells → IsTrue D.tells → IsOwnShelf D.view D.tells shelf →
+        IfErr result (TellsRoom (rules_of shelf.rules) (scripts_of setup.now) (book_in D.view shelf)) }
     ensures damaged { IsTrue R.tells → IsTrue D.tells → IsNeverDamaged result }
     ensures other { IsTrue R.tells → IsTrue D.tells → IsNeverOther result }
     ensures rack { OpensOne shelf.rules.number result (R.view rack.old) (R.view rack.new) }
@@ -244,15 +256,14 @@ pub fn opened<D: Disk, R: Rack<D>>(
     rules: Rules,
 ) -> Result<Shelf<D, Counting>, OpenCause>
     requires range { AreInRange rules }
-    requires few { length (scripts_of setup.now) ≤ 256 }
-    requires begins { IsInGrammar (begin_of rules.number (scripts_of setup.now)) }
+    requires read { IsReadSetup (scripts_of setup.now) }
     requires home { (R.view rack.old).out rules.number ≡ false }
-    ensures served { IfOk result (IsServed D.view D.tells (scripts_of setup.now)) }
+    ensures in_order { IfOk result (IsInOrder D.view D.tells) }
     ensures rules { IfOk result (λ s. s.rules ≡ rules) }
     ensures empty { IsTrue R.tells → IsTrue D.tells →
-        OpensEmpty (scripts_of setup.now) rules ((R.view rack.old).holds rules.number) result }
+        OpensEmpty D.view (scripts_of setup.now) rules ((R.view rack.old).holds rules.number) result }
     ensures own { IsTrue R.tells → IsTrue D.tells →
-        IfOk result (IsOwnShelf D.view D.tells (scripts_of setup.now)) }
+        IfOk result (IsOwnShelf D.view D.tells) }
     ensures keeps { IsTrue R.tells → IsTrue D.tells →
         KeepsOpened D.view (scripts_of setup.now) rules.number
         ((R.view rack.old).holds rules.number) (R.view rack.new).holds result }

@@ -1,5 +1,5 @@
 ghost use Rattle.std.specs.Prelude.{◌≡◌, ◌≢◌, ◌<◌, ◌^◌, IfOk, IfSome, is_some, length, map, option_map, replicate, slice_get, slice_set, Some, None};
-ghost use Rattle.script_nodes.specs.Views.{scripts_of};
+ghost use Rattle.script_nodes.specs.Views.{library_of};
 ghost use Rattle.page_names.specs.Views.{target_of};
 ghost use Rattle.instance_book.specs.Fits.{IsRunnable};
 ghost use Rattle.instance_book.specs.Views.{ticket_of};
@@ -8,7 +8,7 @@ ghost use Rattle.shelf.specs.Views.{IsRunIfAny};
 ghost use Rattle.play_desk.specs.Desk as spec;
 ghost use Rattle.play_desk.specs.Desk.{without_shelf};
 ghost use Rattle.play_desk.specs.Target.{shelf_for};
-ghost use Rattle.play_desk.specs.Staff.{HoldsTicket, IsFit, KeepsOwn, PublishesTicket, StaysThere, SweepsShelf, TakesTicket, desk_of, place_of};
+ghost use Rattle.play_desk.specs.Staff.{HoldsTicket, IsFit, KeepsOwn, PublishesTicket, StaysThere, SweepsShelf, TakesTicket, held_by, place_of};
 
 use crate::answer::answer_to;
 use http_forms::path_and_query;
@@ -16,7 +16,7 @@ use instance_book::Ticket;
 use machine_states::Segment;
 use page_names::{Target, parse_target};
 use replay_spec::refused_is_unchanged;
-use script_nodes::Setup;
+use script_nodes::Library;
 use script_value::{Refusal, Reply};
 use shelf::{Shelf, run_ticket, tickets_go_on_to_fit};
 use std::alloc::Global;
@@ -43,12 +43,12 @@ pub fn shelf_for(count: usize, worker: u32, target: &Target) -> usize
 }
 
 /// The segment that a ticket is for, over the ticket's own cells; none where its run finds no memory.
-pub fn segment_of(alloc: Global, setup: &Setup, ticket: &Ticket, fuel: u64) -> Option<Segment>
-    requires fits { IsRunnable (scripts_of setup.now) ticket.now }
+pub fn segment_of(alloc: Global, library: &Library, ticket: &Ticket, fuel: u64) -> Option<Segment>
+    requires fits { IsRunnable (library_of library.now).all ticket.now }
     requires fuel { fuel < 2 ^ 63 }
-    ensures { IsRunIfAny (scripts_of setup.now) fuel ticket.now result }
+    ensures { IsRunIfAny (library_of library.now).all fuel ticket.now result }
 {
-    run_ticket(alloc, setup, ticket, &ticket.cells, fuel).ok()
+    run_ticket(alloc, library, ticket, &ticket.cells, fuel).ok()
 }
 
 // The ticket that a worker holds, which it holds no longer.
@@ -100,28 +100,26 @@ pub fn lose_tickets(tickets: &mut [Option<Ticket>; 16], count: usize, place: usi
 }
 
 /// Whether the worker holds a ticket.
-pub fn holds<D: Disk>(setup: &Setup, staff: &Staff<D>, worker: u32) -> bool
+pub fn holds<D: Disk>(staff: &Staff<D>, worker: u32) -> bool
     requires { worker < 16 }
-    ensures { result ≡ is_some (spec.ticket_of (desk_of setup.now staff.now) worker) }
+    ensures { result ≡ is_some (held_by staff.now worker) }
 {
-    let _ = setup;
     staff.tickets[worker as usize].is_some()
 }
 
 /// Draws a number for a visit of the target, and the worker holds its ticket.
 pub fn take<D: Disk>(
     alloc: Global,
-    setup: &Setup,
     staff: &mut Staff<D>,
     worker: u32,
     target: &[u8],
 ) -> Result<u64, Reply>
     requires worker { worker < 16 }
-    requires fit { IsFit D.view D.tells (scripts_of setup.now) staff.old }
-    ensures step { TakesTicket D.view setup.now staff.old worker target.now result staff.new }
-    ensures held { IfOk result (λ _. HoldsTicket setup.now staff.new worker) }
-    ensures fit { IsFit D.view D.tells (scripts_of setup.now) staff.new }
-    ensures own { KeepsOwn D.view D.tells setup.now staff.old staff.new }
+    requires fit { IsFit D.view D.tells staff.old }
+    ensures step { TakesTicket D.view staff.old worker target.now result staff.new }
+    ensures held { IfOk result (λ _. HoldsTicket staff.new worker) }
+    ensures fit { IsFit D.view D.tells staff.new }
+    ensures own { KeepsOwn D.view D.tells staff.old staff.new }
     ensures there { StaysThere D.view staff.old staff.new }
 {
     refused_is_unchanged();
@@ -141,7 +139,7 @@ pub fn take<D: Disk>(
         return Err(Reply::Memory);
     };
     let shelf = &mut staff.shelves[place];
-    match shelf.take(alloc, setup, &target, answer) {
+    match shelf.take(alloc, &target, answer) {
         Ok(ticket) => {
             let number = ticket.number;
             staff.tickets[worker as usize] = Some(ticket);
@@ -152,12 +150,12 @@ pub fn take<D: Disk>(
 }
 
 /// Runs the visit that the worker's ticket is for, and spends the ticket. What it comes to is said of own shelves.
-pub fn publish<D: Disk>(alloc: Global, setup: &Setup, staff: &mut Staff<D>, worker: u32) -> Reply
+pub fn publish<D: Disk>(alloc: Global, staff: &mut Staff<D>, worker: u32) -> Reply
     requires worker { worker < 16 }
-    requires fit { IsFit D.view D.tells (scripts_of setup.now) staff.old }
-    ensures step { PublishesTicket D.view D.tells setup.now staff.old worker result staff.new }
-    ensures fit { IsFit D.view D.tells (scripts_of setup.now) staff.new }
-    ensures own { KeepsOwn D.view D.tells setup.now staff.old staff.new }
+    requires fit { IsFit D.view D.tells staff.old }
+    ensures step { PublishesTicket D.view D.tells staff.old worker result staff.new }
+    ensures fit { IsFit D.view D.tells staff.new }
+    ensures own { KeepsOwn D.view D.tells staff.old staff.new }
     ensures there { StaysThere D.view staff.old staff.new }
 {
     // What holds of a ticket at its take holds until it is published.
@@ -167,26 +165,24 @@ pub fn publish<D: Disk>(alloc: Global, setup: &Setup, staff: &mut Staff<D>, work
     };
     let place = shelf_for(staff.shelves.len(), worker, &ticket.target);
     let shelf = &mut staff.shelves[place];
-    let segment = segment_of(alloc, setup, &ticket, shelf.rules().fuel);
-    shelf.publish(alloc, setup, ticket, segment)
+    let segment = segment_of(alloc, shelf.library(), &ticket, shelf.rules().fuel);
+    shelf.publish(alloc, ticket, segment)
 }
 
 /// Sweeps the shelf at the tick, in seconds, and tells how many instances it freed.
 pub fn sweep<D: Disk>(
     alloc: Global,
-    setup: &Setup,
     staff: &mut Staff<D>,
     place: u32,
     tick: u64,
 ) -> Result<u32, Reply>
     requires place { place < length staff.old.shelves.items }
     requires tick { tick < 2 ^ 62 }
-    requires fit { IsFit D.view D.tells (scripts_of setup.now) staff.old }
-    ensures step { SweepsShelf D.view setup.now staff.old place tick result staff.new }
-    ensures fit { IsFit D.view D.tells (scripts_of setup.now) staff.new }
-    ensures own { KeepsOwn D.view D.tells setup.now staff.old staff.new }
+    requires fit { IsFit D.view D.tells staff.old }
+    ensures step { SweepsShelf D.view staff.old place tick result staff.new }
+    ensures fit { IsFit D.view D.tells staff.new }
+    ensures own { KeepsOwn D.view D.tells staff.old staff.new }
     ensures there { StaysThere D.view staff.old staff.new }
 {
-    let _ = setup;
     staff.shelves[place as usize].sweep(alloc, tick)
 }

@@ -1,3 +1,4 @@
+pub mod Plain
 pub mod Lines
 pub mod Performed
 pub mod Runs
@@ -6,3 +7,4 @@ pub mod Goes
 pub mod Spelled
 pub mod Risings
 pub mod Within
+pub mod Left

@@ -1,11 +1,11 @@
 -- The steps of a worker, by their calls.
-use Rattle.std.proofs.Common.{◌≡◌, ◌≤◌, inl, inr, ℕ, List, [], ◌∷◌, ◌++◌, append_assoc, Bool, true, false, Result, Ok, Err, Vec, ap, sym, ◌∙◌, refl, subst, MatchResult, IfOk, OnErr, IsErrOf, IsTrue, Some, arith}
+use Rattle.std.proofs.Common.{◌≡◌, ◌≤◌, ◌⊎◌, inl, inr, ℕ, List, [], ◌∷◌, ◌++◌, append_assoc, Bool, true, false, Result, Ok, Err, Vec, ap, sym, ◌∙◌, refl, subst, MatchResult, IfOk, IfErr, IsErrOf, IsTrue, Some, arith}
 use Rattle.std.specs.declared.alloc.Global.{Global}
 use Rattle.web_outside.specs.Causes.{Rose}
 use Rattle.script_value.specs.declared.outcome.Reply.{Reply}
 use Rattle.play_steps.specs.Reports.{take_report}
 use Rattle.play_steps.specs.Rules.{StageRules, Call, answered, event, Comes, Crashes}
-use Rattle.play_steps.specs.Step.{Step, take, publish, get, crash, is_told}
+use Rattle.play_steps.specs.Step.{Step, take, publish, get, crash, crash_edited, is_crash, is_told, crashed_at}
 use Rattle.play_steps.specs.Transcript.{Run, called, went, got}
 use Rattle.play_steps.specs.Played.{Spot, HasRisen, Came, TellsCrash, Performs}
 use Rattle.play_steps.specs.declared.report.Report.{Report}
@@ -71,31 +71,58 @@ crashed r s t shelf live call =
     record { fates = call.fates; is = call.is (λ x. went r (Reopened shelf x ∷ [])); risen = call.risen }
 
 -- what a step told is told, or there was no memory for it
-pub tells : (r : StageRules) (left : r.State → ℕ → Type 0) (s t : Spot r) (step : Step) (told : List Report) (result : Result (Vec Report Global) Halt)
+pub tells : (r : StageRules) (left : r.State → ℕ → Reopen → Type 0) (s t : Spot r) (step : Step) (told : List Report) (result : Result (Vec Report Global) Halt)
     → MatchResult result (λ reports. reports.items ≡ told) (λ why. why ≡ halt.Memory) → Came r s step told t → Performs r left step result s t
 tells r left s t step told (Ok reports) is came = subst (λ (x : List Report). Came r s step x t) (sym is) came
 tells r left s t step told (Err halt.Memory) is came = inl (told, came)
 tells r left s t step told (Err (halt.Reopen shelf why)) is came = absurd (let no : ⊥ = cc in no)
 
 -- what is known of a crash is known of a disk that tells
-pub told_crash : (disk_tells : Bool) (step : Step) (shelf : ℕ) → crash shelf ≡ step → is_told disk_tells (Some step ∷ []) ≡ true → IsTrue disk_tells
-told_crash true step shelf is known = refl
-told_crash false step shelf is known =
-    absurd (let no = subst (λ (x : Step). is_told false (Some x ∷ []) ≡ true) (sym is) known in let never : ⊥ = cc in never)
+told_crash : (disk_tells : Bool) (step : Step) → is_crash (Some step) ≡ true → is_told disk_tells (Some step ∷ []) ≡ true → IsTrue disk_tells
+told_crash true step is known = refl
+told_crash false step is known = absurd (let no = rw is at known in let never : ⊥ = cc in never)
 
 -- a shelf that crashed was opened again or not
-pub crash_performs : (r : StageRules) (left : r.State → ℕ → Type 0) (s t : Spot r) (shelf : ℕ) (opened : Result ℕ Reopen) (result : Result (Vec Report Global) Halt)
+crash_performs : (r : StageRules) (left : r.State → ℕ → Reopen → Type 0) (s t : Spot r) (step : Step) (shelf : ℕ) (opened : Result ℕ Reopen)
+    (result : Result (Vec Report Global) Halt) → crashed_at step ≡ Some shelf
+    → ((told : List Report) → Came r s (crash shelf) told t → Came r s step told t)
     → TellsCrash shelf opened result → IfOk opened (λ live. Crashes r (Rose s.faults t.faults) s.state shelf live t.state)
-    → (IsErrOf opened reopen.Disk → Rose s.faults t.faults) → s.faults ≤ t.faults → OnErr opened (left s.state shelf)
-    → Performs r left (crash shelf) result s t
-crash_performs r left s t shelf (Ok live) result told comes rose le stands =
-    tells r left s t (crash shelf) _ result told
-    (crashed r s t shelf live (comes_called r (r.crash s.state shelf) s t (Rose s.faults t.faults) live comes le (λ up. up)))
-crash_performs r left s t shelf (Err reopen.Memory) result told comes rose le stands =
-    subst (λ (x : Result (Vec Report Global) Halt). Performs r left (crash shelf) x s t) (sym told) (inr (shelf, (refl, le, stands)))
-crash_performs r left s t shelf (Err reopen.Disk) result told comes rose le stands =
-    subst (λ (x : Result (Vec Report Global) Halt). Performs r left (crash shelf) x s t) (sym told) ((refl, le, stands), rose refl)
-crash_performs r left s t shelf (Err (reopen.Damaged place)) result told comes rose le stands =
-    subst (λ (x : Result (Vec Report Global) Halt). Performs r left (crash shelf) x s t) (sym told) (refl, le, stands)
-crash_performs r left s t shelf (Err (reopen.Other place)) result told comes rose le stands =
-    subst (λ (x : Result (Vec Report Global) Halt). Performs r left (crash shelf) x s t) (sym told) (refl, le, stands)
+    → (IsErrOf opened reopen.Disk → Rose s.faults t.faults) → s.faults ≤ t.faults → IfErr opened (left s.state shelf)
+    → Performs r left step result s t
+crash_performs r left s t step shelf (Ok live) result at alike told comes rose le stands =
+    tells r left s t step _ result told
+    (alike _ (crashed r s t shelf live (comes_called r (r.crash s.state shelf) s t (Rose s.faults t.faults) live comes le (λ up. up))))
+crash_performs r left s t step shelf (Err reopen.Memory) result at alike told comes rose le stands =
+    subst (λ (x : Result (Vec Report Global) Halt). Performs r left step x s t) (sym told) (inr (shelf, (at, le, stands)))
+crash_performs r left s t step shelf (Err reopen.Disk) result at alike told comes rose le stands =
+    subst (λ (x : Result (Vec Report Global) Halt). Performs r left step x s t) (sym told) ((at, le, stands), rose refl)
+crash_performs r left s t step shelf (Err (reopen.Damaged place)) result at alike told comes rose le stands =
+    subst (λ (x : Result (Vec Report Global) Halt). Performs r left step x s t) (sym told) (at, le, stands)
+crash_performs r left s t step shelf (Err (reopen.Other place)) result at alike told comes rose le stands =
+    subst (λ (x : Result (Vec Report Global) Halt). Performs r left step x s t) (sym told) (at, le, stands)
+crash_performs r left s t step shelf (Err (reopen.Full len)) result at alike told comes rose le stands =
+    subst (λ (x : Result (Vec Report Global) Halt). Performs r left step x s t) (sym told) (at, le, stands)
+
+-- a crash that an edit brings tells what a crash tells
+crash_again : (r : StageRules) (s t : Spot r) (shelf : ℕ) (told : List Report) → Came r s (crash shelf) told t → Came r s (crash_edited shelf) told t
+crash_again r s t shelf told came = record { fates = came.fates; is = came.is; risen = came.risen }
+
+-- the step is a crash of this shelf, or one that an edit brings
+abbrev pub IsCrashOf : Step → (shelf : ℕ) → Type 0
+IsCrashOf step shelf = (step ≡ crash shelf) ⊎ (step ≡ crash_edited shelf)
+
+pub told_either : (disk_tells : Bool) (step : Step) (shelf : ℕ) → IsCrashOf step shelf → is_told disk_tells (Some step ∷ []) ≡ true → IsTrue disk_tells
+told_either disk_tells step shelf (inl is) known = told_crash disk_tells step (ap (λ (s : Step). is_crash (Some s)) is) known
+told_either disk_tells step shelf (inr is) known = told_crash disk_tells step (ap (λ (s : Step). is_crash (Some s)) is) known
+
+pub either_performs : (r : StageRules) (left : r.State → ℕ → Reopen → Type 0) (s t : Spot r) (step : Step) (shelf : ℕ) (opened : Result ℕ Reopen)
+    (result : Result (Vec Report Global) Halt) → IsCrashOf step shelf
+    → TellsCrash shelf opened result → IfOk opened (λ live. Crashes r (Rose s.faults t.faults) s.state shelf live t.state)
+    → (IsErrOf opened reopen.Disk → Rose s.faults t.faults) → s.faults ≤ t.faults → IfErr opened (left s.state shelf)
+    → Performs r left step result s t
+either_performs r left s t step shelf opened result (inl is) told comes rose le stands =
+    subst (λ (x : Step). Performs r left x result s t) (sym is)
+    (crash_performs r left s t (crash shelf) shelf opened result refl (λ told came. came) told comes rose le stands)
+either_performs r left s t step shelf opened result (inr is) told comes rose le stands =
+    subst (λ (x : Step). Performs r left x result s t) (sym is)
+    (crash_performs r left s t (crash_edited shelf) shelf opened result refl (crash_again r s t shelf) told comes rose le stands)

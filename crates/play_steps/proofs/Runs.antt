@@ -1,15 +1,19 @@
 -- A run, step after step.
-use Rattle.std.proofs.Common.{◌≡◌, ◌≤◌, ◌+◌, ◌++◌, ℕ, List, [], ◌∷◌, Option, Some, None, true, false, if◌then◌else◌, append_assoc, append-nil, Bool, ⊎_elim, inl, inr, sym, ap, ◌∙◌, refl, subst}
+use Rattle.std.proofs.Common.{◌≡◌, ◌+◌, ◌++◌, ℕ, List, [], ◌∷◌, Option, Some, None, true, false, if◌then◌else◌, append_assoc, append-nil, Bool, ⊎_elim, inl, inr, sym, ap, ◌∙◌, refl, subst}
+use Rattle.std.specs.Prelude.{is_some, unwrap_or}
 use Rattle.std.specs.Io.KnownBytes.{Appends}
 use Rattle.web_outside.specs.Pieces.{AppendsPart}
 use Rattle.web_outside.proofs.Writes.{appends_none, appends_then, longer_part, whole_part}
 use Rattle.play_steps.specs.Rules.{StageRules}
-use Rattle.play_steps.specs.Step.{Step, take, publish, get, tick, crash, is_told, lines_in}
+use Rattle.play_steps.specs.Step.{Step, take, publish, get, tick, crash, edit, crash_edited, is_told, lines_in, with_crashes}
 use Rattle.play_steps.specs.Texts.{report_text, print}
 use Rattle.play_steps.specs.Transcript.{Run, went, stopped, behind, goes_on, done, bad_line, transcript, fits, performed, text_of}
-use Rattle.play_steps.specs.Played.{Scene, Spot, HasRisen, Crashed, Goes, Plays, Halts, Loses, HaltsBy, Leaves, end_of}
+use Rattle.play_steps.specs.Played.{Scene, Spot, HasRisen, Crashed, Goes, Plays, Halts, Loses, Waits, HaltsBy, IsUntried, Stops, Turns, TurnsEdit, Leaves, end_of}
 use Rattle.play_steps.specs.declared.report.Report.{Report}
+use Rattle.play_steps.specs.declared.stage.Reopen.{Reopen}
 use Rattle.play_steps.specs.declared.stage.Reopen.TheVariants as reopen
+use Rattle.play_steps.specs.declared.run.Turn.{Turn}
+use Rattle.play_steps.specs.declared.run.Turn.TheVariants as turns
 use Rattle.play_steps.specs.declared.performing.Halt.{Halt}
 use Rattle.play_steps.specs.declared.performing.Halt.TheVariants as halt
 use Rattle.play_steps.proofs.Risings.{stays_risen, rises_then}
@@ -244,49 +248,120 @@ halted r all start here there number step left told g reached shown hidden split
     }
 
 -- the run lost a shelf, which crashed
-pub lost : (r : StageRules) (left_of : r.State → ℕ → Type 0) (all : List (Option Step)) (start here there : Scene r) (number shelf : ℕ) (left : List (Option Step))
-    → fits r (crash shelf) here.spot.state ≡ true → here.spot.faults ≤ there.spot.faults → left_of here.spot.state shelf
-    → Reached r all start here number (Some (crash shelf) ∷ left) → there.written ≡ here.written → Loses r left_of all shelf start there
-lost r left_of all start here there number shelf left fitting later stands reached same = record {
+pub lost : (r : StageRules) (left_of : r.State → ℕ → Reopen → Type 0) (all : List (Option Step)) (start here there : Scene r) (number : ℕ) (step : Step)
+    (shelf : ℕ) (why : Reopen) (left : List (Option Step)) → Crashed r left_of step shelf why here.spot there.spot → fits r step here.spot.state ≡ true
+    → Reached r all start here number (Some step ∷ left) → there.written ≡ here.written → Loses r left_of all shelf why start there
+lost r left_of all start here there number step shelf why left is fitting reached same = record {
   front = reached.front;
+  step = step;
   rest = left;
   cut = reached.cut;
+  crashed = is.0;
   fates = reached.fates;
   told = reached.told;
   middle = here.spot;
-  is = so_far r all start here number (Some (crash shelf) ∷ left) reached;
+  is = so_far r all start here number (Some step ∷ left) reached;
   risen = reached.risen;
-  later = later;
+  later = is.1;
   fitting = fitting;
-  stands = stands;
+  stands = is.2;
   written = subst (λ w. Appends start.written w (print reached.told)) (sym same) reached.written;
 }
 
-lost_at : (r : StageRules) (left_of : r.State → ℕ → Type 0) (all : List (Option Step)) (start here there : Scene r) (number : ℕ) (step : Step) (shelf : ℕ)
-    (left : List (Option Step)) → Crashed r left_of step shelf here.spot there.spot → fits r step here.spot.state ≡ true
-    → Reached r all start here number (Some step ∷ left) → there.written ≡ here.written → Loses r left_of all shelf start there
-lost_at r left_of all start here there number step shelf left is fitting reached same =
-    lost r left_of all start here there number shelf left (ap (λ (x : Step). fits r x here.spot.state) (sym is.0) ∙ fitting) is.1 is.2
-    (subst (λ (x : Step). Reached r all start here number (Some x ∷ left)) is.0 reached) same
-
--- the run halted at a step, of which nothing was told
-pub stops : (r : StageRules) (left_of : r.State → ℕ → Type 0) (all : List (Option Step)) (start here there : Scene r) (number : ℕ) (step : Step)
+-- the run halted at a step that fits, of which nothing was told
+halts : (r : StageRules) (left_of : r.State → ℕ → Reopen → Type 0) (all : List (Option Step)) (start here there : Scene r) (number : ℕ) (step : Step)
     (left : List (Option Step)) (why : Halt) → fits r step here.spot.state ≡ true → HaltsBy r left_of step why here.spot there.spot
     → there.written ≡ here.written → Reached r all start here number (Some step ∷ left) → Leaves r left_of all (end_of why) start there
-unfolding lost lost_at
-stops r left_of all start here there number step left halt.Memory fitting halts same reached =
+unfolding lost
+halts r left_of all start here there number step left halt.Memory fitting by same reached =
     ⊎_elim
     (λ tells.
     let nothing = subst (λ w. Appends here.written w []) (sym same) (appends_none here.written) in
     inl (halted r all start here there number step left tells.0 (record { fitting = fitting; came = tells.1 }) reached [] (print tells.0) refl nothing))
-    (λ crashes. inr (crashes.0, lost_at r left_of all start here there number step crashes.0 left crashes.1 fitting reached same)) halts
-stops r left_of all start here there number step left (halt.Reopen shelf reopen.Memory) fitting halts same reached = absurd halts
-stops r left_of all start here there number step left (halt.Reopen shelf reopen.Disk) fitting halts same reached =
-    record { loses = lost_at r left_of all start here there number step shelf left halts.0 fitting reached same; rose = halts.1 }
-stops r left_of all start here there number step left (halt.Reopen shelf (reopen.Damaged place)) fitting halts same reached =
-    lost_at r left_of all start here there number step shelf left halts fitting reached same
-stops r left_of all start here there number step left (halt.Reopen shelf (reopen.Other place)) fitting halts same reached =
-    lost_at r left_of all start here there number step shelf left halts fitting reached same
+    (λ crashes. inr (inl (crashes.0, lost r left_of all start here there number step crashes.0 reopen.Memory left crashes.1 fitting reached same))) by
+halts r left_of all start here there number step left (halt.Reopen shelf reopen.Memory) fitting by same reached = absurd by
+halts r left_of all start here there number step left (halt.Reopen shelf reopen.Disk) fitting by same reached =
+    record { loses = lost r left_of all start here there number step shelf reopen.Disk left by.0 fitting reached same; rose = by.1 }
+halts r left_of all start here there number step left (halt.Reopen shelf (reopen.Damaged place)) fitting by same reached =
+    lost r left_of all start here there number step shelf (reopen.Damaged place) left by fitting reached same
+halts r left_of all start here there number step left (halt.Reopen shelf (reopen.Other place)) fitting by same reached =
+    lost r left_of all start here there number step shelf (reopen.Other place) left by fitting reached same
+halts r left_of all start here there number step left (halt.Reopen shelf (reopen.Full len)) fitting by same reached =
+    lost r left_of all start here there number step shelf (reopen.Full len) left by fitting reached same
+
+-- the run came to an edit that was not tried
+waits : (r : StageRules) (all : List (Option Step)) (start here there : Scene r) (number : ℕ) (name text : List ℕ) (left : List (Option Step))
+    → there.spot ≡ here.spot → there.written ≡ here.written → Reached r all start here number (Some (edit name text) ∷ left) → Waits r all start there
+waits r all start here there number name text left still same reached = record {
+  front = reached.front;
+  name = name;
+  text = text;
+  rest = left;
+  cut = reached.cut;
+  fates = reached.fates;
+  told = reached.told;
+  is = so_far r all start here number (Some (edit name text) ∷ left) reached ∙ ap (λ (x : Spot r). went r reached.told x.state []) (sym still);
+  risen = subst (λ (x : Spot r). HasRisen r reached.fates start.spot.faults x.faults) (sym still) reached.risen;
+  written = subst (λ w. Appends start.written w (print reached.told)) (sym same) reached.written;
+}
+
+untried : (r : StageRules) (left_of : r.State → ℕ → Reopen → Type 0) (all : List (Option Step)) (start here there : Scene r) (number : ℕ) (step : Step)
+    (left : List (Option Step)) (why : Halt) → IsUntried r step why here.spot there.spot
+    → there.written ≡ here.written → Reached r all start here number (Some step ∷ left) → Leaves r left_of all (end_of why) start there
+untried r left_of all start here there number (edit name text) left halt.Memory is same reached =
+    inr (inr (waits r all start here there number name text left is same reached))
+untried r left_of all start here there number (edit name text) left (halt.Reopen shelf why) is same reached = absurd is
+untried r left_of all start here there number (take worker target) left why is same reached = absurd is
+untried r left_of all start here there number (publish worker) left why is same reached = absurd is
+untried r left_of all start here there number (get worker target) left why is same reached = absurd is
+untried r left_of all start here there number (tick time) left why is same reached = absurd is
+untried r left_of all start here there number (crash shelf) left why is same reached = absurd is
+untried r left_of all start here there number (crash_edited shelf) left why is same reached = absurd is
+
+-- the run stopped at a step, of which nothing was told
+pub stops : (r : StageRules) (left_of : r.State → ℕ → Reopen → Type 0) (all : List (Option Step)) (start here there : Scene r) (number : ℕ) (step : Step)
+    (left : List (Option Step)) (why : Halt) → Stops r left_of step why here.spot there.spot
+    → there.written ≡ here.written → Reached r all start here number (Some step ∷ left) → Leaves r left_of all (end_of why) start there
+stops r left_of all start here there number step left why (inl (fitting, by)) same reached =
+    halts r left_of all start here there number step left why fitting by same reached
+stops r left_of all start here there number step left why (inr is) same reached =
+    untried r left_of all start here there number step left why is same reached
+
+-- what an edit came to is what the step came to
+pub edit_turns : (r : StageRules) (left_of : r.State → ℕ → Reopen → Type 0) (name text : List ℕ) (turn : Turn) (before after : Scene r)
+    → TurnsEdit r name text turn before.spot after.spot → after.written ≡ before.written → Turns r left_of (edit name text) turn before after
+edit_turns r left_of name text turns.Went before after is same =
+    let fates : List r.Fate = [] in (
+      [],
+      record {
+        fitting = ap is_some is.0;
+        came = record {
+          fates = fates;
+          is = λ later. ap (λ (o : Option r.State). went r [] (unwrap_or o before.spot.state) later) is.0;
+          risen = subst (λ n. HasRisen r fates before.spot.faults n) (sym is.1) (stays_risen r before.spot.faults);
+        };
+      },
+      subst (λ w. Appends before.written w []) (sym same) (appends_none before.written),
+    )
+edit_turns r left_of name text turns.NoFit before after is same = (ap is_some is.0, λ at. record { written = same at; spot = is.1 at })
+edit_turns r left_of name text turns.Write before after is same = absurd is
+edit_turns r left_of name text (turns.Halted halt.Memory) before after is same = (inr is, same)
+edit_turns r left_of name text (turns.Halted (halt.Reopen shelf why)) before after is same = absurd is
+
+-- an edit writes nothing, and no shelf is lost by it
+pub never_written : (r : StageRules) (name text : List ℕ) (turn : Turn) (s t : Spot r) → TurnsEdit r name text turn s t → turn ≡ turns.Write → ⊥
+never_written r name text turns.Went s t is e = cc
+never_written r name text turns.NoFit s t is e = cc
+never_written r name text turns.Write s t is e = is
+never_written r name text (turns.Halted why) s t is e = cc
+
+pub never_lost : (r : StageRules) (name text : List ℕ) (turn : Turn) (s t : Spot r) (shelf : ℕ) (why : Reopen) → TurnsEdit r name text turn s t
+    → turn ≡ turns.Halted (halt.Reopen shelf why) → ⊥
+never_lost r name text turns.Went s t shelf why is e = cc
+never_lost r name text turns.NoFit s t shelf why is e = cc
+never_lost r name text turns.Write s t shelf why is e = is
+never_lost r name text (turns.Halted halt.Memory) s t shelf why is e = cc
+never_lost r name text (turns.Halted (halt.Reopen k cause)) s t shelf why is e = is
 
 first_told : (step : Step) (left : List (Option Step)) → is_told false (Some step ∷ left) ≡ true → is_told false (Some step ∷ []) ≡ true
 first_told (take worker target) left known = refl
@@ -294,6 +369,8 @@ first_told (publish worker) left known = refl
 first_told (get worker target) left known = refl
 first_told (tick time) left known = refl
 first_told (crash shelf) left known = absurd (let no : ⊥ = cc in no)
+first_told (edit name text) left known = absurd (let no : ⊥ = cc in no)
+first_told (crash_edited shelf) left known = absurd (let no : ⊥ = cc in no)
 
 rest_told : (step : Option Step) (left : List (Option Step)) → is_told false (step ∷ left) ≡ true → is_told false left ≡ true
 rest_told None left known = known
@@ -302,6 +379,8 @@ rest_told (Some (publish worker)) left known = known
 rest_told (Some (get worker target)) left known = known
 rest_told (Some (tick time)) left known = known
 rest_told (Some (crash shelf)) left known = absurd (let no : ⊥ = cc in no)
+rest_told (Some (edit name text)) left known = absurd (let no : ⊥ = cc in no)
+rest_told (Some (crash_edited shelf)) left known = absurd (let no : ⊥ = cc in no)
 
 -- what is known of the steps of a run is known of the next one
 pub next_told : (disk_tells : Bool) (front left : List (Option Step)) (all : List (Option Step)) (step : Step) → all ≡ front ++ Some step ∷ left
@@ -312,3 +391,23 @@ next_told false [] left all step cut known =
 next_told false (s ∷ front) left all step cut known =
     let whole = subst (λ (x : List (Option Step)). is_told false x ≡ true) cut known in
     next_told false front left (front ++ Some step ∷ left) step refl (rest_told s (front ++ Some step ∷ left) whole)
+
+-- so is what is known of the steps that are given, with the crashes that edits bring
+crashes_told : (disk_tells : Bool) (shelves : ℕ) (steps : List (Option Step)) → is_told disk_tells steps ≡ true
+    → is_told disk_tells (with_crashes shelves steps) ≡ true
+crashes_told true shelves steps known = refl
+crashes_told false shelves [] known = refl
+crashes_told false shelves (None ∷ steps) known = crashes_told false shelves steps known
+crashes_told false shelves (Some (take worker target) ∷ steps) known = crashes_told false shelves steps known
+crashes_told false shelves (Some (publish worker) ∷ steps) known = crashes_told false shelves steps known
+crashes_told false shelves (Some (get worker target) ∷ steps) known = crashes_told false shelves steps known
+crashes_told false shelves (Some (tick time) ∷ steps) known = crashes_told false shelves steps known
+crashes_told false shelves (Some (crash shelf) ∷ steps) known = absurd (let no : ⊥ = cc in no)
+crashes_told false shelves (Some (edit name text) ∷ steps) known = absurd (let no : ⊥ = cc in no)
+crashes_told false shelves (Some (crash_edited shelf) ∷ steps) known = absurd (let no : ⊥ = cc in no)
+
+-- what is known of the steps that are given is known of the next one of a run
+pub played_told : (tells : Bool) (shelves : ℕ) (steps front left : List (Option Step)) (step : Step)
+    → with_crashes shelves steps ≡ front ++ Some step ∷ left → is_told tells steps ≡ true → is_told tells (Some step ∷ []) ≡ true
+played_told tells shelves steps front left step cut known =
+    next_told tells front left (with_crashes shelves steps) step cut (crashes_told tells shelves steps known)

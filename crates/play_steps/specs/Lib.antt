@@ -4,6 +4,7 @@ pub mod Reports
 pub mod Texts
 pub mod Transcript
 pub mod Views
+pub mod Courses
 pub mod Played
 pub mod Laws
 pub mod Vectors

@@ -1,5 +1,5 @@
 -- What a stage's calls do.
-use Rattle.std.specs.Prelude.{◌≡◌, ◌≤◌, ℕ, Bool, true, List, Result}
+use Rattle.std.specs.Prelude.{◌≡◌, ◌≤◌, ℕ, Bool, true, false, List, Option, Some, None, Result}
 use Rattle.web_outside.specs.Causes.{Rose}
 use Rattle.script_value.specs.declared.outcome.Reply.{Reply}
 
@@ -10,7 +10,8 @@ pub data Call (State Fate Answer : Type 0) : Type 0 where
   event : (by : Fate → Answer × State) → Call State Fate Answer
 
 -- What each call of a stage comes to. Most fates are plain; a fate that fails is that of an event at which a device failed. A crash
--- answers how many instances are live after it.
+-- answers how many instances are live after it. An edit is no event: it gives the state with the script's new text, or none where it
+-- does not fit.
 pub record StageRules : Type 1 where
   pub State : Type 0
   pub Fate : Type 0
@@ -22,6 +23,7 @@ pub record StageRules : Type 1 where
   pub publish : State → ℕ → Call State Fate Reply
   pub sweep : State → ℕ → ℕ → Call State Fate (Result ℕ Reply)
   pub crash : State → ℕ → Call State Fate ℕ
+  pub edit : State → (name text : List ℕ) → Option State
 
 -- A call answers this and leaves this state: for some fate, where it is an event. The fate fails only where that rose.
 abbrev pub Comes : {State Fate Answer : Type 0} → (fails : Fate → Bool) → (rose : Type 0) → Call State Fate Answer
@@ -46,6 +48,11 @@ Sweeps r rose old shelf tick result new = Comes r.fails rose (r.sweep old shelf 
 abbrev pub Crashes : (r : StageRules) → (rose : Type 0) → r.State → (shelf live : ℕ) → r.State → Type 0
 Crashes r rose old shelf live new = Comes r.fails rose (r.crash old shelf) old live new
 
+-- an edit of a script answers whether it fits, and leaves this state: as it was, where it does not fit
+abbrev pub Edits : (r : StageRules) → r.State → (name text : List ℕ) → Bool → r.State → Type 0
+Edits r old name text true new = r.edit old name text ≡ Some new
+Edits r old name text false new = (r.edit old name text ≡ None) × (new ≡ old)
+
 -- over any devices the count of faults rose
 abbrev pub RoseOver : {Devices : Type 0} → (before now : Devices → ℕ) → Type 0
 RoseOver {Devices = Devices} before now = (devices : Devices) → Rose (before devices) (now devices)
@@ -53,6 +60,10 @@ RoseOver {Devices = Devices} before now = (devices : Devices) → Rose (before d
 -- over any devices the count of faults did not fall
 abbrev pub StaysUp : {Devices : Type 0} → (before now : Devices → ℕ) → Type 0
 StaysUp {Devices = Devices} before now = (devices : Devices) → before devices ≤ now devices
+
+-- over any devices the count of faults is as it was
+abbrev pub StaysAt : {Devices : Type 0} → (before now : Devices → ℕ) → Type 0
+StaysAt {Devices = Devices} before now = (devices : Devices) → now devices ≡ before devices
 
 -- a stage is at home with any devices that it was at home with
 abbrev pub StaysHome : {Devices : Type 0} → (before now : Devices → Type 0) → Type 0

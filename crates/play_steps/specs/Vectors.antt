@@ -1,5 +1,5 @@
 -- Lines and the steps that they are, the texts of replies, and runs over a small stage, computed.
-use Rattle.std.specs.Prelude.{◌≡◌, ℕ, ◌+◌, ◌==◌, Bool, true, false, List, [], ◌∷◌, ◌++◌, map, Some, None, Result, Ok, Err, codes, refl, if◌then◌else◌}
+use Rattle.std.specs.Prelude.{◌≡◌, ℕ, ◌+◌, ◌==◌, Bool, true, false, List, [], ◌∷◌, ◌++◌, length, map, Option, Some, None, Result, Ok, Err, codes, refl, if◌then◌else◌}
 use Rattle.std.specs.Fmt.{digits}
 use Rattle.script_value.specs.declared.outcome.Fault.TheVariants as faults
 use Rattle.script_value.specs.declared.outcome.Refusal.TheVariants as refusals
@@ -8,9 +8,10 @@ use Rattle.script_value.specs.declared.outcome.Reply.TheVariants as replies
 use Rattle.play_steps.specs.declared.report.Report.TheVariants as reports
 use Rattle.play_steps.specs.Reports.{take_report, sweep_report}
 use Rattle.play_steps.specs.Rules.{StageRules, Call, answered, event}
-use Rattle.play_steps.specs.Step.{take, publish, get, tick, crash, aim_of, take_of, publish_of, get_of, tick_of, crash_of, step_of, first_step, steps_of, lines_of}
+use Rattle.play_steps.specs.Step.{take, publish, get, tick, crash, edit, aim_of, take_of, publish_of, get_of, tick_of, crash_of, step_of, edit_head, edit_with, first_step, steps_of, lines_of, lines_in}
 use Rattle.play_steps.specs.Texts.{reply_text, report_text}
 use Rattle.play_steps.specs.Transcript.{Run, End, done, bad_line, text_of, transcript}
+use Rattle.play_steps.specs.Played.{played}
 
 -- lines, each ended by a newline
 abbrev pub lines : List (List ℕ) → List ℕ
@@ -87,8 +88,27 @@ spelled = refl
 pub an_open_line :
     map steps_of (codes "publish 1\npublish 2" ∷ codes "publish 1\n\npublish 2\n" ∷ [])
     ≡ (Some (publish 1) ∷ None ∷ []) ∷ (Some (publish 1) ∷ None ∷ []) ∷ []
-unfolding steps_of first_step step_of take_of publish_of get_of tick_of crash_of aim_of
+unfolding steps_of first_step edit_head edit_with step_of take_of publish_of get_of tick_of crash_of aim_of
 an_open_line = refl
+
+-- an edit has its text behind its line, with newlines in it or none, and a newline behind it
+pub edits :
+    map steps_of (codes "edit a 3\nx\ny\ntick 7\n" ∷ codes "edit b-1 0\n\n" ∷ [])
+    ≡ (Some (edit (codes "a") (codes "x\ny")) ∷ Some (tick 7) ∷ []) ∷ (Some (edit (codes "b-1") []) ∷ []) ∷ []
+unfolding steps_of first_step edit_head edit_with step_of take_of publish_of get_of tick_of crash_of aim_of
+edits = refl
+
+-- a text that is cut short, one behind which another byte stands than a newline, and lengths with a leading zero or above the most
+pub no_edits :
+    map steps_of (codes "edit a 3\nxy\n" ∷ codes "edit a 2\nxyz\n" ∷ codes "edit a 2\nxy" ∷ codes "edit a 02\nxy\n" ∷ codes "edit a\n\n"
+    ∷ codes "edit a 16777217\nxy\n" ∷ [])
+    ≡ (None ∷ []) ∷ (None ∷ []) ∷ (None ∷ []) ∷ (None ∷ []) ∷ (None ∷ []) ∷ (None ∷ []) ∷ []
+unfolding steps_of first_step edit_head edit_with step_of take_of publish_of get_of tick_of crash_of aim_of
+no_edits = refl
+
+-- the line of an edit, those of its text and the newline behind it
+pub lines_of_edits : map lines_in (edit (codes "a") (codes "x\ny") ∷ edit (codes "a") [] ∷ edit (codes "a") (codes "\n\n") ∷ tick 7 ∷ []) ≡ 3 ∷ 2 ∷ 4 ∷ 1 ∷ []
+lines_of_edits = refl
 
 pub no_lines : steps_of [] ≡ []
 unfolding steps_of
@@ -104,8 +124,8 @@ pages = refl
 -- a target that is not admitted
 pub refused :
     map (λ r. reply_text 0 (replies.Refused r))
-    (refusals.Unknown ∷ refusals.Revoked ∷ refusals.Closed (record { ticket = 7; entry = 1 }) ∷ refusals.Expired 60 ∷ [])
-    ≡ codes "0 404 unknown\n" ∷ codes "0 410 revoked\n" ∷ codes "0 410 closed\n" ∷ codes "0 410 expired\n" ∷ []
+    (refusals.Unknown ∷ refusals.Revoked ∷ refusals.Closed (record { ticket = 7; entry = 1 }) ∷ refusals.Evicted 3 ∷ refusals.Expired 60 ∷ [])
+    ≡ codes "0 404 unknown\n" ∷ codes "0 410 revoked\n" ∷ codes "0 410 closed\n" ∷ codes "0 410 evicted\n" ∷ codes "0 410 expired\n" ∷ []
 unfolding reply_text digits
 refused = refl
 
@@ -121,9 +141,9 @@ faulted = refl
 -- what the shelf has no room or no strength for
 pub not_served :
     map (reply_text 2)
-    (replies.Fuel 9 ∷ replies.ShelfFull 1 ∷ replies.InstanceFull 1 ∷ replies.Oversize 1048577 ∷ replies.JournalFull 9 ∷ replies.DiskFault 1
+    (replies.Fuel 9 ∷ replies.ShelfFull 1 ∷ replies.Oversize 1048577 ∷ replies.JournalFull 9 ∷ replies.DiskFault 1
     ∷ replies.Down 1 ∷ replies.Worn ∷ replies.Memory ∷ [])
-    ≡ codes "2 503 fuel\n" ∷ codes "2 503 shelf-full\n" ∷ codes "2 503 instance-full\n" ∷ codes "2 500 oversize\n" ∷ codes "2 503 journal-full\n"
+    ≡ codes "2 503 fuel\n" ∷ codes "2 503 shelf-full\n" ∷ codes "2 500 oversize\n" ∷ codes "2 503 journal-full\n"
     ∷ codes "2 503 disk\n" ∷ codes "2 503 down\n" ∷ codes "2 503 worn\n" ∷ codes "2 503 memory\n" ∷ []
 unfolding reply_text digits
 not_served = refl
@@ -194,6 +214,11 @@ desk_sweep d shelf time = event (λ luck. swept d time luck)
 abbrev desk_crash : Desk → ℕ → Call Desk Luck ℕ
 desk_crash d shelf = event (λ luck. crashed d luck)
 
+-- an edit of a script whose name begins with `a` sets the number that is drawn next to how long the text is; no other fits
+abbrev desk_edit : Desk → (name text : List ℕ) → Option Desk
+desk_edit d [] text = None
+desk_edit d (b ∷ bytes) text = if b == 97 then Some (record { next = length text; holders = d.holders }) else None
+
 abbrev desk : StageRules
 desk = record {
   State = Desk;
@@ -206,6 +231,7 @@ desk = record {
   publish = desk_publish;
   sweep = desk_sweep;
   crash = desk_crash;
+  edit = desk_edit;
 }
 
 abbrev at : ℕ → List ℕ → Desk
@@ -216,27 +242,27 @@ abbrev seen : Run desk → List ℕ × End × Desk × List Luck
 seen run = (text_of run, run.end, run.state, run.fates)
 
 abbrev of_lines : List (List ℕ) → List Luck → List ℕ × End × Desk × List Luck
-of_lines ls fates = seen (transcript desk (at 0 []) 1 (steps_of (lines ls)) fates)
+of_lines ls fates = seen (transcript desk (at 0 []) 1 (played desk (at 0 []) (lines ls)) fates)
 
 -- two workers take and publish in another order, and one of them never does
 pub two_workers :
     of_lines (codes "take 0 /a" ∷ codes "take 1 /a" ∷ codes "take 2 /b" ∷ codes "publish 1" ∷ codes "publish 0" ∷ []) []
     ≡ (lines (codes "0 taken 0" ∷ codes "1 taken 1" ∷ codes "2 taken 2" ∷ codes "1 200 2" ∷ codes "hi" ∷ codes "0 200 2" ∷ codes "hi" ∷ []), done, at 3 (2 ∷ []), [])
-unfolding transcript steps_of first_step step_of take_of publish_of get_of tick_of crash_of aim_of report_text reply_text digits
+unfolding transcript steps_of first_step edit_head edit_with step_of take_of publish_of get_of tick_of crash_of aim_of report_text reply_text digits
 two_workers = refl
 
 -- Fates are one an event: of a get whose take is refused one is used, and of another two. What is left is left.
 pub fates_of_gets :
     of_lines (codes "get 0 /a" ∷ codes "get 0 /a" ∷ codes "get 0 /a" ∷ []) (bad ∷ good ∷ bad ∷ good ∷ good ∷ bad ∷ [])
     ≡ (lines (codes "0 503 worn" ∷ codes "0 503 memory" ∷ codes "0 200 2" ∷ codes "hi" ∷ []), done, at 2 [], bad ∷ [])
-unfolding transcript steps_of first_step step_of take_of publish_of get_of tick_of crash_of aim_of report_text reply_text digits
+unfolding transcript steps_of first_step edit_head edit_with step_of take_of publish_of get_of tick_of crash_of aim_of report_text reply_text digits
 fates_of_gets = refl
 
 -- a tick sweeps the shelves in their order, also after one that is not swept; a fate that is not listed is plain
 pub a_tick :
     of_lines (codes "tick 7" ∷ codes "tick 8" ∷ []) (bad ∷ good ∷ good ∷ [])
     ≡ (lines (codes "shelf 0 503 down" ∷ codes "shelf 1 swept 7" ∷ codes "shelf 0 swept 8" ∷ codes "shelf 1 swept 8" ∷ []), done, at 3 [], [])
-unfolding transcript steps_of first_step step_of take_of publish_of get_of tick_of crash_of aim_of report_text reply_text digits
+unfolding transcript steps_of first_step edit_head edit_with step_of take_of publish_of get_of tick_of crash_of aim_of report_text reply_text digits
 a_tick = refl
 
 -- a publish needs a ticket, and a take or a get needs that the worker holds none; a refused take gives none
@@ -249,21 +275,21 @@ pub not_fitting :
     ∷ (lines (codes "0 503 worn" ∷ codes "1 taken 0" ∷ []), bad_line 3, at 1 (1 ∷ []), [])
     ∷ (lines (codes "1 503 worn" ∷ codes "1 taken 0" ∷ codes "shelf 0 swept 0" ∷ codes "shelf 1 swept 0" ∷ []), bad_line 4, at 3 (1 ∷ []), [])
     ∷ (lines (codes "shelf 0 503 down" ∷ codes "shelf 1 swept 0" ∷ codes "1 taken 1" ∷ []), bad_line 3, at 2 (1 ∷ []), []) ∷ []
-unfolding transcript steps_of first_step step_of take_of publish_of get_of tick_of crash_of aim_of report_text reply_text digits
+unfolding transcript steps_of first_step edit_head edit_with step_of take_of publish_of get_of tick_of crash_of aim_of report_text reply_text digits
 not_fitting = refl
 
 -- a line that is no step ends the run: the replies before it stand, and nothing after it is played
 pub a_bad_line :
     of_lines (codes "get 0 /a" ∷ codes "get 16 /a" ∷ codes "get 0 /a" ∷ []) (good ∷ good ∷ bad ∷ [])
     ≡ (lines (codes "0 200 2" ∷ codes "hi" ∷ []), bad_line 2, at 1 [], bad ∷ [])
-unfolding transcript steps_of first_step step_of take_of publish_of get_of tick_of crash_of aim_of report_text reply_text digits
+unfolding transcript steps_of first_step edit_head edit_with step_of take_of publish_of get_of tick_of crash_of aim_of report_text reply_text digits
 a_bad_line = refl
 
 -- a take that names nothing is answered without an event: the fates are there for the events after it
 pub no_event :
     of_lines (codes "take 0 #a" ∷ codes "get 0 #a" ∷ codes "get 0 /a" ∷ []) (bad ∷ good ∷ [])
     ≡ (lines (codes "0 404 unknown" ∷ codes "0 404 unknown" ∷ codes "0 503 worn" ∷ []), done, at 0 [], good ∷ [])
-unfolding transcript steps_of first_step step_of take_of publish_of get_of tick_of crash_of aim_of report_text reply_text digits
+unfolding transcript steps_of first_step edit_head edit_with step_of take_of publish_of get_of tick_of crash_of aim_of report_text reply_text digits
 no_event = refl
 
 -- A crash takes one fate, and its tickets are gone; the shelf 2 is not there, and the run ends at its line.
@@ -271,5 +297,13 @@ pub crashes :
     of_lines (codes "take 0 /a" ∷ codes "take 1 /a" ∷ codes "crash 1" ∷ codes "take 0 /b" ∷ codes "crash 0" ∷ codes "crash 2" ∷ codes "tick 1" ∷ [])
     (good ∷ good ∷ good ∷ good ∷ bad ∷ bad ∷ [])
     ≡ (lines (codes "0 taken 0" ∷ codes "1 taken 1" ∷ codes "shelf 1 live 2" ∷ codes "0 taken 2" ∷ codes "shelf 0 live 0" ∷ []), bad_line 6, at 0 [], bad ∷ [])
-unfolding transcript steps_of first_step step_of take_of publish_of get_of tick_of crash_of aim_of report_text reply_text digits
+unfolding transcript steps_of first_step edit_head edit_with step_of take_of publish_of get_of tick_of crash_of aim_of report_text reply_text digits
 crashes = refl
+
+-- An edit brings the crash of each shelf, in order, each with a fate. Lines are counted inside its text too, and an edit that does not fit
+-- ends the run at its own line.
+pub edits_crash :
+    of_lines (codes "take 0 /a" ∷ codes "edit a 3" ∷ codes "x" ∷ codes "y" ∷ codes "take 0 /b" ∷ codes "edit b 0" ∷ [] ∷ []) (good ∷ good ∷ bad ∷ bad ∷ [])
+    ≡ (lines (codes "0 taken 0" ∷ codes "shelf 0 live 3" ∷ codes "shelf 1 live 0" ∷ codes "0 503 worn" ∷ []), bad_line 6, at 0 [], [])
+unfolding transcript steps_of first_step edit_head edit_with step_of take_of publish_of get_of tick_of crash_of aim_of report_text reply_text digits
+edits_crash = refl

@@ -1,6 +1,6 @@
-ghost use Rattle.std.specs.Prelude.{◌≡◌, ◌≤◌, ◌<◌, ◌^◌, ◌∷◌, [], ℕ, Some, IsTrue, IsErrOf, OnOk, MatchResult, true};
+ghost use Rattle.std.specs.Prelude.{◌≡◌, ◌≤◌, ◌<◌, ◌^◌, ◌∷◌, [], ℕ, IsTrue, IsErrOf, OnOk, true, false};
 ghost use Rattle.web_outside.specs.Causes.{Rose};
-ghost use Rattle.play_steps.specs.Step.{IsTold, IsWithin, tick};
+ghost use Rattle.play_steps.specs.Step.{IsTold, IsWithin, is_edit, tick};
 ghost use Rattle.play_steps.specs.Rules.{KeepsShelves, StaysHome, StaysUp};
 ghost use Rattle.play_steps.specs.Transcript.{fits};
 ghost use Rattle.play_steps.specs.Views.{meaning};
@@ -37,10 +37,12 @@ impl<T: Drop> From<AllocFailed<T>> for Halt {
     }
 }
 
-/// Whether the step fits what the workers hold, and the shelves that there are.
+/// Whether the step fits what the workers hold, and the shelves that there are. An edit is tried
+/// instead.
 pub fn fits<T: Stage>(stage: &T, step: &Step) -> bool
     requires sound { T.sound stage.now }
     requires range { IsWithin (meaning step.now) }
+    requires no_edit { is_edit (meaning step.now) ≡ false }
     ensures { result ≡ fits T.rules (meaning step.now) (T.state stage.now) }
 {
     match step {
@@ -48,7 +50,8 @@ pub fn fits<T: Stage>(stage: &T, step: &Step) -> bool
         Step::Publish { worker } => stage.holds(*worker),
         Step::Get { worker, .. } => !stage.holds(*worker),
         Step::Tick { .. } => true,
-        Step::Crash { shelf } => *shelf < stage.shelves(),
+        Step::Crash { shelf } | Step::CrashEdited { shelf } => *shelf < stage.shelves(),
+        Step::Edit { .. } => unreachable!(),
     }
 }
 
@@ -106,9 +109,9 @@ fn crash_report(alloc: Global, shelf: u32, opened: Result<u32, Reopen>) -> Resul
     }
 }
 
-/// Performs a step that fits, and gives what its events told. Every event of the step takes place,
-/// also where there is no memory for that; but of a shelf that is not opened again nothing more is
-/// known. What is told leaves as many shelves as there were.
+/// Performs a step that fits and is no edit, and gives what its events told. Every event of the step
+/// takes place, also where there is no memory for that; but of a shelf that is not opened again nothing
+/// more is known. What is told leaves as many shelves as there were.
 pub fn perform<T: Stage>(
     alloc: Global,
     stage: &mut T,
@@ -117,6 +120,7 @@ pub fn perform<T: Stage>(
 ) -> Result<Vec<Report>, Halt>
     requires sound { T.sound stage.old }
     requires range { IsWithin (meaning step.now) }
+    requires no_edit { is_edit (meaning step.now) ≡ false }
     requires fitting { fits T.rules (meaning step.now) (T.state stage.old) ≡ true }
     requires home { T.at_home stage.old devices.old }
     ensures came { IsTold T.tells (meaning step.now) → T.own stage.old →
@@ -174,9 +178,10 @@ pub fn perform<T: Stage>(
             ),
         },
         Step::Tick { time } => Ok(sweep_all(alloc, stage, *time)?),
-        Step::Crash { shelf } => {
+        Step::Crash { shelf } | Step::CrashEdited { shelf } => {
             let opened = stage.crash(devices, *shelf);
             crash_report(alloc, *shelf, opened)
         }
+        Step::Edit { .. } => unreachable!(),
     }
 }

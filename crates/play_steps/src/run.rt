@@ -1,14 +1,15 @@
-ghost use Rattle.std.specs.Prelude.{◌≡◌, ◌≤◌, ◌∷◌, [], ℕ, IsTrue, Some, true, false};
+ghost use Rattle.std.specs.Prelude.{◌≡◌, ◌≤◌, ℕ, IsTrue, true, false};
 ghost use Rattle.web_outside.specs.Causes.{Rose};
 ghost use Rattle.play_steps.specs.Step.{IsTold, IsWithin, is_told, steps_of};
-ghost use Rattle.play_steps.specs.Played.{end_of, scene, Leaves, Turns};
-ghost use Rattle.play_steps.specs.Rules.{StaysUp};
+ghost use Rattle.play_steps.specs.Played.{end_of, played, scene, spot, Leaves, Turns, TurnsEdit};
+ghost use Rattle.play_steps.specs.Rules.{StaysAt, StaysHome, StaysUp};
 ghost use Rattle.play_steps.specs.Views.{meaning};
 
+use crate::course::{Course, Next};
 use crate::performing::{Halt, fits, perform};
 use crate::report::print;
 use crate::stage::{Reopen, Stage};
-use crate::step::{Step, read_step};
+use crate::step::Step;
 use std::alloc::Global;
 use web_outside::{Sink, write_all};
 
@@ -47,6 +48,24 @@ enum Turn {
     Halted(Halt),
 }
 
+// Tries an edit.
+fn play_edit<T: Stage>(stage: &mut T, name: &[u8], text: &[u8]) -> Turn
+    requires { T.sound stage.old }
+    ensures turned { (devices : T.Devices) → TurnsEdit T.rules name.now text.now result
+        (spot T.rules (T.state stage.old) (T.faults stage.old devices))
+        (spot T.rules (T.state stage.new) (T.faults stage.new devices)) }
+    ensures sound { T.sound stage.new }
+    ensures own { T.own stage.old → T.own stage.new }
+    ensures home { StaysHome (T.at_home stage.old) (T.at_home stage.new) }
+    ensures same { StaysAt (T.faults stage.old) (T.faults stage.new) }
+{
+    match stage.edit(name, text) {
+        Ok(true) => Turn::Went,
+        Ok(false) => Turn::NoFit,
+        Err(_) => Turn::Halted(Halt::Memory),
+    }
+}
+
 // Plays one step.
 fn play_step<T: Stage, O: Sink>(
     alloc: Global,
@@ -81,6 +100,9 @@ fn play_step<T: Stage, O: Sink>(
     ensures other { IsTrue T.tells → (shelf place : ℕ) →
         result ≡ Turn.Halted (Halt.Reopen shelf (Reopen.Other place)) → ⊥ }
 {
+    if let Step::Edit { name, text } = step {
+        return play_edit(stage, name, text);
+    }
     if !fits(stage, step) {
         return Turn::NoFit;
     }
@@ -99,12 +121,14 @@ fn play_step<T: Stage, O: Sink>(
 
 /// Plays the steps, and writes what each prints.
 ///
+/// Behind an edit comes the crash of every shelf, in order.
+///
 /// For some fates of their events, the sink grows by the transcript of the steps over the stage's
 /// rules, and the stage is left in its last state; this is said of a stage that holds what its own
-/// events left, and not where disks tell nothing and a step is a crash. A line that is no step, or
-/// does not fit, ends the run. A failed write and want of memory for a text end it at a step that was
-/// performed, behind the whole text of all before it. A shelf that crashed and was not opened again
-/// ends it there, behind the same.
+/// events left, and not where disks tell nothing and a step is a crash or an edit. A line that is no
+/// step, or does not fit, ends the run. A failed write and want of memory for a text end it at a step
+/// that was performed, behind the whole text of all before it. A shelf that crashed and was not opened
+/// again ends it there, behind the same; so does an edit that there is no memory to try.
 pub fn play<T: Stage, O: Sink>(
     alloc: Global,
     stage: &mut T,
@@ -115,7 +139,7 @@ pub fn play<T: Stage, O: Sink>(
     requires sound { T.sound stage.old }
     requires home { T.at_home stage.old devices.old }
     ensures ended { is_told T.tells (steps_of text.now) ≡ true → T.own stage.old →
-        Leaves T.rules (T.left devices.new) (steps_of text.now) result
+        Leaves T.rules (T.left devices.new) (played T.rules (T.state stage.old) text.now) result
         (scene T.rules (O.view sink.old).written (T.state stage.old)
         (T.faults stage.old devices.old))
         (scene T.rules (O.view sink.new).written (T.state stage.new)
@@ -138,20 +162,22 @@ pub fn play<T: Stage, O: Sink>(
     ensures other { IsTrue T.tells → (shelf place : ℕ) →
         result ≡ PlayEnd.Reopen shelf (Reopen.Other place) → ⊥ }
 {
+    let mut course = Course::new(text, stage.shelves());
     let mut number = 1u64;
-    let mut rest = text;
-    while !rest.is_empty() {
-        let Some((step, after)) = read_step(rest) else {
-            return PlayEnd::Line(number);
-        };
-        match play_step(alloc, stage, devices, &step, sink) {
-            Turn::Went => {}
-            Turn::NoFit => return PlayEnd::Line(number),
-            Turn::Write => return PlayEnd::Write,
-            Turn::Halted(halt) => return PlayEnd::of(halt),
+    'steps: loop {
+        match course.next() {
+            Next::Over => return PlayEnd::Done,
+            Next::NoStep => return PlayEnd::Line(number),
+            Next::Step(step, after) => {
+                match play_step(alloc, stage, devices, &step, sink) {
+                    Turn::Went => {}
+                    Turn::NoFit => return PlayEnd::Line(number),
+                    Turn::Write => return PlayEnd::Write,
+                    Turn::Halted(halt) => return PlayEnd::of(halt),
+                }
+                course = after;
+                number += step.lines();
+            }
         }
-        rest = after;
-        number += step.lines();
     }
-    PlayEnd::Done
 }

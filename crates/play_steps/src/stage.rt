@@ -1,9 +1,11 @@
-ghost use Rattle.std.specs.Prelude.{◌≡◌, ◌≤◌, ℕ, ◌<◌, ◌^◌, Bool, true, false, IsTrue, IfOk, OnOk, OnErr, IsErrOf};
+ghost use Rattle.std.specs.Prelude.{◌≡◌, ◌≤◌, ℕ, ◌<◌, ◌^◌, Bool, true, false, IsTrue, IfOk, IfErr, OnOk, OnErr, IsErrOf};
 ghost use Rattle.web_outside.specs.Causes.{Rose};
-ghost use Rattle.play_steps.specs.Rules.{StageRules, Takes, Publishes, Sweeps, Crashes, KeepsShelves, RoseOver, StaysUp, StaysHome};
+ghost use Rattle.play_steps.specs.Rules.{StageRules, Takes, Publishes, Sweeps, Crashes, Edits, KeepsShelves, RoseOver, StaysAt, StaysUp, StaysHome};
 ghost use Rattle.play_steps.specs.Step.{workers};
+ghost use Rattle.play_steps.specs.declared.stage.Reopen.{Reopen};
 
 use script_value::Reply;
+use std::alloc::AllocError;
 
 /// Why a shelf was not opened again.
 #[derive(Clone, Copy, Debug, PartialEq, Eq)]
@@ -12,8 +14,10 @@ pub enum Reopen {
     Disk,
     /// What stands at this place of its journal is no record.
     Damaged { place: u64 },
-    /// The record at this place is that of another shelf or of other scripts.
+    /// The record at this place is that of another shelf.
     Other { place: u64 },
+    /// With the setup that it is opened with, its journal would have this length in bytes, too many.
+    Full { len: u64 },
     /// There was no memory for it.
     Memory,
 }
@@ -47,8 +51,9 @@ pub trait Stage {
     /// How often its devices have failed for the disk of each shelf.
     ghost failed: { Self.Devices → ℕ → ℕ };
 
-    /// What its devices hold where this shelf of a state crashed and was not opened again.
-    ghost left: { Self.Devices → rules.State → ℕ → Type 0 };
+    /// What its devices hold where this shelf of a state crashed and was not opened again for this
+    /// cause.
+    ghost left: { Self.Devices → rules.State → (shelf : ℕ) → Reopen → Type 0 };
 
     /// How many shelves there are.
     fn shelves(&self) -> u32
@@ -116,7 +121,7 @@ pub trait Stage {
         ensures sound { sound self.new }
         ensures own { IsTrue tells → own self.old → own self.new }
         ensures left { IsTrue tells → own self.old →
-            OnErr result (left devices.new (state self.old) shelf) }
+            IfErr result (left devices.new (state self.old) shelf) }
         ensures home { at_home self.new devices.new }
         ensures later { faults self.old devices.old ≤ faults self.new devices.new }
         ensures disk { IsErrOf result Reopen.Disk →
@@ -126,4 +131,18 @@ pub trait Stage {
         ensures failed_later { StaysUp (failed devices.old) (failed devices.new) }
         ensures damaged { IsTrue tells → (place : ℕ) → IsErrOf result (Reopen.Damaged place) → ⊥ }
         ensures other { IsTrue tells → (place : ℕ) → IsErrOf result (Reopen.Other place) → ⊥ };
+
+    /// The script of this name has this text from now on, or stands behind the others; a shelf has it
+    /// once it is opened again. False, and nothing changes, exactly where that does not fit. Nothing
+    /// changes either where there is no memory to see that.
+    fn edit(&mut self, name: &[u8], text: &[u8]) -> Result<bool, AllocError>
+        requires { sound self.old }
+        ensures step { IfOk result (λ fits. Edits rules (state self.old) name.now text.now fits
+            (state self.new)) }
+        ensures kept { OnErr result (state self.new ≡ state self.old) }
+        ensures shelves { rules.shelves (state self.new) ≡ rules.shelves (state self.old) }
+        ensures sound { sound self.new }
+        ensures own { own self.old → own self.new }
+        ensures home { StaysHome (at_home self.old) (at_home self.new) }
+        ensures same { StaysAt (faults self.old) (faults self.new) };
 }

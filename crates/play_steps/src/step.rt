@@ -1,4 +1,4 @@
-ghost use Rattle.std.specs.Prelude.{◌≡◌, ◌<◌, ◌^◌, Some, None, true, option_map, IfSome};
+ghost use Rattle.std.specs.Prelude.{◌≡◌, ◌≤◌, ◌<◌, ◌^◌, Some, None, true, length, option_map, IfSome};
 ghost use Rattle.std.specs.List.{list_all};
 ghost use Rattle.script_value.specs.Pieces.{number_below};
 ghost use Rattle.play_steps.specs.Step as spec;
@@ -8,6 +8,9 @@ use script_value::pieces::{behind, cut_at, number, small_number};
 
 /// How many workers hold tickets.
 pub const WORKERS: u32 = 16;
+
+/// How many bytes the text of an edit has at most.
+pub const TEXT_LIMIT: u64 = 16_777_216;
 
 /// A step.
 #[derive(Clone, Copy)]
@@ -22,6 +25,25 @@ pub enum Step<'a> {
     Tick { time: u64 },
     /// The shelf's disk crashes, and the shelf is opened again.
     Crash { shelf: u32 },
+    /// The script of this name has this text from now on, or stands behind the others; the crash of
+    /// every shelf follows.
+    Edit { name: &'a [u8], text: &'a [u8] },
+    /// A crash that follows an edit. No line spells it.
+    CrashEdited { shelf: u32 },
+}
+
+// How many newlines the bytes have.
+fn newlines(bytes: &[u8]) -> u64
+    ensures counted { result ≡ spec.newlines bytes.now }
+    ensures few { result ≤ length bytes.now }
+{
+    let mut count = 0u64;
+    for byte in bytes {
+        if *byte == b'\n' {
+            count += 1;
+        }
+    }
+    count
 }
 
 impl Step<'_> {
@@ -35,6 +57,8 @@ impl Step<'_> {
             | Step::Get { .. }
             | Step::Tick { .. }
             | Step::Crash { .. } => 1,
+            Step::Edit { text, .. } => newlines(text) + 2,
+            Step::CrashEdited { .. } => 0,
         }
     }
 }
@@ -166,9 +190,37 @@ fn parse(line: &[u8]) -> Option<Step>
     crash_of(line)
 }
 
+// The name and the length that the head of an edit spells.
+#[tactic(auto, unfolding(crate::specs::Step::edit_head))]
+fn edit_head(line: &[u8]) -> Option<(&[u8], usize)>
+    ensures spelled { option_map (λ head. (head.0.now, head.1)) result ≡ spec.edit_head line.now }
+{
+    let (name, digits) = cut_at(b' ', behind(b"edit ", line)?)?;
+    let length = number(digits)?;
+    if length <= TEXT_LIMIT {
+        Some((name, length as usize))
+    } else {
+        None
+    }
+}
+
+// The edit whose text the bytes begin with, and the bytes behind the text's newline.
+#[tactic(auto, unfolding(crate::specs::Step::edit_with))]
+fn edit_with<'a>(name: &'a [u8], length: usize, bytes: &'a [u8]) -> Option<(Step<'a>, &'a [u8])>
+    ensures spelled { option_map step_found result ≡ spec.edit_with (name.now, length) bytes.now }
+{
+    if bytes.len() < length {
+        return None;
+    }
+    let (text, rest) = bytes.split_at(length);
+    let rest = behind(b"\n", rest)?;
+    Some((Step::Edit { name, text }, rest))
+}
+
 /// The step at the front of these bytes, and the bytes behind its lines. A step is a line:
 /// `take W TARGET`, `publish W` or `get W TARGET` of a worker below `WORKERS`, `tick T` of a time
-/// below 2^62, in seconds, or `crash S` of a shelf.
+/// below 2^62, in seconds, or `crash S` of a shelf; or the line `edit NAME LENGTH`, so many bytes, at
+/// most `TEXT_LIMIT`, and a newline.
 #[tactic(auto, unfolding(crate::specs::Step::first_step), using(crate::proofs::Within::step_within))]
 pub fn read_step(bytes: &[u8]) -> Option<(Step<'_>, &[u8])>
     ensures spelled { option_map step_found result ≡ spec.first_step bytes.now }
@@ -176,6 +228,8 @@ pub fn read_step(bytes: &[u8]) -> Option<(Step<'_>, &[u8])>
     ensures within { IfSome result (λ found. spec.IsWithin (meaning found.0)) }
 {
     let (line, rest) = cut_at(b'\n', bytes)?;
-    let step = parse(line)?;
-    Some((step, rest))
+    match edit_head(line) {
+        Some((name, length)) => edit_with(name, length, rest),
+        None => Some((parse(line)?, rest)),
+    }
 }

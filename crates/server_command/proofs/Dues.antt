@@ -7,20 +7,21 @@ use Rattle.web_outside.specs.Limits.{most_of_input}
 use Rattle.web_outside.specs.Pieces.{ReadsPast}
 use Rattle.command_words.specs.declared.Command.TheVariants.{Check, Play, Serve, Load}
 use Rattle.command_words.specs.declared.LoadOptions.{LoadOptions}
+use Rattle.command_words.specs.declared.Options.{Options}
 use Rattle.command_words.specs.declared.Service.{Service}
 use Rattle.command_words.specs.declared.Command.{Command}
 use Rattle.command_words.proofs.Holds.{same_asked}
 use Rattle.setup_reader.specs.Setup.{Parsed, Fault, setup_of}
 use Rattle.setup_reader.proofs.Sections.{setup_found}
-use Rattle.play_steps.specs.Step.{steps_of}
 use Rattle.play_steps.specs.Transcript.{End, done, bad_line}
 use Rattle.server_command.specs.declared.program.Status.{Status}
 use Rattle.server_command.specs.declared.program.Status.TheVariants as status
 use Rattle.server_command.specs.Racks.{Racks, AreTaken, Unfit, first_unfit, unfit_new, unfit_left}
-use Rattle.server_command.specs.Output.{Chances, output_of, counted, ending_of, ended, finished, served, written, run_of, unless_shut, loaded, run_loaded, BeforeOpening, at_first, at_crash}
+use Rattle.server_command.specs.Output.{Chances, output_of, counted, ending_of, ended, finished, served, written, run_of, steps_for, unless_shut, loaded, run_loaded, Sinks, BeforeOpening, at_first, at_crash}
+use Rattle.server_command.specs.Remains.{HasOutgrown, TellsOutgrown}
 use Rattle.measured_run.specs.Drawing.{most_steps}
 use Rattle.measured_run.specs.Counting.{line_for}
-use Rattle.server_command.specs.Command.{Met, ReadToEnd, Gives, HasDone, HasServed, Leaves, Settles, TakesDisks, Comes, ComesLoading, ComesServing, ComesTo, EndsAsLoad, ReadsInput, Refuses, Explains, Explained, IsDue, EndsAs, EndsWell, IsLawful, AreFit, JournalsOpen, GoesWell, asked_in, code_of, due, due_to, reached_by, with_setup}
+use Rattle.server_command.specs.Command.{Met, ReadToEnd, Gives, HasDone, HasServed, Leaves, Settles, TakesDisks, Comes, ComesLoading, ComesServing, ComesTo, EndsAsLoad, ReadsInput, Refuses, Explains, Explained, IsDue, EndsAs, EndsOutgrown, EndsWell, IsLawful, AreFit, JournalsOpen, GoesWell, asked_in, code_of, due, due_to, reached_by, with_setup}
 use Rattle.server_command.specs.Serving.{Serves, HaveRisen, LeavesInput, Opens, RackFailed, Shuts}
 use Rattle.setup_reader.specs.declared.setup.Ending.TheVariants.{Input}
 use Rattle.server_command.proofs.Racks.{fit_opens}
@@ -76,6 +77,23 @@ left : (asked : Command) (s : Status) (met : Met) (bytes : List ℕ) (chances : 
     → Leaves met.rack asked bytes s chances met.output
 left asked s met bytes chances e h = known (λ b. Leaves met.rack asked b s chances met.output) met.input bytes e h.1
 
+-- an edit of a run that was told to outgrow a journal outgrows it
+outgrown : (rack : Racks) (reached : Option (Command × Parsed)) (chances : Chances) (out : Sinks) → TellsOutgrown rack reached chances out
+    → HasOutgrown rack reached chances
+outgrown rack (Some (Play o, setup)) chances out h = (h.0, h.1, h.2, h.3)
+outgrown rack (Some (Check, setup)) chances out h = absurd h
+outgrown rack (Some (Serve v, setup)) chances out h = absurd h
+outgrown rack (Some (Load l, setup)) chances out h = absurd h
+outgrown rack None chances out h = absurd h
+
+ends_outgrown : (asked : Command) (met : Met) (bytes : List ℕ) (chances : Chances)
+    → reached_by (asked_in met.words) bytes ≡ with_setup asked (setup_of (ending_of asked) bytes)
+    → TellsOutgrown met.rack (with_setup asked (setup_of (ending_of asked) bytes)) chances met.output
+    → HasOutgrown met.rack (reached_by (asked_in met.words) bytes) chances
+ends_outgrown asked met bytes chances reached h =
+    subst (λ (r : Option (Command × Parsed)). HasOutgrown met.rack r chances) (sym reached)
+    (outgrown met.rack (with_setup asked (setup_of (ending_of asked) bytes)) chances met.output h)
+
 -- what was done with the whole input is due
 asked_exact : (asked : Command) (s : Status) (met : Met) (bytes : List ℕ) (chances : Chances) → met.input ≡ Some bytes → asked_in met.words ≡ Some asked
     → Settles met.rack (reached_by (asked_in met.words) bytes) → Comes asked chances s met → EndsAs (code_of s) met bytes chances
@@ -90,13 +108,15 @@ asked_exact asked status.Line met bytes chances e is settles h =
     inl (gives_due asked met bytes chances 4 e is h.0 ((left asked status.Line met bytes chances e h) (subst (Settles met.rack) short.reached settles)).0)
 asked_exact asked status.Read met bytes chances e is settles h = inr (inl (refl, h.0))
 asked_exact asked status.Write met bytes chances e is settles h = inr (inr (inl (refl, h.1)))
-asked_exact asked status.Memory met bytes chances e is settles h = inr (inr (inr (inr (inr (inr refl)))))
+asked_exact asked status.Memory met bytes chances e is settles h = inr (inr (inr (inr (inr (inr (inl refl))))))
 asked_exact asked status.Long met bytes chances e is settles h =
     inl (due_long asked met bytes chances is (past_length met.input met.unread bytes most_of_input e h.0))
 asked_exact asked status.Disk met bytes chances e is settles h = inr (inr (inr (inl (refl, h.1))))
 asked_exact asked status.Journal met bytes chances e is settles h =
     let short = is_short asked met bytes chances e is h.0 in
-    inl (gives_due asked met bytes chances 8 e is h.0 ((left asked status.Journal met bytes chances e h) (subst (Settles met.rack) short.reached settles)).0)
+    ⊎_elim (λ shut. inl (gives_due asked met bytes chances 8 e is h.0 shut.0))
+    (λ out. inr (inr (inr (inr (inr (inr (inr (refl, ends_outgrown asked met bytes chances short.reached out))))))))
+    ((left asked status.Journal met bytes chances e h) (subst (Settles met.rack) short.reached settles))
 asked_exact asked status.Door met bytes chances e is settles h = absurd h
 asked_exact asked status.Key met bytes chances e is settles h = absurd h
 
@@ -165,7 +185,7 @@ serving_exact serves v status.Setup met bytes chances same e is settles h =
 serving_exact serves v status.Line met bytes chances same e is settles h = absurd h
 serving_exact serves v status.Read met bytes chances same e is settles h = inr (inl (refl, h.0.0))
 serving_exact serves v status.Write met bytes chances same e is settles h = inr (inr (inl (refl, h.1)))
-serving_exact serves v status.Memory met bytes chances same e is settles h = inr (inr (inr (inr (inr (inr refl)))))
+serving_exact serves v status.Memory met bytes chances same e is settles h = inr (inr (inr (inr (inr (inr (inl refl))))))
 serving_exact serves v status.Long met bytes chances same e is settles h =
     inl (due_long (Serve v) met bytes chances is (past_length met.input met.unread bytes most_of_input e h.0.0))
 serving_exact serves v status.Disk met bytes chances same e is settles h = inr (inr (inr (inl (refl, h.1))))
@@ -190,7 +210,7 @@ refused_exact status.Usage met bytes chances h = inl (record {
   same = sym (ap (λ a. due_to a bytes chances) h.0);
   taken = subst (λ (r : Option (Command × Parsed)). TakesDisks met.rack r chances.disks) (sym (ap (λ a. reached_by a bytes) h.0)) tt;
 })
-refused_exact status.Memory met bytes chances h = inr (inr (inr (inr (inr (inr refl)))))
+refused_exact status.Memory met bytes chances h = inr (inr (inr (inr (inr (inr (inl refl))))))
 refused_exact s met bytes chances h = absurd h
 
 exact : (serves : Serves) (s : Status) (met : Met) (bytes : List ℕ) (chances : Chances) → ReadsInput (asked_in met.words) → serves.rack ≡ met.rack → met.input ≡ Some bytes
@@ -251,10 +271,10 @@ setup_status : (asked : Command) (setup : Parsed) (chances : Chances) (rack : Ra
     → TakesDisks rack (Some (asked, setup)) chances.disks → IsFine asked setup chances
 setup_status Check setup chances rack opens taken = inl refl
 setup_status (Play o) setup chances rack opens taken =
-    subst (λ f. ((unless_shut f (finished (run_of o setup.scripts (steps_of setup.steps) chances.fates))).status ≡ 0)
-    ⊎ ((unless_shut f (finished (run_of o setup.scripts (steps_of setup.steps) chances.fates))).status ≡ 4))
+    subst (λ f. ((unless_shut f (finished (run_of o setup.scripts (steps_for o setup) chances.fates))).status ≡ 0)
+    ⊎ ((unless_shut f (finished (run_of o setup.scripts (steps_for o setup) chances.fates))).status ≡ 4))
     (sym (fit_opens unfit_new rack.before.holds 0 chances.disks opens.1 taken.held))
-    (ended_status _ (run_of o setup.scripts (steps_of setup.steps) chances.fates).end)
+    (ended_status _ (run_of o setup.scripts (steps_for o setup) chances.fates).end)
 setup_status (Serve v) setup chances rack opens taken =
     subst (λ f. ((unless_shut f (record { text = []; error = []; status = 0 })).status ≡ 0)
     ⊎ ((unless_shut f (record { text = []; error = []; status = 0 })).status ≡ 4))
@@ -293,24 +313,31 @@ open_settles asked met bytes l opens =
     tells (Serve v) setup h = h.0
     tells (Load l) setup h = h.0
 
-asked_complete : (asked : Command) (s : Status) (met : Met) (bytes : List ℕ) (chances : Chances) → met.input ≡ Some bytes → (l : IsLawful asked bytes)
-    → JournalsOpen asked l.setup.scripts met.rack → (Rose met.input_before met.input_after → ⊥) → (Rose met.output.before met.output.after → ⊥)
-    → (RackFailed met.rack → ⊥) → Comes asked chances s met → (code_of s ≡ 0) ⊎ ((code_of s ≡ 4) ⊎ (code_of s ≡ 10))
-asked_complete asked status.Done met bytes chances e l opens read write rack h = inl refl
-asked_complete asked status.Usage met bytes chances e l opens read write rack h = absurd h
-asked_complete asked status.Setup met bytes chances e l opens read write rack h =
-    absurd (not_3 3 (lawful_gives asked met bytes chances 3 l opens (left asked status.Setup met bytes chances e h).0) refl)
-asked_complete asked status.Line met bytes chances e l opens read write rack h = inr (inl refl)
-asked_complete asked status.Read met bytes chances e l opens read write rack h = absurd (read h.0)
-asked_complete asked status.Write met bytes chances e l opens read write rack h = absurd (write h.1)
-asked_complete asked status.Memory met bytes chances e l opens read write rack h = inr (inr refl)
-asked_complete asked status.Long met bytes chances e l opens read write rack h =
+-- a run of steps ended well, or at a step that does not fit, or for want of memory; or an edit outgrew a journal
+abbrev PlaysWell : (result : ℕ) → Met → (bytes : List ℕ) → Chances → Type 0
+PlaysWell result met bytes chances =
+    ((result ≡ 0) ⊎ ((result ≡ 4) ⊎ (result ≡ 10))) ⊎ EndsOutgrown result met bytes chances
+
+play_complete : (o : Options) (s : Status) (met : Met) (bytes : List ℕ) (chances : Chances) → met.input ≡ Some bytes → asked_in met.words ≡ Some (Play o)
+    → (l : IsLawful (Play o) bytes) → JournalsOpen (Play o) l.setup.scripts met.rack → (Rose met.input_before met.input_after → ⊥)
+    → (Rose met.output.before met.output.after → ⊥) → (RackFailed met.rack → ⊥) → Comes (Play o) chances s met → PlaysWell (code_of s) met bytes chances
+play_complete o status.Done met bytes chances e is l opens read write rack h = inl (inl refl)
+play_complete o status.Usage met bytes chances e is l opens read write rack h = absurd h
+play_complete o status.Setup met bytes chances e is l opens read write rack h =
+    absurd (not_3 3 (lawful_gives (Play o) met bytes chances 3 l opens (left (Play o) status.Setup met bytes chances e h).0) refl)
+play_complete o status.Line met bytes chances e is l opens read write rack h = inl (inr (inl refl))
+play_complete o status.Read met bytes chances e is l opens read write rack h = absurd (read h.0)
+play_complete o status.Write met bytes chances e is l opens read write rack h = absurd (write h.1)
+play_complete o status.Memory met bytes chances e is l opens read write rack h = inl (inr (inr refl))
+play_complete o status.Long met bytes chances e is l opens read write rack h =
     let long = past_length met.input met.unread bytes most_of_input e h.0 in absurd (omega (arith, long, l.short))
-asked_complete asked status.Disk met bytes chances e l opens read write rack h = absurd (rack h.1)
-asked_complete asked status.Journal met bytes chances e l opens read write rack h =
-    absurd (not_8 8 (lawful_gives asked met bytes chances 8 l opens ((left asked status.Journal met bytes chances e h) (open_settles asked met bytes l opens)).0) refl)
-asked_complete asked status.Door met bytes chances e l opens read write rack h = absurd h
-asked_complete asked status.Key met bytes chances e l opens read write rack h = absurd h
+play_complete o status.Disk met bytes chances e is l opens read write rack h = absurd (rack h.1)
+play_complete o status.Journal met bytes chances e is l opens read write rack h =
+    ⊎_elim (λ shut. absurd (not_8 8 (lawful_gives (Play o) met bytes chances 8 l opens shut.0) refl))
+    (λ out. inr (refl, ends_outgrown (Play o) met bytes chances (is_short (Play o) met bytes chances e is h.0).reached out))
+    ((left (Play o) status.Journal met bytes chances e h) (open_settles (Play o) met bytes l opens))
+play_complete o status.Door met bytes chances e is l opens read write rack h = absurd h
+play_complete o status.Key met bytes chances e is l opens read write rack h = absurd h
 
 same_setup : (r : Result Parsed Fault) (a b : Parsed) → r ≡ Ok a → r ≡ Ok b → a ≡ b
 same_setup r a b e f = cc
@@ -351,6 +378,10 @@ check_loses : (bytes : List ℕ) (chances : Chances) (shelf : ℕ) (text : List 
 check_loses bytes chances shelf text (at_first o is) = let no : Check ≡ Play o = is in cc
 check_loses bytes chances shelf text (at_crash o setup told is ok replied) = let no : Check ≡ Play o = is in cc
 
+check_outgrows : (rack : Racks) (r : Result Parsed Fault) (chances : Chances) (out : Sinks) → TellsOutgrown rack (with_setup Check r) chances out → ⊥
+check_outgrows rack (Err f) chances out h = h
+check_outgrows rack (Ok setup) chances out h = h
+
 check_complete : (s : Status) (met : Met) (bytes : List ℕ) (chances : Chances) → met.input ≡ Some bytes → (l : IsLawful Check bytes)
     → (Rose met.input_before met.input_after → ⊥) → (Rose met.output.before met.output.after → ⊥) → Comes Check chances s met
     → (code_of s ≡ 0) ⊎ (code_of s ≡ 10)
@@ -370,7 +401,9 @@ check_complete status.Disk met bytes chances e l read write h =
     let loses = disk.2 (open_settles Check met bytes l tt) in
     absurd (check_loses bytes chances disk.0 loses.0 loses.1)
 check_complete status.Journal met bytes chances e l read write h =
-    absurd (not_8 8 (lawful_gives Check met bytes chances 8 l tt ((left Check status.Journal met bytes chances e h) (open_settles Check met bytes l tt)).0) refl)
+    ⊎_elim (λ shut. absurd (not_8 8 (lawful_gives Check met bytes chances 8 l tt shut.0) refl))
+    (λ out. absurd (check_outgrows met.rack (setup_of Input bytes) chances met.output out))
+    ((left Check status.Journal met bytes chances e h) (open_settles Check met bytes l tt))
 check_complete status.Door met bytes chances e l read write h = absurd h
 check_complete status.Key met bytes chances e l read write h = absurd h
 
@@ -393,14 +426,19 @@ pub load_complete : (serves : Serves) (s : Status) (met : Met) (l : LoadOptions)
 load_complete serves s met l is opens write well chances h =
     ⊎_elim (λ came. loading_complete l s met chances opens write well came) (λ memory. inr memory) (load_came serves l s met chances is h)
 
+-- what was asked for ended well, or an edit of its steps outgrew a journal
+abbrev pub EndsSo : Command → (result : ℕ) → Met → (bytes : List ℕ) → Type 0
+EndsSo asked result met bytes = EndsWell asked result ⊎ ((chances : Chances) × EndsOutgrown result met bytes chances)
+
 complete_to : (serves : Serves) (asked : Command) (s : Status) (met : Met) (bytes : List ℕ) (chances : Chances) → serves.rack ≡ met.rack → met.input ≡ Some bytes
-    → (l : IsLawful asked bytes) → JournalsOpen asked l.setup.scripts met.rack → (Rose met.input_before met.input_after → ⊥)
-    → (Rose met.output.before met.output.after → ⊥) → GoesWell asked met → ComesTo serves asked chances s met → EndsWell asked (code_of s)
-complete_to serves Check s met bytes chances same e l opens read write well h = check_complete s met bytes chances e l read write h
-complete_to serves (Play o) s met bytes chances same e l opens read write well h = asked_complete (Play o) s met bytes chances e l opens read write well h
-complete_to serves (Serve v) s met bytes chances same e l opens read write well h =
-    serving_complete serves v s met bytes chances same e l opens read write well h
-complete_to serves (Load o) s met bytes chances same e l opens read write well h = loading_complete o s met chances opens write well h
+    → asked_in met.words ≡ Some asked → (l : IsLawful asked bytes) → JournalsOpen asked l.setup.scripts met.rack → (Rose met.input_before met.input_after → ⊥)
+    → (Rose met.output.before met.output.after → ⊥) → GoesWell asked met → ComesTo serves asked chances s met → EndsSo asked (code_of s) met bytes
+complete_to serves Check s met bytes chances same e is l opens read write well h = inl (check_complete s met bytes chances e l read write h)
+complete_to serves (Play o) s met bytes chances same e is l opens read write well h =
+    ⊎_elim inl (λ out. inr (chances, out)) (play_complete o s met bytes chances e is l opens read write well h)
+complete_to serves (Serve v) s met bytes chances same e is l opens read write well h =
+    inl (serving_complete serves v s met bytes chances same e l opens read write well h)
+complete_to serves (Load o) s met bytes chances same e is l opens read write well h = inl (loading_complete o s met chances opens write well h)
 
 memory_ends : (asked : Command) (n : ℕ) → n ≡ 10 → EndsWell asked n
 memory_ends Check n e = inr e
@@ -416,13 +454,13 @@ record IsLawfulFor (asked : Command) (met : Met) (bytes : List ℕ) : Type 0 whe
 
 pub complete : (serves : Serves) (s : Status) (met : Met) (asked : Command) (bytes : List ℕ) → serves.rack ≡ met.rack → asked_in met.words ≡ Some asked
     → met.input ≡ Some bytes → (l : IsLawful asked bytes) → JournalsOpen asked l.setup.scripts met.rack → (Rose met.input_before met.input_after → ⊥)
-    → (Rose met.output.before met.output.after → ⊥) → GoesWell asked met → (chances : Chances) → Explains serves s chances met → EndsWell asked (code_of s)
-complete serves s met asked bytes same is e l opens read write well chances (inl h) = memory_ends asked (code_of s) (refused_complete s met asked is h)
+    → (Rose met.output.before met.output.after → ⊥) → GoesWell asked met → (chances : Chances) → Explains serves s chances met → EndsSo asked (code_of s) met bytes
+complete serves s met asked bytes same is e l opens read write well chances (inl h) = inl (memory_ends asked (code_of s) (refused_complete s met asked is h))
 complete serves s met asked bytes same is e l opens read write well chances (inr h) =
     let one = same_asked (asked_in met.words) asked h.0 is h.1.0 in
     let these = subst (λ a. IsLawfulFor a met bytes) one (record { lawful = l; opens = opens; well = well }) in
-    subst (λ a. EndsWell a (code_of s)) (sym one)
-    (complete_to serves h.0 s met bytes chances same e these.lawful these.opens read write these.well h.1.1)
+    subst (λ a. EndsSo a (code_of s) met bytes) (sym one)
+    (complete_to serves h.0 s met bytes chances same e h.1.0 these.lawful these.opens read write these.well h.1.1)
 
 -- ---- the causes of what serving alone may end with, and of what the rack causes
 

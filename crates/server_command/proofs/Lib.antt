@@ -10,6 +10,7 @@ pub mod Giving
 pub mod Short
 pub mod Opened
 pub mod Runs
+pub mod Room
 pub mod Loads
 pub mod Orders
 pub mod Whole

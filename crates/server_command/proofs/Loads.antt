@@ -1,15 +1,14 @@
 -- From what a measured run comes to, to what a command answers.
-use Rattle.std.proofs.Common.{◌≡◌, ◌≤◌, ◌<◌, ◌++◌, ◌∷◌, ◌⊎◌, ◌∙◌, ℕ, Bool, List, [], length, map, IsTrue, Option, Some, None, Result, Ok, Err, IsErrOf, sym, ap, refl, subst, inl, inr, arith, codes}
-use Rattle.std.specs.Prelude.{count_by, replicate}
+use Rattle.std.proofs.Common.{◌≡◌, ◌≤◌, ◌<◌, ◌^◌, ◌+◌, ◌++◌, ◌∷◌, ◌⊎◌, ◌∙◌, ℕ, suc, Bool, List, [], length, map, IsTrue, Option, Some, None, Result, Ok, Err, IsErrOf, sym, ap, refl, subst, inl, inr, arith, codes}
+use Rattle.std.specs.Prelude.{count_by, replicate, slice_get}
 use Rattle.std.specs.Io.KnownBytes.{Appends, Keeps}
 use Rattle.std.proofs.lemmas.Option.{same_Some}
 use Rattle.web_outside.specs.Causes.{Rose}
 use Rattle.web_outside.specs.Pieces.{AppendsUnlessFault}
 use Rattle.web_outside.proofs.Writes.{appends_kept, appends_none}
 use Rattle.replay_spec.specs.Step.{Fate}
-use Rattle.measured_run.specs.Fnv.{fnv1a}
 use Rattle.play_steps.specs.Played.{Spot, spot}
-use Rattle.play_steps.specs.Texts.{print}
+use Rattle.play_steps.specs.Step.{crash}
 use Rattle.play_steps.specs.Transcript.{Run, went}
 use Rattle.play_steps.specs.declared.performing.Halt.{Halt}
 use Rattle.play_steps.specs.declared.performing.Halt.TheVariants as halt
@@ -19,7 +18,7 @@ use Rattle.play_steps.specs.declared.stage.Reopen.TheVariants as reopen
 use Rattle.web_disk.specs.View.{RackView}
 use Rattle.play_desk.specs.Desk.{Desk, desk_rules, is_fault}
 use Rattle.play_desk.specs.Laws.{TranscriptsAreRuns}
-use Rattle.play_desk.specs.Opening.{AllStayKept, HoldTheBooks, IsClosedBy, IsLeft}
+use Rattle.play_desk.specs.Opening.{AllStayKept, HoldTheBooks, IsClosedBy, IsLeft, cause_of}
 use Rattle.play_desk.specs.declared.opening.OpenCause.{OpenCause}
 use Rattle.play_desk.specs.declared.opening.OpenCause.TheVariants as first
 use Rattle.measured_run.specs.Generator.{Source, source_of}
@@ -32,14 +31,17 @@ use Rattle.measured_run.specs.Setups.{load_scripts}
 use Rattle.command_words.specs.declared.LoadOptions.{LoadOptions}
 use Rattle.server_command.specs.declared.program.Status.{Status}
 use Rattle.server_command.specs.declared.program.Status.TheVariants as status
-use Rattle.server_command.specs.Racks.{Racks, racks_of, AreTaken, ShelfFailed, disk_line, first_unfit, not_empty, unfit_line, unfit_new}
-use Rattle.server_command.specs.Output.{Answers, BreaksOff, Chances, Output, Sinks, desk_for, loaded, run_loaded, sinks, unless_shut}
+use Rattle.server_command.specs.Racks.{Racks, racks_of, AreTaken, ShelfFailed, disk_line, not_empty, unfit_line, unfit_new}
+use Rattle.server_command.specs.Output.{Answers, BreaksOff, Chances, Output, Sinks, desk_for, loaded, rules_for, run_loaded, sinks, unless_shut}
 use Rattle.server_command.specs.Loading.{GivesLoad, HasLeft, HasLoaded, IsLoaded, IsLost, IsLostBehind, LoadsEvents, RemainsLoaded, TellsMeasure, at_crash, at_first, told_measure}
-use Rattle.server_command.specs.Remains.{AreAllKept, HaveFailed, IsAny, IsThis, IsUnopened, lost, performed, unopened}
-use Rattle.server_command.specs.Telling.{TellsUnopened, told, untold, unopened_again, unopened_by}
-use Rattle.server_command.proofs.Endings.{no_chances, since, tells, tells_nothing}
-use Rattle.server_command.proofs.Playing.{Begins, IsFull, all_stay, are_taken, chances_of, decided, full_held, full_unfit, have_failed, have_failed_once, is_unopened, none_unfit}
-use Rattle.server_command.proofs.Opened.{is_full}
+use Rattle.server_command.specs.Remains.{AreAllKept, HaveFailed, IsAny, IsFailed, IsUnopened, lost, performed, unopened}
+use Rattle.server_command.specs.Telling.{TellsUnopened, told, untold}
+use Rattle.server_command.proofs.Endings.{no_chances, tells, tells_nothing}
+use Rattle.server_command.proofs.Playing.{Begins, HoldsSome, all_stay, are_taken, chances_of, decided, some_held, some_unfit, have_failed, have_failed_once, is_unopened, none_unfit}
+use Rattle.server_command.proofs.Opened.{holds_some}
+use Rattle.server_command.proofs.Room.{IsRoomy, drawn_roomy, first_roomy, last_within, no_overflow}
+use Rattle.lock_row.proofs.Places.{get_there}
+use Rattle.replay_spec.specs.Runs.{Shelf}
 
 -- the line of a run was written, and handed on or not
 pub measure_told : (m : Measure) (text : List ℕ) (s : Status) (old mid new : Option (List ℕ)) (before between after : ℕ)
@@ -67,7 +69,7 @@ pub record Loaded (rack : Racks) (l : LoadOptions) (m : Measure) : Type 0 where
   pub from : rack.before.faults ≤ before
   pub to : after ≤ rack.after.faults
 
-pub loaded_by : (rack : Racks) (l : LoadOptions) (lost_so : Desk → ℕ → Type 0) (m : Measure) (start last : Desk) (before after : ℕ) → Begins rack l.options load_scripts start
+pub loaded_by : (rack : Racks) (l : LoadOptions) (lost_so : Desk → ℕ → Reopen → Type 0) (m : Measure) (start last : Desk) (before after : ℕ) → Begins rack l.options load_scripts start
     → Measures desk_rules lost_so most_steps (source_of l.number) (Ok m) (spot desk_rules start before) (spot desk_rules last after)
     → HoldTheBooks last rack.after.holds → rack.before.faults ≤ before → after ≤ rack.after.faults → Loaded rack l m
 loaded_by rack l lost_so m start last before after b h left from to = record {
@@ -115,6 +117,7 @@ has_loaded rack l m p =
       whole = ap (λ (r : Run desk_rules). r.end) run;
       books = subst (λ (d : Desk). HoldTheBooks d rack.after.holds) (sym (ap (λ (r : Run desk_rules). r.state) run)) p.left;
       counted = have_failed rack p.loads.fates p.before p.after p.from p.loads.risen p.to;
+      began = p.begins.empty;
     }
 
 pub measure_leaves : (rack : Racks) (l : LoadOptions) (m : Measure) (s : Status) (out : Sinks) → (IsTrue rack.tells → Loaded rack l m)
@@ -149,7 +152,7 @@ measure_leaves rack l m status.Memory out ran h =
     remains p = (
       chances_of l.options p.loads.fates,
       (
-        performed p.last (loaded_behind l p.start p.last p.loads.fates most_steps p.told (omega arith) p.begins.first p.loads.is) p.left,
+        performed p.last (loaded_behind l p.start p.last p.loads.fates most_steps p.told (omega arith) p.begins.first p.loads.is) p.left p.begins.empty,
         have_failed rack p.loads.fates p.before p.after p.from p.loads.risen p.to,
       ),
     )
@@ -176,21 +179,21 @@ untouched known rack l =
     (record { before = λ k low. absurd (omega (arith, low)); failed = λ e. let no : ⊥ = cc in absurd no; kept = record { kept = λ n but left is. inl is; behind = λ n above left is. is } }) (omega arith)
 
 -- a disk holds something
-full_leaves : (rack : Racks) (l : LoadOptions) (shelf : ℕ) (old new : Option (List ℕ)) (before after : ℕ) → (IsTrue rack.tells → IsFull rack l.options shelf)
+some_leaves : (rack : Racks) (l : LoadOptions) (shelf : ℕ) (old new : Option (List ℕ)) (before after : ℕ) → (IsTrue rack.tells → HoldsSome rack l.options shelf)
     → (IsTrue rack.tells → AllStayKept load_scripts rack.before.holds rack.after.holds shelf first.NotEmpty)
     → AppendsUnlessFault old new (unfit_line shelf not_empty) before after → HasLeft rack l status.Journal (sinks old new before after)
-full_leaves rack l shelf old new before after full kept line =
+some_leaves rack l shelf old new before after full kept line =
     decided rack.tells (λ chances. GivesLoad rack l chances 8 (sinks old new before after) × AreAllKept rack load_scripts (length chances.disks)) no_chances
     (λ t. shut (full t) (kept t))
   where
-    shut : IsFull rack l.options shelf → AllStayKept load_scripts rack.before.holds rack.after.holds shelf first.NotEmpty
+    shut : HoldsSome rack l.options shelf → AllStayKept load_scripts rack.before.holds rack.after.holds shelf first.NotEmpty
         → (chances : Chances) × (GivesLoad rack l chances 8 (sinks old new before after) × AreAllKept rack load_scripts (length chances.disks))
     shut p stay =
         let images : List (List ℕ) = replicate shelf [] ++ (p.byte ∷ p.bytes) ∷ [] in
         let chances : Chances = record { disks = images; fates = [] } in
-        let unfit = full_unfit shelf 0 p.byte p.bytes shelf (omega arith) in
+        let unfit = some_unfit shelf 0 p.byte p.bytes shelf (omega arith) in
         let taken : AreTaken unfit_new rack.before.holds l.options.shelves images = record {
-          held = full_held rack.before.holds shelf 0 (p.byte ∷ p.bytes) shelf (omega arith) p.empty p.full;
+          held = some_held rack.before.holds shelf 0 (p.byte ∷ p.bytes) shelf (omega arith) p.empty p.held;
           all = λ none. absurd (let no : None ≡ Some (shelf, not_empty) = sym none ∙ unfit in cc);
         } in
         let is : loaded l chances ≡ record { text = []; error = unfit_line shelf not_empty; status = 8 } =
@@ -210,7 +213,7 @@ full_leaves rack l shelf old new before after full kept line =
 pub first_leaves : (rack : Racks) (l : LoadOptions) (shelf : ℕ) (why : OpenCause) (s : Status) (old new : Option (List ℕ)) (before after : ℕ)
     → (IsTrue rack.tells → IsClosedBy rack.before.holds l.options.shelves shelf why) → (why ≡ first.Disk → ShelfFailed rack shelf)
     → (IsTrue rack.tells → AllStayKept load_scripts rack.before.holds rack.after.holds shelf why) → rack.before.faults ≤ rack.after.faults
-    → TellsUnopened (unopened_by shelf why) s (sinks old new before after) → HasLeft rack l s (sinks old new before after)
+    → TellsUnopened shelf why s (sinks old new before after) → HasLeft rack l s (sinks old new before after)
 first_leaves rack l shelf why s old new before after closed failed kept later (untold is line) =
     memory_leaves rack l s old new before after is line (λ t. none_loaded rack l shelf why (is_unopened rack load_scripts l.options.shelves shelf why (closed t) failed (kept t)) later)
 first_leaves rack l shelf first.Disk s old new before after closed failed kept later (told line is same p) =
@@ -222,67 +225,79 @@ first_leaves rack l shelf first.Disk s old new before after closed failed kept l
         subst (λ w. AppendsUnlessFault old new w before after) (sym (same_Some _ _ is)) p,
         λ t. (
           at_first,
-          (unopened shelf first.Disk refl refl (is_unopened rack load_scripts l.options.shelves shelf first.Disk (closed t) failed (kept t)), (let rose = (failed refl).all in let none : count_by is_fault [] ≡ 0 = refl in omega (arith, none, rose))),
+          (unopened shelf first.Disk (refl, refl) refl (is_unopened rack load_scripts l.options.shelves shelf first.Disk (closed t) failed (kept t)), (let rose = (failed refl).all in let none : count_by is_fault [] ≡ 0 = refl in omega (arith, none, rose))),
         ),
       ),
     )
 first_leaves rack l shelf first.NotEmpty s old new before after closed failed kept later (told line is same p) =
     subst (λ x. HasLeft rack l x (sinks old new before after)) (sym same)
-    (full_leaves rack l shelf old new before after (λ t. is_full rack l.options shelf (closed t)) kept (subst (λ w. AppendsUnlessFault old new w before after) (sym (same_Some _ _ is)) p))
+    (some_leaves rack l shelf old new before after (λ t. holds_some rack l.options shelf (closed t)) kept (subst (λ w. AppendsUnlessFault old new w before after) (sym (same_Some _ _ is)) p))
 first_leaves rack l shelf (first.Damaged place) s old new before after closed failed kept later (told line is same p) =
     subst (λ x. HasLeft rack l x (sinks old new before after)) (sym same) (no_chances, λ t. absurd (closed t))
 first_leaves rack l shelf (first.Other place) s old new before after closed failed kept later (told line is same p) =
     subst (λ x. HasLeft rack l x (sinks old new before after)) (sym same) (no_chances, λ t. absurd (closed t))
+first_leaves rack l shelf (first.Full size) s old new before after closed failed kept later (told line is same p) =
+    subst (λ x. HasLeft rack l x (sinks old new before after)) (sym same) (no_chances, λ t. absurd (closed t))
 first_leaves rack l shelf first.Memory s old new before after closed failed kept later (told line is same p) = absurd (let no : None ≡ Some line = is in cc)
 
 -- what was left by it is left behind the closing too
-unfoldable shelf_with : (left left' : Desk → ℕ → Type 0) → ((d : Desk) (k : ℕ) → left d k → left' d k) → (count : ℕ) (source : Source) (shelf : ℕ)
-    (s t : Spot desk_rules) → LosesShelf desk_rules left count source shelf s t → LosesShelf desk_rules left' count source shelf s t
-shelf_with left left' f count source shelf s t p = record {
+unfoldable shelf_with : (left left' : Desk → ℕ → Reopen → Type 0) → ((d : Desk) (k : ℕ) (w : Reopen) → left d k w → left' d k w) → (count : ℕ) (source : Source)
+    (shelf : ℕ) (why : Reopen) (s t : Spot desk_rules) → LosesShelf desk_rules left count source shelf why s t → LosesShelf desk_rules left' count source shelf why s t
+shelf_with left left' f count source shelf why s t p = record {
   done = p.done;
   few = p.few;
   told = p.told;
   middle = p.middle;
   loads = p.loads;
   later = p.later;
-  stands = f p.middle.state shelf p.stands;
+  stands = f p.middle.state shelf why p.stands;
   next = p.next;
 }
 
 -- from this desk on a run came to a crash behind which the shelf was not opened, for this
 pub record LosesLoad (rack : Racks) (l : LoadOptions) (shelf : ℕ) (why : Reopen) (before : ℕ) (left : Spot desk_rules) (start : Desk) : Type 0 where
-  pub loses : LosesShelf desk_rules (IsLeft rack.after) most_steps (source_of l.number) shelf (spot desk_rules start before) left
+  pub loses : LosesShelf desk_rules (IsLeft rack.after) most_steps (source_of l.number) shelf why (spot desk_rules start before) left
   pub rose : why ≡ reopen.Disk → Rose loses.middle.faults left.faults
+
+-- no journal of a desk is too long
+abbrev pub AreShort : Desk → Type 0
+AreShort d = (k : ℕ) (s : Shelf) → slice_get d.shelves k ≡ Some s → s.book.length ≤ 2 ^ 30
 
 pub record LostLoad (rack : Racks) (l : LoadOptions) (shelf : ℕ) (why : Reopen) : Type 0 where
   pub start : Desk
   pub left : Spot desk_rules
   pub begins : Begins rack l.options load_scripts start
+  pub short : AreShort start
+  pub some : 0 < l.options.shelves
   pub before : ℕ
   pub loses : LosesLoad rack l shelf why before left start
   pub from : rack.before.faults ≤ before
   pub to : left.faults ≤ rack.after.faults
 
-module _ (rack : Racks) (l : LoadOptions) (left : Desk → ℕ → Type 0) (f : (d : Desk) (k : ℕ) → left d k → IsLeft rack.after d k) where
+module _ (rack : Racks) (l : LoadOptions) (left : Desk → ℕ → Reopen → Type 0) (f : (d : Desk) (k : ℕ) (w : Reopen) → left d k w → IsLeft rack.after d k w) where
+  -- it was lost for another cause than its disk
+  lost_else : (shelf : ℕ) (why : Reopen) (start : Desk) (before : ℕ) (t : Spot desk_rules) → (why ≡ reopen.Disk → ⊥)
+      → LosesShelf desk_rules left most_steps (source_of l.number) shelf why (spot desk_rules start before) t → LosesLoad rack l shelf why before t start
+  unfolding shelf_with
+  lost_else shelf why start before t not h = record {
+    loses = shelf_with left (IsLeft rack.after) f most_steps (source_of l.number) shelf why (spot desk_rules start before) t h;
+    rose = λ e. absurd (not e);
+  }
+
   loses_by : (shelf : ℕ) (why : Reopen) (start : Desk) (before : ℕ) (t : Spot desk_rules)
       → Measures desk_rules left most_steps (source_of l.number) (Err (halt.Reopen shelf why)) (spot desk_rules start before) t
       → LosesLoad rack l shelf why before t start
   unfolding shelf_with
   loses_by shelf reopen.Disk start before t h =
-      record { loses = shelf_with left (IsLeft rack.after) f most_steps (source_of l.number) shelf (spot desk_rules start before) t h.loses; rose = λ e. h.rose }
-  loses_by shelf (reopen.Damaged place) start before t h = record {
-    loses = shelf_with left (IsLeft rack.after) f most_steps (source_of l.number) shelf (spot desk_rules start before) t h;
-    rose = λ e. let no : ⊥ = cc in absurd no;
-  }
-  loses_by shelf (reopen.Other place) start before t h = record {
-    loses = shelf_with left (IsLeft rack.after) f most_steps (source_of l.number) shelf (spot desk_rules start before) t h;
-    rose = λ e. let no : ⊥ = cc in absurd no;
-  }
+      record { loses = shelf_with left (IsLeft rack.after) f most_steps (source_of l.number) shelf reopen.Disk (spot desk_rules start before) t h.loses; rose = λ e. h.rose }
+  loses_by shelf (reopen.Damaged place) start before t h = lost_else shelf (reopen.Damaged place) start before t (λ e. let no : ⊥ = cc e in no) h
+  loses_by shelf (reopen.Other place) start before t h = lost_else shelf (reopen.Other place) start before t (λ e. let no : ⊥ = cc e in no) h
+  loses_by shelf (reopen.Full size) start before t h = lost_else shelf (reopen.Full size) start before t (λ e. let no : ⊥ = cc e in no) h
   loses_by shelf reopen.Memory start before t h = absurd h
 
 -- what remains behind it
 remains_lost : (rack : Racks) (l : LoadOptions) (shelf : ℕ) (why : Reopen) (q : LostLoad rack l shelf why) → (x : (fates : List Fate)
-    × (last : Desk) × IsLostBehind rack l (chances_of l.options fates) shelf last × IsLeft rack.after last shelf)
+    × (last : Desk) × IsLostBehind rack l (chances_of l.options fates) shelf why last × IsLeft rack.after last shelf why)
     × (HaveFailed rack x.0 0 × (why ≡ reopen.Disk → HaveFailed rack x.0 1))
 remains_lost rack l shelf why q =
     let p = subst (LosesLoad rack l shelf why q.before q.left) q.begins.first q.loses in
@@ -301,13 +316,15 @@ remains_lost rack l shelf why q =
       ),
     )
 
-pub lost_by : (rack : Racks) (l : LoadOptions) (left : Desk → ℕ → Type 0) → ((d : Desk) (k : ℕ) → left d k → IsLeft rack.after d k) → (shelf : ℕ) (why : Reopen) (start last : Desk) (before after : ℕ) → Begins rack l.options load_scripts start
+pub lost_by : (rack : Racks) (l : LoadOptions) (left : Desk → ℕ → Reopen → Type 0) → ((d : Desk) (k : ℕ) (w : Reopen) → left d k w → IsLeft rack.after d k w) → (shelf : ℕ) (why : Reopen) (start last : Desk) (before after : ℕ) → Begins rack l.options load_scripts start → AreShort start → 0 < l.options.shelves
     → Measures desk_rules left most_steps (source_of l.number) (Err (halt.Reopen shelf why)) (spot desk_rules start before) (spot desk_rules last after)
     → rack.before.faults ≤ before → after ≤ rack.after.faults → LostLoad rack l shelf why
-lost_by rack l left f shelf why start last before after b h from to = record {
+lost_by rack l left f shelf why start last before after b short some h from to = record {
   start = start;
   left = spot desk_rules last after;
   begins = b;
+  short = short;
+  some = some;
   before = before;
   loses = loses_by rack l left f shelf why start before (spot desk_rules last after) h;
   from = from;
@@ -315,48 +332,50 @@ lost_by rack l left f shelf why start last before after b h from to = record {
 }
 
 -- the same of a result that is this error
-pub lost_if : (rack : Racks) (l : LoadOptions) (left : Desk → ℕ → Type 0) → ((d : Desk) (k : ℕ) → left d k → IsLeft rack.after d k) → (shelf : ℕ) (why : Reopen) (result : Result Measure Halt) (start last : Desk) (before after : ℕ)
-    → result ≡ Err (halt.Reopen shelf why) → Begins rack l.options load_scripts start
+pub lost_if : (rack : Racks) (l : LoadOptions) (left : Desk → ℕ → Reopen → Type 0) → ((d : Desk) (k : ℕ) (w : Reopen) → left d k w → IsLeft rack.after d k w) → (shelf : ℕ) (why : Reopen) (result : Result Measure Halt) (start last : Desk) (before after : ℕ)
+    → result ≡ Err (halt.Reopen shelf why) → Begins rack l.options load_scripts start → AreShort start → 0 < l.options.shelves
     → Measures desk_rules left most_steps (source_of l.number) result (spot desk_rules start before) (spot desk_rules last after)
     → rack.before.faults ≤ before → after ≤ rack.after.faults → LostLoad rack l shelf why
-lost_if rack l left f shelf why result start last before after is b h from to =
-    lost_by rack l left f shelf why start last before after b
+lost_if rack l left f shelf why result start last before after is b short some h from to =
+    lost_by rack l left f shelf why start last before after b short some
     (subst (λ (r : Result Measure Halt). Measures desk_rules left most_steps (source_of l.number) r (spot desk_rules start before) (spot desk_rules last after)) is h)
     from to
 
 -- memory ran out, behind some of the steps
-pub short_load : (rack : Racks) (l : LoadOptions) (left : Desk → ℕ → Type 0) → ((d : Desk) (k : ℕ) → left d k → IsLeft rack.after d k) → (start last : Desk) (before after : ℕ) → Begins rack l.options load_scripts start
+pub short_load : (rack : Racks) (l : LoadOptions) (left : Desk → ℕ → Reopen → Type 0) → ((d : Desk) (k : ℕ) (w : Reopen) → left d k w → IsLeft rack.after d k w) → (start last : Desk) (before after : ℕ) → Begins rack l.options load_scripts start → AreShort start → 0 < l.options.shelves
     → Measures desk_rules left most_steps (source_of l.number) (Err halt.Memory) (spot desk_rules start before) (spot desk_rules last after)
     → HoldTheBooks last rack.after.holds → rack.before.faults ≤ before → after ≤ rack.after.faults → (chances : Chances) × RemainsLoaded rack l chances IsAny 0
-short_load rack l left f start last before after b (inl h) books from to = (
+short_load rack l left f start last before after b short some (inl h) books from to = (
   chances_of l.options h.loads.fates,
   (
-    performed last (loaded_behind l start last h.loads.fates h.done h.told h.few b.first h.loads.is) books,
+    performed last (loaded_behind l start last h.loads.fates h.done h.told h.few b.first h.loads.is) books b.empty,
     have_failed rack h.loads.fates before after from h.loads.risen to,
   ),
 )
-short_load rack l left f start last before after b (inr (shelf, h)) books from to =
+short_load rack l left f start last before after b short some (inr (shelf, h)) books from to =
     let q : LostLoad rack l shelf reopen.Memory = record {
       start = start;
       left = spot desk_rules last after;
       begins = b;
+      short = short;
+      some = some;
       before = before;
       loses = record {
-        loses = shelf_with left (IsLeft rack.after) f most_steps (source_of l.number) shelf (spot desk_rules start before) (spot desk_rules last after) h;
-        rose = λ e. let no : ⊥ = cc in absurd no;
+        loses = shelf_with left (IsLeft rack.after) f most_steps (source_of l.number) shelf reopen.Memory (spot desk_rules start before) (spot desk_rules last after) h;
+        rose = λ e. absurd (let no : ⊥ = cc e in no);
       };
       from = from;
       to = to;
     } in
-    let x = remains_lost rack l shelf reopen.Memory q in (chances_of l.options x.0.0, (lost shelf x.0.1 tt x.0.2 x.0.3, x.1.0))
+    let x = remains_lost rack l shelf reopen.Memory q in (chances_of l.options x.0.0, (lost shelf reopen.Memory x.0.1 tt x.0.2 x.0.3 q.begins.empty, x.1.0))
 
 -- the same of a result that is that
-pub short_if : (rack : Racks) (l : LoadOptions) (left : Desk → ℕ → Type 0) → ((d : Desk) (k : ℕ) → left d k → IsLeft rack.after d k) → (result : Result Measure Halt) (start last : Desk) (before after : ℕ) → result ≡ Err halt.Memory
-    → Begins rack l.options load_scripts start
+pub short_if : (rack : Racks) (l : LoadOptions) (left : Desk → ℕ → Reopen → Type 0) → ((d : Desk) (k : ℕ) (w : Reopen) → left d k w → IsLeft rack.after d k w) → (result : Result Measure Halt) (start last : Desk) (before after : ℕ) → result ≡ Err halt.Memory
+    → Begins rack l.options load_scripts start → AreShort start → 0 < l.options.shelves
     → Measures desk_rules left most_steps (source_of l.number) result (spot desk_rules start before) (spot desk_rules last after)
     → HoldTheBooks last rack.after.holds → rack.before.faults ≤ before → after ≤ rack.after.faults → (chances : Chances) × RemainsLoaded rack l chances IsAny 0
-short_if rack l left f result start last before after is b h books from to =
-    short_load rack l left f start last before after b
+short_if rack l left f result start last before after is b short some h books from to =
+    short_load rack l left f start last before after b short some
     (subst (λ (r : Result Measure Halt). Measures desk_rules left most_steps (source_of l.number) r (spot desk_rules start before) (spot desk_rules last after)) is h)
     books from to
 
@@ -366,18 +385,34 @@ pub error_is : (result : Result Measure Halt) (shelf : ℕ) (why other : Reopen)
 error_is result shelf why other is e =
     let made : Reopen → Result Measure Halt = λ w. Err (halt.Reopen shelf w) in is ∙ ap made e
 
+-- no shelf of a measured run is without room for its setup, which no step changes
+never_full : (rack : Racks) (l : LoadOptions) (shelf size : ℕ) → LostLoad rack l shelf (reopen.Full size) → ⊥
+never_full rack l shelf size q =
+    let p = q.loses.loses in
+    let first = first_roomy (rules_for l.options) load_scripts l.options.shelves q.start q.begins.first q.short in
+    let last = subst (IsRoomy load_scripts l.options.shelves) (ap (λ (r : Run desk_rules). r.state) p.loads.is)
+    (drawn_roomy load_scripts l.options.shelves p.done (source_of l.number) q.start p.loads.fates first) in
+    let one : p.done + 1 ≡ suc p.done = omega arith in
+    let next = subst (λ n. steps_drawn desk_rules n (source_of l.number) q.start p.loads.fates
+    ≡ steps_drawn desk_rules p.done (source_of l.number) q.start p.loads.fates ++ crash shelf ∷ []) one p.next in
+    let low = last_within load_scripts l.options.shelves p.done (source_of l.number) q.start p.loads.fates shelf q.some first next in
+    let s = get_there p.middle.state.shelves shelf (let many = last.many in omega (arith, low, many)) in
+    no_overflow load_scripts l.options.shelves rack.after p.middle.state shelf size s.0 last s.1 p.stands
+
 -- what is told of that
 abbrev LosesTold : (rack : Racks) (l : LoadOptions) (k : ℕ) → Chances → Type 0
-LosesTold rack l k chances = IsLost rack l chances k × RemainsLoaded rack l chances (IsThis k) 1
+LosesTold rack l k chances = IsLost rack l chances k × RemainsLoaded rack l chances (IsFailed k) 1
 
 -- a shelf was not opened again
 pub again_leaves : (rack : Racks) (l : LoadOptions) (shelf : ℕ) (why : Reopen) (s : Status) (old new : Option (List ℕ)) (before after : ℕ)
     → (IsTrue rack.tells → LostLoad rack l shelf why) → (why ≡ reopen.Disk → ShelfFailed rack shelf) → (IsTrue rack.tells → (place : ℕ) → why ≡ reopen.Damaged place → ⊥)
-    → (IsTrue rack.tells → (place : ℕ) → why ≡ reopen.Other place → ⊥) → TellsUnopened (unopened_again shelf why) s (sinks old new before after)
+    → (IsTrue rack.tells → (place : ℕ) → why ≡ reopen.Other place → ⊥) → TellsUnopened shelf (cause_of why) s (sinks old new before after)
     → HasLeft rack l s (sinks old new before after)
 again_leaves rack l shelf why s old new before after lost_so failed damaged other (untold is line) =
     memory_leaves rack l s old new before after is line
-    (λ t. let x = remains_lost rack l shelf why (lost_so t) in (chances_of l.options x.0.0, (lost shelf x.0.1 tt x.0.2 x.0.3, x.1.0)))
+    (λ t.
+        let q = lost_so t in
+        let x = remains_lost rack l shelf why q in (chances_of l.options x.0.0, (lost shelf why x.0.1 tt x.0.2 x.0.3 q.begins.empty, x.1.0)))
 again_leaves rack l shelf reopen.Disk s old new before after lost_so failed damaged other (told line is same p) =
     subst (λ x. HasLeft rack l x (sinks old new before after)) (sym same) (x.0, (shelf, failed refl, shown, x.1))
   where
@@ -387,7 +422,7 @@ again_leaves rack l shelf reopen.Disk s old new before after lost_so failed dama
     here : LostLoad rack l shelf reopen.Disk → (chances : Chances) × LosesTold rack l shelf chances
     here q =
         let x = remains_lost rack l shelf reopen.Disk q in
-        (chances_of l.options x.0.0, (at_crash x.0.1 x.0.2, (lost shelf x.0.1 refl x.0.2 x.0.3, x.1.1 refl)))
+        (chances_of l.options x.0.0, (at_crash x.0.1 x.0.2, (lost shelf reopen.Disk x.0.1 (refl, refl) x.0.2 x.0.3 q.begins.empty, x.1.1 refl)))
 
     x : (chances : Chances) × (IsTrue rack.tells → LosesTold rack l shelf chances)
     x = decided rack.tells (LosesTold rack l shelf) no_chances (λ t. here (lost_so t))
@@ -395,6 +430,8 @@ again_leaves rack l shelf (reopen.Damaged place) s old new before after lost_so 
     subst (λ x. HasLeft rack l x (sinks old new before after)) (sym same) (no_chances, λ t. absurd (damaged t place refl))
 again_leaves rack l shelf (reopen.Other place) s old new before after lost_so failed damaged other (told line is same p) =
     subst (λ x. HasLeft rack l x (sinks old new before after)) (sym same) (no_chances, λ t. absurd (other t place refl))
+again_leaves rack l shelf (reopen.Full size) s old new before after lost_so failed damaged other (told line is same p) =
+    subst (λ x. HasLeft rack l x (sinks old new before after)) (sym same) (no_chances, λ t. absurd (never_full rack l shelf size (lost_so t)))
 again_leaves rack l shelf reopen.Memory s old new before after lost_so failed damaged other (told line is same p) =
     absurd (let no : None ≡ Some line = is in cc)
 

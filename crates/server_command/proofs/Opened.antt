@@ -1,36 +1,35 @@
 -- From the opening and the run of a desk to what a command answers.
-use Rattle.std.proofs.Common.{◌≡◌, ◌≢◌, ◌≤◌, ◌<◌, ◌∷◌, inr, ℕ, List, [], Bool, true, IsTrue, Option, Some, None, Ok, refl, sym, subst}
+use Rattle.std.proofs.Common.{◌≡◌, ◌≢◌, ◌≤◌, ◌<◌, ◌∷◌, inl, inr, ℕ, List, [], IsTrue, Option, Some, None, Ok, refl, sym, subst}
 use Rattle.std.proofs.lemmas.Option.{same_Some}
 use Rattle.web_outside.specs.Pieces.{AppendsUnlessFault}
 use Rattle.command_words.specs.declared.Command.TheVariants.{Play}
 use Rattle.command_words.specs.declared.Options.{Options}
 use Rattle.setup_reader.specs.declared.setup.Ending.TheVariants.{Steps}
 use Rattle.setup_reader.specs.Setup.{Parsed, setup_of}
-use Rattle.play_steps.specs.Step.{steps_of}
 use Rattle.play_steps.specs.declared.stage.Reopen.{Reopen}
 use Rattle.play_steps.specs.declared.stage.Reopen.TheVariants as reopen
-use Rattle.play_desk.specs.Opening.{AllStayKept, IsClosedBy, IsNotEmpty}
+use Rattle.play_desk.specs.Opening.{AllStayKept, IsClosedBy, IsNotEmpty, cause_of}
 use Rattle.play_desk.specs.declared.opening.OpenCause.{OpenCause}
 use Rattle.play_desk.specs.declared.opening.OpenCause.TheVariants as first
 use Rattle.server_command.specs.declared.program.Status.{Status}
 use Rattle.server_command.specs.Command.{Outputs}
-use Rattle.server_command.specs.Output.{sinks}
+use Rattle.server_command.specs.Output.{sinks, steps_for}
 use Rattle.server_command.specs.Racks.{Racks, ShelfFailed}
-use Rattle.server_command.specs.Telling.{TellsUnopened, told, untold, unopened_again, unopened_by}
-use Rattle.server_command.proofs.Playing.{IsFull, Lost, full_outputs, is_unopened, lost_outputs, memory_outputs, never_outputs, unopened_early, unread_outputs}
+use Rattle.server_command.specs.Telling.{TellsUnopened, told, untold}
+use Rattle.server_command.proofs.Playing.{HoldsSome, Lost, some_outputs, is_unopened, lost_outputs, memory_outputs, never_outputs, outgrown_outputs, unopened_early, unread_outputs}
 
-pub is_full : (rack : Racks) (o : Options) (shelf : ℕ) → (shelf < o.shelves) × IsNotEmpty rack.before.holds shelf → IsFull rack o shelf
-is_full rack o shelf h = by_image h.1.image h.1.held h.1.some
+pub holds_some : (rack : Racks) (o : Options) (shelf : ℕ) → (shelf < o.shelves) × IsNotEmpty rack.before.holds shelf → HoldsSome rack o shelf
+holds_some rack o shelf h = by_image h.1.image h.1.held h.1.some
   where
-    by_image : (image : List ℕ) → rack.before.holds shelf image → image ≢ [] → IsFull rack o shelf
+    by_image : (image : List ℕ) → rack.before.holds shelf image → image ≢ [] → HoldsSome rack o shelf
     by_image [] held some = absurd (some refl)
-    by_image (b ∷ bytes) held some = record { within = h.0; empty = h.1.before; byte = b; bytes = bytes; full = held }
+    by_image (b ∷ bytes) held some = record { within = h.0; empty = h.1.before; byte = b; bytes = bytes; held = held }
 
 -- a run of steps did not begin
 pub first_outputs : (rack : Racks) (o : Options) (bytes : List ℕ) (setup : Parsed) (shelf : ℕ) (why : OpenCause) (s : Status) (old new : Option (List ℕ)) (before after : ℕ)
     → setup_of Steps bytes ≡ Ok setup → (IsTrue rack.tells → IsClosedBy rack.before.holds o.shelves shelf why) → (why ≡ first.Disk → ShelfFailed rack shelf)
     → (IsTrue rack.tells → AllStayKept setup.scripts rack.before.holds rack.after.holds shelf why) → rack.before.faults ≤ rack.after.faults
-    → TellsUnopened (unopened_by shelf why) s (sinks old new before after) → Outputs rack (Play o) bytes s (sinks old new before after)
+    → TellsUnopened shelf why s (sinks old new before after) → Outputs rack (Play o) bytes s (sinks old new before after)
 first_outputs rack o bytes setup shelf why s old new before after h closed failed kept later (untold is line) =
     unopened_early rack o bytes setup shelf why s old new before after h
     (λ t. is_unopened rack setup.scripts o.shelves shelf why (closed t) failed (kept t)) later is line
@@ -40,20 +39,22 @@ first_outputs rack o bytes setup shelf first.Disk s old new before after h close
     (λ t. is_unopened rack setup.scripts o.shelves shelf first.Disk (closed t) failed (kept t)) (subst (λ l. AppendsUnlessFault old new l before after) (sym (same_Some _ _ is)) p))
 first_outputs rack o bytes setup shelf first.NotEmpty s old new before after h closed failed kept later (told line is same p) =
     subst (λ x. Outputs rack (Play o) bytes x (sinks old new before after)) (sym same)
-    (full_outputs rack o bytes setup shelf old new before after h (λ t. is_full rack o shelf (closed t)) kept (subst (λ l. AppendsUnlessFault old new l before after) (sym (same_Some _ _ is)) p))
+    (some_outputs rack o bytes setup shelf old new before after h (λ t. holds_some rack o shelf (closed t)) kept (subst (λ l. AppendsUnlessFault old new l before after) (sym (same_Some _ _ is)) p))
 first_outputs rack o bytes setup shelf (first.Damaged place) s old new before after h closed failed kept later (told line is same p) =
     subst (λ x. Outputs rack (Play o) bytes x (sinks old new before after)) (sym same) (never_outputs rack o bytes setup old new before after h closed)
 first_outputs rack o bytes setup shelf (first.Other place) s old new before after h closed failed kept later (told line is same p) =
+    subst (λ x. Outputs rack (Play o) bytes x (sinks old new before after)) (sym same) (never_outputs rack o bytes setup old new before after h closed)
+first_outputs rack o bytes setup shelf (first.Full size) s old new before after h closed failed kept later (told line is same p) =
     subst (λ x. Outputs rack (Play o) bytes x (sinks old new before after)) (sym same) (never_outputs rack o bytes setup old new before after h closed)
 first_outputs rack o bytes setup shelf first.Memory s old new before after h closed failed kept later (told line is same p) = absurd (let no : None ≡ Some line = is in cc)
 
 -- a shelf was not opened again
 pub again_outputs : (rack : Racks) (o : Options) (bytes : List ℕ) (setup : Parsed) (shelf : ℕ) (why : Reopen) (s : Status) (old mid new : Option (List ℕ)) (before between after : ℕ)
-    → setup_of Steps bytes ≡ Ok setup → (IsTrue rack.tells → Lost rack o setup.scripts (steps_of setup.steps) shelf why old mid)
+    → setup_of Steps bytes ≡ Ok setup → (IsTrue rack.tells → Lost rack o setup.scripts (steps_for o setup) shelf why old mid)
     → (why ≡ reopen.Disk → ShelfFailed rack shelf) → (IsTrue rack.tells → (place : ℕ) → why ≡ reopen.Damaged place → ⊥) → (IsTrue rack.tells → (place : ℕ) → why ≡ reopen.Other place → ⊥)
-    → before ≤ between → TellsUnopened (unopened_again shelf why) s (sinks mid new between after) → Outputs rack (Play o) bytes s (sinks old new before after)
+    → before ≤ between → TellsUnopened shelf (cause_of why) s (sinks mid new between after) → Outputs rack (Play o) bytes s (sinks old new before after)
 again_outputs rack o bytes setup shelf why s old mid new before between after h lost failed damaged other le (untold is line) =
-    memory_outputs rack o bytes setup s old mid new before between after h (λ t. inr (shelf, why, lost t)) le is line
+    memory_outputs rack o bytes setup s old mid new before between after h (λ t. inr (inl (shelf, why, lost t))) le is line
 again_outputs rack o bytes setup shelf reopen.Disk s old mid new before between after h lost failed damaged other le (told line is same p) =
     subst (λ x. Outputs rack (Play o) bytes x (sinks old new before after)) (sym same)
     (lost_outputs rack o bytes setup shelf old mid new before between after h lost le (failed refl) (subst (λ l. AppendsUnlessFault mid new l between after) (sym (same_Some _ _ is)) p))
@@ -61,4 +62,7 @@ again_outputs rack o bytes setup shelf (reopen.Damaged place) s old mid new befo
     subst (λ x. Outputs rack (Play o) bytes x (sinks old new before after)) (sym same) (never_outputs rack o bytes setup old new before after h (λ t. damaged t place refl))
 again_outputs rack o bytes setup shelf (reopen.Other place) s old mid new before between after h lost failed damaged other le (told line is same p) =
     subst (λ x. Outputs rack (Play o) bytes x (sinks old new before after)) (sym same) (never_outputs rack o bytes setup old new before after h (λ t. other t place refl))
+again_outputs rack o bytes setup shelf (reopen.Full size) s old mid new before between after h lost failed damaged other le (told line is same p) =
+    subst (λ x. Outputs rack (Play o) bytes x (sinks old new before after)) (sym same)
+    (outgrown_outputs rack o bytes setup shelf size old mid new before between after h lost le (subst (λ l. AppendsUnlessFault mid new l between after) (sym (same_Some _ _ is)) p))
 again_outputs rack o bytes setup shelf reopen.Memory s old mid new before between after h lost failed damaged other le (told line is same p) = absurd (let no : None ≡ Some line = is in cc)

@@ -8,10 +8,10 @@ use Rattle.web_disk.specs.View.{View, RackView, AreAmong}
 use Rattle.script_nodes.specs.Setup.{Named}
 use Rattle.play_steps.specs.Rules.{StaysUp}
 use Rattle.play_desk.specs.Opening.{FailedFor}
-use Rattle.server_command.specs.Racks.{KeepsHome, damaged, other, first_unfit, unfit_left}
+use Rattle.server_command.specs.Racks.{KeepsHome}
+use Rattle.play_desk.specs.declared.opening.OpenCause.{OpenCause}
+use Rattle.play_desk.specs.declared.opening.OpenCause.TheVariants as cause
 use Rattle.server_command.specs.Opening.{AreFrom, HasTaken, IsRefused, IsUntaken, LeavesFrom, RefusesInOrder, TakesBack, seen_on}
-use Rattle.server_command.specs.declared.opening.Unopened.{Unopened}
-use Rattle.server_command.specs.declared.opening.Unopened.TheVariants as unopened
 use Rattle.server_command.proofs.Racks.{held_more}
 
 -- ---- what one disk does that is given back
@@ -99,12 +99,14 @@ failed_since number before mid after le up failed =
     let here = up number in let rose = failed.here in record { all = rose_since before.faults mid.faults after.faults le failed.all; here = omega (arith, here, rose) }
 
 -- no disk that holds something was looked at
-pub untaken_refused : (told : Type 0) (risen : ℕ → Type 0) (scripts : List Named) (images : List (List ℕ)) (why : Unopened) → IsUntaken risen why → IsRefused told risen scripts images why
-untaken_refused told risen scripts images (unopened.Disk shelf) h = h
-untaken_refused told risen scripts images (unopened.NotEmpty shelf) h = h
-untaken_refused told risen scripts images (unopened.Damaged shelf place) h = absurd h
-untaken_refused told risen scripts images (unopened.Other shelf place) h = absurd h
-untaken_refused told risen scripts images unopened.Memory h = tt
+pub untaken_refused : (told : Type 0) (risen : ℕ → Type 0) (scripts : List Named) (images : List (List ℕ)) (shelf : ℕ) (why : OpenCause)
+    → IsUntaken risen shelf why → IsRefused told risen scripts images shelf why
+untaken_refused told risen scripts images shelf cause.Disk h = h
+untaken_refused told risen scripts images shelf cause.NotEmpty h = h
+untaken_refused told risen scripts images shelf (cause.Damaged place) h = absurd h
+untaken_refused told risen scripts images shelf (cause.Other place) h = absurd h
+untaken_refused told risen scripts images shelf (cause.Full length) h = absurd h
+untaken_refused told risen scripts images shelf cause.Memory h = tt
 
 below_or_not : (k n : ℕ) → (k < n) ⊎ (n ≤ k)
 below_or_not zero zero = inr (omega arith)
@@ -224,10 +226,11 @@ pub both_tell : (a b : Bool) → IsTrue (a && b) → IsTrue a × IsTrue b
 both_tell a b h = and_parts a b h
 
 -- a disk was not taken, and nothing was written on any
-pub untaken_in_order : (scripts : List Named) (before after : RackView) (count : ℕ) (risen : ℕ → Type 0) (why : Unopened) → IsUntaken risen why
-    → LeavesFrom 0 before after → RefusesInOrder scripts before after count [] why
-untaken_in_order scripts before after count risen (unopened.Disk shelf) h left = inl (λ n. left n (omega arith))
-untaken_in_order scripts before after count risen (unopened.NotEmpty shelf) h left = absurd h
-untaken_in_order scripts before after count risen (unopened.Damaged shelf place) h left = absurd h
-untaken_in_order scripts before after count risen (unopened.Other shelf place) h left = absurd h
-untaken_in_order scripts before after count risen unopened.Memory h left = tt
+pub untaken_in_order : (scripts : List Named) (before after : RackView) (count : ℕ) (risen : ℕ → Type 0) (shelf : ℕ) (why : OpenCause)
+    → IsUntaken risen shelf why → LeavesFrom 0 before after → RefusesInOrder scripts before after count [] shelf why
+untaken_in_order scripts before after count risen shelf cause.Disk h left = inl (λ n. left n (omega arith))
+untaken_in_order scripts before after count risen shelf cause.NotEmpty h left = absurd h
+untaken_in_order scripts before after count risen shelf (cause.Damaged place) h left = absurd h
+untaken_in_order scripts before after count risen shelf (cause.Other place) h left = absurd h
+untaken_in_order scripts before after count risen shelf (cause.Full length) h left = absurd h
+untaken_in_order scripts before after count risen shelf cause.Memory h left = tt

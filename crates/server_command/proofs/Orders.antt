@@ -14,8 +14,9 @@ use Rattle.server_command.specs.declared.program.Status.{Status}
 use Rattle.server_command.specs.declared.program.Status.TheVariants as status
 use Rattle.server_command.specs.declared.serving.ServeFault.{ServeFault}
 use Rattle.server_command.specs.declared.serving.ServeFault.TheVariants as fault
-use Rattle.server_command.specs.declared.opening.Unopened.{Unopened}
-use Rattle.server_command.specs.declared.opening.Unopened.TheVariants as unopened
+use Rattle.play_desk.specs.declared.opening.OpenCause.{OpenCause}
+use Rattle.play_desk.specs.declared.opening.OpenCause.TheVariants as cause
+use Rattle.play_desk.specs.declared.opening.OpenFault.{OpenFault}
 use Rattle.server_command.specs.Racks.{Racks, AtRest, racks_of}
 use Rattle.server_command.specs.Output.{Chances, Sinks}
 use Rattle.server_command.specs.Loading.{HasLeft, LeavesLoad}
@@ -54,19 +55,20 @@ setup_order asks rack shelves bytes out s (inl h) still = faulty_order asks rack
 setup_order asks rack shelves bytes out s (inr h) still = subst (ServesInOrder asks rack shelves) (sym h.0) tt
 
 -- a shelf was not opened
-shut_order : (asks : Asks) (rack : Racks) (shelves : ℕ) (why : Unopened) → asks.drawn shelves × asks.shut
+shut_order : (asks : Asks) (rack : Racks) (shelves : ℕ) (why : OpenCause) → asks.drawn shelves × asks.shut
     → ServesInOrder asks rack shelves (unopened_status why)
-shut_order asks rack shelves (unopened.Disk shelf) p = p
-shut_order asks rack shelves (unopened.NotEmpty shelf) p = p
-shut_order asks rack shelves (unopened.Damaged shelf place) p = p
-shut_order asks rack shelves (unopened.Other shelf place) p = p
-shut_order asks rack shelves unopened.Memory p = tt
+shut_order asks rack shelves cause.Disk p = p
+shut_order asks rack shelves cause.NotEmpty p = p
+shut_order asks rack shelves (cause.Damaged place) p = p
+shut_order asks rack shelves (cause.Other place) p = p
+shut_order asks rack shelves (cause.Full length) p = p
+shut_order asks rack shelves cause.Memory p = tt
 
-unopened_order : (asks : Asks) (rack : Racks) (shelves : ℕ) (why : Unopened) (out : Sinks) (s : Status) → asks.drawn shelves × asks.shut
-    → TellsUnopened why s out → ServesInOrder asks rack shelves s
-unopened_order asks rack shelves why out s p (told line is same prints) =
+unopened_order : (asks : Asks) (rack : Racks) (shelves shelf : ℕ) (why : OpenCause) (out : Sinks) (s : Status) → asks.drawn shelves × asks.shut
+    → TellsUnopened shelf why s out → ServesInOrder asks rack shelves s
+unopened_order asks rack shelves shelf why out s p (told line is same prints) =
     subst (ServesInOrder asks rack shelves) (sym same) (shut_order asks rack shelves why p)
-unopened_order asks rack shelves why out s p (untold is prints) = subst (ServesInOrder asks rack shelves) (sym is) tt
+unopened_order asks rack shelves shelf why out s p (untold is prints) = subst (ServesInOrder asks rack shelves) (sym is) tt
 
 -- what the serving came to was told
 pub outcome_order : (asks : Asks) (rack : Racks) (shelves : ℕ) (outcome : Result Tally ServeFault) (out : Sinks) (s : Status)
@@ -76,13 +78,13 @@ outcome_order asks rack shelves (Ok tally) out status.Write p tells = p
 outcome_order asks rack shelves (Ok tally) out status.Memory p tells = tt
 outcome_order asks rack shelves (Ok tally) out s p tells = absurd tells
 outcome_order asks rack shelves (Err fault.Key) out s p tells = subst (ServesInOrder asks rack shelves) (sym tells.0) p
-outcome_order asks rack shelves (Err (fault.Shelf why)) out s p tells = unopened_order asks rack shelves why out s p tells
+outcome_order asks rack shelves (Err (fault.Shelf f)) out s p tells = unopened_order asks rack shelves f.shelf f.why out s p tells
 outcome_order asks rack shelves (Err fault.Door) out s p tells = subst (ServesInOrder asks rack shelves) (sym tells.0) p
 outcome_order asks rack shelves (Err fault.Memory) out s p tells = subst (ServesInOrder asks rack shelves) (sym tells.0) tt
 
 -- the seeds gave no sources
 pub undrawn_order : (asks : Asks) (rack : Racks) (shelves : ℕ) (why : ServeFault) → AtRest rack → asks.shut → (why ≡ fault.Door → ⊥)
-    → ((u : Unopened) → why ≡ fault.Shelf u → ⊥) → ComesInOrder asks rack shelves (Err why)
+    → ((u : OpenFault) → why ≡ fault.Shelf u → ⊥) → ComesInOrder asks rack shelves (Err why)
 undrawn_order asks rack shelves fault.Key rest shut door shelf = (rest, shut)
 undrawn_order asks rack shelves (fault.Shelf u) rest shut door shelf = absurd (shelf u refl)
 undrawn_order asks rack shelves fault.Door rest shut door shelf = absurd (door refl)

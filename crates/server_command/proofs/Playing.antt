@@ -13,24 +13,24 @@ use Rattle.setup_reader.specs.declared.setup.Ending.TheVariants.{Steps}
 use Rattle.setup_reader.specs.Setup.{Parsed, Fault, setup_of}
 use Rattle.script_nodes.specs.Setup.{Named}
 use Rattle.replay_spec.specs.Step.{Fate}
-use Rattle.play_steps.specs.Step.{Step, crash, steps_of}
-use Rattle.play_steps.specs.Transcript.{End, done, bad_line, Run, text_of, transcript, went}
+use Rattle.play_steps.specs.Step.{Step, edit}
+use Rattle.play_steps.specs.Transcript.{End, done, bad_line, Run, fits, text_of, transcript, went}
 use Rattle.play_steps.specs.declared.report.Report.{Report}
 use Rattle.play_steps.specs.declared.stage.Reopen.{Reopen}
 use Rattle.play_steps.specs.declared.stage.Reopen.TheVariants as reopen
 use Rattle.play_steps.proofs.Runs.{print_joined}
 use Rattle.play_steps.specs.Texts.{print}
 use Rattle.play_steps.specs.Played as played
-use Rattle.play_steps.specs.Played.{Scene, Plays, Halts, HasRisen, RoseBy}
+use Rattle.play_steps.specs.Played.{Plays, Halts, HasRisen, RoseBy, Waits}
 use Rattle.play_desk.specs.Desk.{Desk, desk_rules, is_fault}
 use Rattle.play_desk.specs.Laws.{TranscriptsAreRuns}
 use Rattle.play_desk.specs.Opening.{AllStayKept, HoldTheBooks, IsClosedBy, IsLeft}
 use Rattle.play_desk.specs.declared.opening.OpenCause.{OpenCause}
 use Rattle.play_desk.specs.declared.opening.OpenCause.TheVariants as cause
-use Rattle.server_command.specs.Racks.{Racks, AreHeld, AreTaken, ShelfFailed, not_empty, first_unfit, unfit_new, disk_line, unfit_line}
-use Rattle.server_command.specs.Output.{Chances, Output, output_of, desk_for, run_of, finished, ended, sinks, Tells, BreaksOff, at_line, replies, at_first, at_crash, unless_shut, Replied}
-use Rattle.server_command.specs.Remains.{AreAllKept, HaveFailed, IsAny, IsBehind, IsLostBehind, IsThis, IsUnopened, Loses, Pauses, Remains, RemainsShut, RemainsUnwritten, unopened, performed, lost}
-use Rattle.server_command.specs.Command.{Gives, Known, Outputs, PlaysEvents, Settles, StandFor, TakesDisks, TellsLine, with_setup}
+use Rattle.server_command.specs.Racks.{Racks, AreHeld, AreTaken, ShelfFailed, full, not_empty, first_unfit, unfit_new, disk_line, unfit_line}
+use Rattle.server_command.specs.Output.{Chances, Output, output_of, desk_for, run_of, steps_for, finished, ended, sinks, Tells, BreaksOff, at_line, replies, at_first, at_crash, unless_shut}
+use Rattle.server_command.specs.Remains.{AreAllKept, HaveFailed, IsAny, IsBehind, IsFailed, IsLostBehind, IsUnopened, Loses, Pauses, Remains, RemainsShut, RemainsUnwritten, TellsOutgrown, unopened, performed, lost}
+use Rattle.server_command.specs.Command.{Gives, Known, LeavesShut, Outputs, PlaysEvents, Settles, StandFor, TakesDisks, TellsLine, with_setup}
 use Rattle.server_command.specs.declared.program.Status.{Status}
 use Rattle.server_command.specs.declared.program.Status.TheVariants as status
 use Rattle.server_command.proofs.Endings.{IsWhole, early, no_chances, whole_text, tells, since}
@@ -85,10 +85,10 @@ takes rack o bytes setup d fates h b =
 
 -- the output of a run of these steps, by its transcript
 output_is : (rack : Racks) (o : Options) (bytes : List ℕ) (setup : Parsed) (d : Desk) (fates : List Fate) (run : Run desk_rules) → setup_of Steps bytes ≡ Ok setup
-    → d ≡ desk_for o setup.scripts → transcript desk_rules d 1 (steps_of setup.steps) fates ≡ run → output_of (Play o) bytes (chances_of o fates) ≡ finished run
+    → d ≡ desk_for o setup.scripts → transcript desk_rules d 1 (steps_for o setup) fates ≡ run → output_of (Play o) bytes (chances_of o fates) ≡ finished run
 output_is rack o bytes setup d fates run h first is =
-    rw h (ap (λ f. unless_shut f (finished (run_of o setup.scripts (steps_of setup.steps) fates))) (none_unfit o.shelves 0)
-    ∙ (ap (λ (x : Desk). finished (transcript desk_rules x 1 (steps_of setup.steps) fates)) (sym first) ∙ ap finished is))
+    rw h (ap (λ f. unless_shut f (finished (run_of o setup.scripts (steps_for o setup) fates))) (none_unfit o.shelves 0)
+    ∙ (ap (λ (x : Desk). finished (transcript desk_rules x 1 (steps_for o setup) fates)) (sym first) ∙ ap finished is))
 
 text_is : (text : List ℕ) (end : End) → (ended text end).text ≡ text
 text_is text done = refl
@@ -99,8 +99,8 @@ pub plays_events : TranscriptsAreRuns → (o : Options) (bytes : List ℕ) (setu
     → first_unfit unfit_new 0 chances.disks ≡ None → PlaysEvents o setup chances.fates (output_of (Play o) bytes chances)
 plays_events law o bytes setup chances is none =
     let d = desk_for o setup.scripts in
-    let run = transcript desk_rules d 1 (steps_of setup.steps) chances.fates in
-    let events = law d 1 (steps_of setup.steps) chances.fates in
+    let run = transcript desk_rules d 1 (steps_for o setup) chances.fates in
+    let events = law d 1 (steps_for o setup) chances.fates in
     let output : output_of (Play o) bytes chances ≡ finished run = rw is (ap (λ f. unless_shut f (finished run)) none) in
     record {
       replies = events.0;
@@ -109,10 +109,10 @@ plays_events law o bytes setup chances is none =
     }
 
 stand_for : (rack : Racks) (o : Options) (bytes : List ℕ) (setup : Parsed) (d e : Desk) (fates : List Fate) (run : Run desk_rules) → setup_of Steps bytes ≡ Ok setup
-    → d ≡ desk_for o setup.scripts → transcript desk_rules d 1 (steps_of setup.steps) fates ≡ run → run.state ≡ e → HoldTheBooks e rack.after.holds
+    → d ≡ desk_for o setup.scripts → transcript desk_rules d 1 (steps_for o setup) fates ≡ run → run.state ≡ e → HoldTheBooks e rack.after.holds
     → HaveFailed rack fates 0 → StandFor rack (Play o) (setup_of Steps bytes) (chances_of o fates)
 stand_for rack o bytes setup d e fates run h first is last l counted =
-    let same = ap (λ (x : Desk). (transcript desk_rules x 1 (steps_of setup.steps) fates).state) (sym first) ∙ (ap (λ (r : Run desk_rules). r.state) is ∙ last) in
+    let same = ap (λ (x : Desk). (transcript desk_rules x 1 (steps_for o setup) fates).state) (sym first) ∙ (ap (λ (r : Run desk_rules). r.state) is ∙ last) in
     subst (λ (r : Result Parsed Fault). StandFor rack (Play o) r (chances_of o fates)) (sym h)
     (subst (λ (x : Desk). HoldTheBooks x rack.after.holds) (sym same) l, counted)
 
@@ -130,20 +130,20 @@ have_failed_once rack fates before middle after from h once to =
 
 -- all steps were performed, up to the end or to a line that is no step or does not fit
 behind_all : (o : Options) (setup : Parsed) (d e : Desk) (fates : List Fate) (run : Run desk_rules) → d ≡ desk_for o setup.scripts
-    → transcript desk_rules d 1 (steps_of setup.steps) fates ≡ run → run.state ≡ e → IsBehind o setup fates (text_of run) e
+    → transcript desk_rules d 1 (steps_for o setup) fates ≡ run → run.state ≡ e → IsBehind o setup fates (text_of run) e
 behind_all o setup d e fates run first is last =
-    let same = ap (λ (x : Desk). transcript desk_rules x 1 (steps_of setup.steps) fates) (sym first) ∙ is in
+    let same = ap (λ (x : Desk). transcript desk_rules x 1 (steps_for o setup) fates) (sym first) ∙ is in
     record {
-      front = steps_of setup.steps;
+      front = steps_for o setup;
       rest = [];
-      cut = sym (append-nil (steps_of setup.steps));
+      cut = sym (append-nil (steps_for o setup));
       printed = ([], append-nil (text_of run) ∙ ap (λ (r : Run desk_rules). text_of r) (sym same));
       state = ap (λ (r : Run desk_rules). r.state) same ∙ last;
     }
 
 -- some were, and one that was not told whole
 behind_next : (o : Options) (setup : Parsed) (d e : Desk) (fates : List Fate) (front rest : List (Option Step)) (step : Step) (told last : List Report)
-    (text more : List ℕ) → d ≡ desk_for o setup.scripts → steps_of setup.steps ≡ front ++ Some step ∷ rest
+    (text more : List ℕ) → d ≡ desk_for o setup.scripts → steps_for o setup ≡ front ++ Some step ∷ rest
     → transcript desk_rules d 1 (front ++ Some step ∷ []) fates ≡ went desk_rules (told ++ last) e [] → print told ++ print last ≡ text ++ more
     → IsBehind o setup fates text e
 behind_next o setup d e fates front rest step told last text more first cut is split =
@@ -169,19 +169,19 @@ pub record Ran (rack : Racks) (o : Options) (scripts : List Named) (steps : List
   pub to : after ≤ rack.after.faults
 
 ran_output : (rack : Racks) (o : Options) (bytes : List ℕ) (setup : Parsed) (end : End) (old mid : Option (List ℕ)) → setup_of Steps bytes ≡ Ok setup
-    → (p : Ran rack o setup.scripts (steps_of setup.steps) end old mid)
+    → (p : Ran rack o setup.scripts (steps_for o setup) end old mid)
     → output_of (Play o) bytes (chances_of o p.plays.fates) ≡ ended (print p.plays.told) end
 ran_output rack o bytes setup end old mid h p =
     output_is rack o bytes setup p.first p.plays.fates _ h p.begins.first p.plays.is
 
 pub done_outputs : (rack : Racks) (o : Options) (bytes : List ℕ) (setup : Parsed) (s : Status) (old mid new : Option (List ℕ)) (before between after : ℕ)
-    → setup_of Steps bytes ≡ Ok setup → (IsTrue rack.tells → Ran rack o setup.scripts (steps_of setup.steps) done old mid) → Keeps mid new → before ≤ between
+    → setup_of Steps bytes ≡ Ok setup → (IsTrue rack.tells → Ran rack o setup.scripts (steps_for o setup) done old mid) → Keeps mid new → before ≤ between
     → (s ≡ status.Done) ⊎ ((s ≡ status.Write) × Rose between after) → Outputs rack (Play o) bytes s (sinks old new before after)
 done_outputs rack o bytes setup s old mid new before between after h ran kept le ends =
     let x = by_tells rack o bytes setup h (λ chances. IsWhole rack (Play o) bytes chances old new) (λ t. whole (ran t)) in
     whole_text rack (Play o) bytes x.0 s old new before between after x.1 le ends
   where
-    whole : Ran rack o setup.scripts (steps_of setup.steps) done old mid → (chances : Chances) × IsWhole rack (Play o) bytes chances old new
+    whole : Ran rack o setup.scripts (steps_for o setup) done old mid → (chances : Chances) × IsWhole rack (Play o) bytes chances old new
     whole p =
         let is = ran_output rack o bytes setup done old mid h p in (
           chances_of o p.plays.fates,
@@ -199,18 +199,19 @@ done_outputs rack o bytes setup s old mid new before between after h ran kept le
               behind_all o setup p.first p.last p.plays.fates _ p.begins.first p.plays.is refl,
               p.left,
               have_failed rack p.plays.fates p.before p.after p.from p.plays.risen p.to,
+              p.begins.empty,
             );
           },
         )
 
 pub line_outputs : (rack : Racks) (o : Options) (bytes : List ℕ) (setup : Parsed) (n : ℕ) (s : Status) (old mid new : Option (List ℕ)) (before between after : ℕ)
-    → setup_of Steps bytes ≡ Ok setup → (IsTrue rack.tells → Ran rack o setup.scripts (steps_of setup.steps) (bad_line n) old mid) → before ≤ between
+    → setup_of Steps bytes ≡ Ok setup → (IsTrue rack.tells → Ran rack o setup.scripts (steps_for o setup) (bad_line n) old mid) → before ≤ between
     → TellsLine n s (sinks mid new between after) → Outputs rack (Play o) bytes s (sinks old new before after)
 line_outputs rack o bytes setup n status.Line old mid new before between after h ran le told =
     by_tells rack o bytes setup h (λ chances. Gives rack (Play o) bytes chances 4 (sinks old new before after) × StandFor rack (Play o) (setup_of Steps bytes) chances)
     (λ t. line (ran t))
   where
-    line : (p : Ran rack o setup.scripts (steps_of setup.steps) (bad_line n) old mid)
+    line : (p : Ran rack o setup.scripts (steps_for o setup) (bad_line n) old mid)
         → (chances : Chances) × (Gives rack (Play o) bytes chances 4 (sinks old new before after) × StandFor rack (Play o) (setup_of Steps bytes) chances)
     line p =
         let is = ran_output rack o bytes setup (bad_line n) old mid h p in
@@ -228,7 +229,7 @@ line_outputs rack o bytes setup n status.Line old mid new before between after h
 line_outputs rack o bytes setup n status.Memory old mid new before between after h ran le told =
     by_tells rack o bytes setup h _ (λ t. paused (ran t))
   where
-    paused : (p : Ran rack o setup.scripts (steps_of setup.steps) (bad_line n) old mid)
+    paused : (p : Ran rack o setup.scripts (steps_for o setup) (bad_line n) old mid)
         → (chances : Chances) × Pauses rack (Play o) bytes chances (codes "error 10 memory\n") (sinks old new before after)
     paused p =
         let is = ran_output rack o bytes setup (bad_line n) old mid h p in
@@ -240,7 +241,7 @@ line_outputs rack o bytes setup n status.Memory old mid new before between after
             tells old mid new _ (codes "error 10 memory\n") before after (subst (Appends old mid) (sym text) p.plays.written) (since mid new _ before between after le told),
             subst (λ (t : List ℕ). Remains rack (Play o) (setup_of Steps bytes) (chances_of o p.plays.fates) t IsAny 0) (sym text)
                 (subst (λ (r : Result Parsed Fault). Remains rack (Play o) r (chances_of o p.plays.fates) (print p.plays.told) IsAny 0) (sym h) (
-                  performed p.last (behind_all o setup p.first p.last p.plays.fates _ p.begins.first p.plays.is refl) p.left,
+                  performed p.last (behind_all o setup p.first p.last p.plays.fates _ p.begins.first p.plays.is refl) p.left p.begins.empty,
                   have_failed rack p.plays.fates p.before p.after p.from p.plays.risen p.to,
                 )),
           ),
@@ -260,20 +261,20 @@ pub record Halted (rack : Racks) (o : Options) (scripts : List Named) (steps : L
   pub to : after ≤ rack.after.faults
 
 pub write_outputs : (rack : Racks) (o : Options) (bytes : List ℕ) (setup : Parsed) (old new : Option (List ℕ)) (before after : ℕ) → setup_of Steps bytes ≡ Ok setup
-    → (IsTrue rack.tells → (shown : List ℕ) × (p : Halted rack o setup.scripts (steps_of setup.steps) shown old new) × (0 < length p.halts.hidden))
+    → (IsTrue rack.tells → (shown : List ℕ) × (p : Halted rack o setup.scripts (steps_for o setup) shown old new) × (0 < length p.halts.hidden))
     → Rose before after → Outputs rack (Play o) bytes status.Write (sinks old new before after)
 write_outputs rack o bytes setup old new before after h halted rose =
     let x = by_tells rack o bytes setup h (λ chances. BreaksOff (output_of (Play o) bytes chances) (sinks old new before after)
     × RemainsUnwritten rack (Play o) (setup_of Steps bytes) chances old new) (λ t. broke (halted t)) in
     (x.0, (rose, x.1))
   where
-    broke : (shown : List ℕ) × (p : Halted rack o setup.scripts (steps_of setup.steps) shown old new) × (0 < length p.halts.hidden)
+    broke : (shown : List ℕ) × (p : Halted rack o setup.scripts (steps_for o setup) shown old new) × (0 < length p.halts.hidden)
         → (chances : Chances) × (BreaksOff (output_of (Play o) bytes chances) (sinks old new before after)
         × RemainsUnwritten rack (Play o) (setup_of Steps bytes) chances old new)
     broke (shown, p, some) =
         let q = p.halts in
         let fates = q.fates ++ q.came.fates in
-        let run = transcript desk_rules p.first 1 (steps_of setup.steps) fates in
+        let run = transcript desk_rules p.first 1 (steps_for o setup) fates in
         let text : (output_of (Play o) bytes (chances_of o fates)).text ≡ (print q.told ++ shown) ++ (q.hidden ++ q.later) =
         ap (λ (x : Output). x.text) (output_is rack o bytes setup p.first fates run h p.begins.first refl) ∙ (text_is (text_of run) run.end ∙ q.all) in
         let split : print q.told ++ print q.last ≡ (print q.told ++ shown) ++ q.hidden =
@@ -288,9 +289,22 @@ write_outputs rack o bytes setup old new before after h halted rose =
               behind_next o setup p.first p.last fates q.front q.rest q.step q.told q.last (print q.told ++ shown) q.hidden p.begins.first q.cut q.reached split,
               p.left,
               have_failed rack fates p.before p.after p.from q.risen p.to,
+              p.begins.empty,
             ),
           ),
         )
+
+-- what a run left that came to an edit, and there was no memory to see whether it fits
+pub record Waiting (rack : Racks) (o : Options) (scripts : List Named) (steps : List (Option Step)) (old mid : Option (List ℕ)) : Type 0 where
+  pub first : Desk
+  pub last : Desk
+  pub begins : Begins rack o scripts first
+  pub before : ℕ
+  pub after : ℕ
+  pub waits : Waits desk_rules steps (played.scene desk_rules old first before) (played.scene desk_rules mid last after)
+  pub left : HoldTheBooks last rack.after.holds
+  pub from : rack.before.faults ≤ before
+  pub to : after ≤ rack.after.faults
 
 -- what a run left that came to a crash behind which the shelf was not opened, for this
 pub record Lost (rack : Racks) (o : Options) (scripts : List Named) (steps : List (Option Step)) (shelf : ℕ) (why : Reopen) (old mid : Option (List ℕ))
@@ -300,22 +314,25 @@ pub record Lost (rack : Racks) (o : Options) (scripts : List Named) (steps : Lis
   pub begins : Begins rack o scripts first
   pub before : ℕ
   pub after : ℕ
-  pub loses : played.Loses desk_rules (IsLeft rack.after) steps shelf (played.scene desk_rules old first before) (played.scene desk_rules mid last after)
+  pub loses : played.Loses desk_rules (IsLeft rack.after) steps shelf why (played.scene desk_rules old first before) (played.scene desk_rules mid last after)
   pub rose : why ≡ reopen.Disk → Rose loses.middle.faults after
   pub from : rack.before.faults ≤ before
   pub to : after ≤ rack.after.faults
 
 -- whole replies to the steps before the crash
 is_replied : (rack : Racks) (o : Options) (setup : Parsed) (shelf : ℕ) (why : Reopen) (old mid : Option (List ℕ))
-    (p : Lost rack o setup.scripts (steps_of setup.steps) shelf why old mid)
+    (p : Lost rack o setup.scripts (steps_for o setup) shelf why old mid)
     → IsLostBehind o setup p.loses.fates (print p.loses.told) shelf p.loses.middle.state
 is_replied rack o setup shelf why old mid p =
     let q = p.loses in
     let run = ap (λ (x : Desk). transcript desk_rules x 1 q.front q.fates) (sym p.begins.first) ∙ q.is in (
       record {
         front = q.front;
-        step = crash shelf;
-        next = refl;
+        step = q.step;
+        next = record {
+          crashed = q.crashed;
+          fitting = ap (λ (r : Run desk_rules). fits desk_rules q.step r.state) run ∙ q.fitting;
+        };
         rest = q.rest;
         cut = q.cut;
         text_is = ap (λ (r : Run desk_rules). text_of r) run;
@@ -324,16 +341,19 @@ is_replied rack o setup shelf why old mid p =
       ap (λ (r : Run desk_rules). r.state) run,
     )
 
+-- what a run left that came to want of memory: it halted at a step; or a shelf was not opened again; or it came to an edit
+abbrev pub RanOut : (rack : Racks) → Options → List Named → (steps : List (Option Step)) → (old mid : Option (List ℕ)) → Type 0
+RanOut rack o scripts steps old mid =
+    Halted rack o scripts steps [] old mid ⊎ (((shelf : ℕ) × (why : Reopen) × Lost rack o scripts steps shelf why old mid) ⊎ Waiting rack o scripts steps old mid)
+
 pub memory_outputs : (rack : Racks) (o : Options) (bytes : List ℕ) (setup : Parsed) (s : Status) (old mid new : Option (List ℕ)) (before between after : ℕ)
     → setup_of Steps bytes ≡ Ok setup
-    → (IsTrue rack.tells → Halted rack o setup.scripts (steps_of setup.steps) [] old mid ⊎ ((shelf : ℕ) × (why : Reopen) × Lost rack o setup.scripts (steps_of setup.steps) shelf why old mid))
-    → before ≤ between → s ≡ status.Memory → AppendsUnlessFault mid new (codes "error 10 memory\n") between after
+    → (IsTrue rack.tells → RanOut rack o setup.scripts (steps_for o setup) old mid) → before ≤ between → s ≡ status.Memory → AppendsUnlessFault mid new (codes "error 10 memory\n") between after
     → Outputs rack (Play o) bytes s (sinks old new before after)
 memory_outputs rack o bytes setup s old mid new before between after h halted le is told =
     subst (λ (x : Status). Outputs rack (Play o) bytes x (sinks old new before after)) (sym is) (by_tells rack o bytes setup h _ (λ t. paused (halted t)))
   where
-    paused : Halted rack o setup.scripts (steps_of setup.steps) [] old mid ⊎ ((shelf : ℕ) × (why : Reopen) × Lost rack o setup.scripts (steps_of setup.steps) shelf why old mid)
-        → (chances : Chances) × Pauses rack (Play o) bytes chances (codes "error 10 memory\n") (sinks old new before after)
+    paused : RanOut rack o setup.scripts (steps_for o setup) old mid → (chances : Chances) × Pauses rack (Play o) bytes chances (codes "error 10 memory\n") (sinks old new before after)
     paused (inl p) =
         let q = p.halts in
         let fates = q.fates ++ q.came.fates in
@@ -353,12 +373,12 @@ memory_outputs rack o bytes setup s old mid new before between after h halted le
             tells old mid new (print q.told) (codes "error 10 memory\n") before after (subst (Appends old mid) (append-nil (print q.told)) q.written) (since mid new _ before between after le told),
             subst (λ (r : Result Parsed Fault). Remains rack (Play o) r (chances_of o fates) (print q.told) IsAny 0) (sym h) (
               performed p.last
-                  (behind_next o setup p.first p.last fates q.front q.rest q.step q.told q.last (print q.told) (print q.last) p.begins.first q.cut q.reached refl) p.left,
+                  (behind_next o setup p.first p.last fates q.front q.rest q.step q.told q.last (print q.told) (print q.last) p.begins.first q.cut q.reached refl) p.left p.begins.empty,
               have_failed rack fates p.before p.after p.from q.risen p.to,
             ),
           ),
         )
-    paused (inr (shelf, why, p)) =
+    paused (inr (inl (shelf, why, p))) =
         let q = p.loses in
         let run = ap (λ (x : Desk). transcript desk_rules x 1 q.front q.fates) (sym p.begins.first) ∙ q.is in (
           chances_of o q.fates,
@@ -366,7 +386,7 @@ memory_outputs rack o bytes setup s old mid new before between after h halted le
             print q.told,
             replies o setup (print q.told) refl h (record {
               front = q.front;
-              step = crash shelf;
+              step = q.step;
               next = tt;
               rest = q.rest;
               cut = q.cut;
@@ -375,20 +395,49 @@ memory_outputs rack o bytes setup s old mid new before between after h halted le
             }),
             tells old mid new (print q.told) (codes "error 10 memory\n") before after q.written (since mid new _ before between after le told),
             subst (λ (r : Result Parsed Fault). Remains rack (Play o) r (chances_of o q.fates) (print q.told) IsAny 0) (sym h) (
-              lost shelf q.middle.state tt (is_replied rack o setup shelf why old mid p) q.stands,
+              lost shelf why q.middle.state tt (is_replied rack o setup shelf why old mid p) q.stands p.begins.empty,
               have_failed rack q.fates p.before q.middle.faults p.from q.risen (let later = q.later in let to = p.to in omega (arith, later, to)),
+            ),
+          ),
+        )
+    paused (inr (inr p)) =
+        let q = p.waits in
+        let run = ap (λ (x : Desk). transcript desk_rules x 1 q.front q.fates) (sym p.begins.first) ∙ q.is in
+        let text = ap (λ (r : Run desk_rules). text_of r) run in (
+          chances_of o q.fates,
+          (
+            print q.told,
+            replies o setup (print q.told) refl h (record {
+              front = q.front;
+              step = edit q.name q.text;
+              next = tt;
+              rest = q.rest;
+              cut = q.cut;
+              text_is = text;
+              goes_on = ap (λ (r : Run desk_rules). r.end) run;
+            }),
+            tells old mid new (print q.told) (codes "error 10 memory\n") before after q.written (since mid new _ before between after le told),
+            subst (λ (r : Result Parsed Fault). Remains rack (Play o) r (chances_of o q.fates) (print q.told) IsAny 0) (sym h) (
+              performed p.last (record {
+                front = q.front;
+                rest = Some (edit q.name q.text) ∷ q.rest;
+                cut = q.cut;
+                printed = ([], append-nil (print q.told) ∙ sym text);
+                state = ap (λ (r : Run desk_rules). r.state) run;
+              }) p.left p.begins.empty,
+              have_failed rack q.fates p.before p.after p.from q.risen p.to,
             ),
           ),
         )
 
 pub lost_outputs : (rack : Racks) (o : Options) (bytes : List ℕ) (setup : Parsed) (shelf : ℕ) (old mid new : Option (List ℕ)) (before between after : ℕ)
-    → setup_of Steps bytes ≡ Ok setup → (IsTrue rack.tells → Lost rack o setup.scripts (steps_of setup.steps) shelf reopen.Disk old mid) → before ≤ between
+    → setup_of Steps bytes ≡ Ok setup → (IsTrue rack.tells → Lost rack o setup.scripts (steps_for o setup) shelf reopen.Disk old mid) → before ≤ between
     → ShelfFailed rack shelf → AppendsUnlessFault mid new (disk_line shelf) between after → Outputs rack (Play o) bytes status.Disk (sinks old new before after)
 lost_outputs rack o bytes setup shelf old mid new before between after h lost_so le failed told =
     let x = by_tells rack o bytes setup h (λ chances. Loses rack (Play o) bytes chances shelf (sinks old new before after)) (λ t. loses (lost_so t)) in
     (x.0, (shelf, failed, x.1))
   where
-    loses : Lost rack o setup.scripts (steps_of setup.steps) shelf reopen.Disk old mid
+    loses : Lost rack o setup.scripts (steps_for o setup) shelf reopen.Disk old mid
         → (chances : Chances) × Loses rack (Play o) bytes chances shelf (sinks old new before after)
     loses p =
         let q = p.loses in
@@ -398,9 +447,36 @@ lost_outputs rack o bytes setup shelf old mid new before between after h lost_so
             print q.told,
             at_crash o setup (print q.told) refl h replied.0,
             tells old mid new (print q.told) (disk_line shelf) before after q.written (since mid new _ before between after le told),
-            subst (λ (r : Result Parsed Fault). Remains rack (Play o) r (chances_of o q.fates) (print q.told) (IsThis shelf) 1) (sym h)
-                (lost shelf q.middle.state refl replied q.stands, have_failed_once rack q.fates p.before q.middle.faults p.after p.from q.risen (p.rose refl) p.to),
+            subst (λ (r : Result Parsed Fault). Remains rack (Play o) r (chances_of o q.fates) (print q.told) (IsFailed shelf) 1) (sym h)
+                (lost shelf reopen.Disk q.middle.state (refl, refl) replied q.stands p.begins.empty, have_failed_once rack q.fates p.before q.middle.faults p.after p.from q.risen (p.rose refl) p.to),
           ),
+        )
+
+-- an edit outgrew the journal of a shelf
+pub outgrown_outputs : (rack : Racks) (o : Options) (bytes : List ℕ) (setup : Parsed) (shelf size : ℕ) (old mid new : Option (List ℕ)) (before between after : ℕ)
+    → setup_of Steps bytes ≡ Ok setup → (IsTrue rack.tells → Lost rack o setup.scripts (steps_for o setup) shelf (reopen.Full size) old mid) → before ≤ between
+    → AppendsUnlessFault mid new (unfit_line shelf (full size)) between after → Outputs rack (Play o) bytes status.Journal (sinks old new before after)
+outgrown_outputs rack o bytes setup shelf size old mid new before between after h lost_so le told =
+    by_tells rack o bytes setup h (λ chances. LeavesShut rack (Play o) bytes chances (sinks old new before after)) (λ t. outgrows (lost_so t))
+  where
+    outgrows : Lost rack o setup.scripts (steps_for o setup) shelf (reopen.Full size) old mid
+        → (chances : Chances) × LeavesShut rack (Play o) bytes chances (sinks old new before after)
+    outgrows p =
+        let q = p.loses in (
+          chances_of o q.fates,
+          inr (subst (λ (r : Result Parsed Fault). TellsOutgrown rack (with_setup (Play o) r) (chances_of o q.fates) (sinks old new before after)) (sym h) (
+            shelf,
+            size,
+            print q.told,
+            record {
+              last = q.middle.state;
+              lost = is_replied rack o setup shelf (reopen.Full size) old mid p;
+              left = q.stands;
+              counted = have_failed rack q.fates p.before q.middle.faults p.from q.risen (let later = q.later in let to = p.to in omega (arith, later, to));
+              began = p.begins.empty;
+            },
+            tells old mid new (print q.told) (unfit_line shelf (full size)) before after q.written (since mid new _ before between after le told),
+          )),
         )
 
 -- ---- a run of steps that does not begin
@@ -417,8 +493,8 @@ unread_outputs rack o bytes setup shelf old new before after h failed kept told 
       [],
       at_first o refl,
       tells old old new [] (disk_line shelf) before after (appends_none old) told,
-      subst (λ (r : Result Parsed Fault). Remains rack (Play o) r no_chances [] (IsThis shelf) 1) (sym h) (
-        unopened shelf cause.Disk refl refl (kept (tells_of rack o bytes setup h settles)),
+      subst (λ (r : Result Parsed Fault). Remains rack (Play o) r no_chances [] (IsFailed shelf) 1) (sym h) (
+        unopened shelf cause.Disk (refl, refl) refl (kept (tells_of rack o bytes setup h settles)),
         (let none : count_by is_fault [] ≡ 0 = refl in let rose = failed.all in omega (arith, none, rose)),
       ),
     ),
@@ -430,6 +506,7 @@ pub closed_before : (holds : ℕ → List ℕ → Type 0) (count shelf : ℕ) (w
 closed_before holds count shelf cause.NotEmpty h = h.1.before
 closed_before holds count shelf (cause.Damaged place) h = absurd h
 closed_before holds count shelf (cause.Other place) h = absurd h
+closed_before holds count shelf (cause.Full length) h = absurd h
 closed_before holds count shelf cause.Disk h = h.1
 closed_before holds count shelf cause.Memory h = h.1
 
@@ -450,25 +527,25 @@ unopened_early rack o bytes setup shelf why s old new before after h kept later 
     ))
 
 -- the disks before this one are empty, and this one holds something
-pub record IsFull (rack : Racks) (o : Options) (shelf : ℕ) : Type 0 where
+pub record HoldsSome (rack : Racks) (o : Options) (shelf : ℕ) : Type 0 where
   pub within : shelf < o.shelves
   pub empty : (k : ℕ) → k < shelf → rack.before.holds k []
   pub byte : ℕ
   pub bytes : List ℕ
-  pub full : rack.before.holds shelf (byte ∷ bytes)
+  pub held : rack.before.holds shelf (byte ∷ bytes)
 
-full_chances : (rack : Racks) (o : Options) (shelf : ℕ) → IsFull rack o shelf → Chances
-full_chances rack o shelf p = record { disks = replicate shelf [] ++ (p.byte ∷ p.bytes) ∷ []; fates = [] }
+some_chances : (rack : Racks) (o : Options) (shelf : ℕ) → HoldsSome rack o shelf → Chances
+some_chances rack o shelf p = record { disks = replicate shelf [] ++ (p.byte ∷ p.bytes) ∷ []; fates = [] }
 
-pub full_unfit : (n k : ℕ) (b : ℕ) (bs : List ℕ) (m : ℕ) → k + n ≡ m → first_unfit unfit_new k (replicate n [] ++ (b ∷ bs) ∷ []) ≡ Some (m, not_empty)
-full_unfit zero k b bs m is = let same : k ≡ m = omega (arith, is) in ap (λ j. Some (j, not_empty)) same
-full_unfit (suc n) k b bs m is = full_unfit n (k + 1) b bs m (omega (arith, is))
+pub some_unfit : (n k : ℕ) (b : ℕ) (bs : List ℕ) (m : ℕ) → k + n ≡ m → first_unfit unfit_new k (replicate n [] ++ (b ∷ bs) ∷ []) ≡ Some (m, not_empty)
+some_unfit zero k b bs m is = let same : k ≡ m = omega (arith, is) in ap (λ j. Some (j, not_empty)) same
+some_unfit (suc n) k b bs m is = some_unfit n (k + 1) b bs m (omega (arith, is))
 
-pub full_held : (holds : ℕ → List ℕ → Type 0) (n k : ℕ) (image : List ℕ) (m : ℕ) → k + n ≡ m → ((j : ℕ) → j < m → holds j []) → holds m image
+pub some_held : (holds : ℕ → List ℕ → Type 0) (n k : ℕ) (image : List ℕ) (m : ℕ) → k + n ≡ m → ((j : ℕ) → j < m → holds j []) → holds m image
     → AreHeld holds k (replicate n [] ++ image ∷ [])
-full_held holds zero k image m is each here = (subst (λ j. holds j image) (sym (let same : k ≡ m = omega (arith, is) in same)) here, tt)
-full_held holds (suc n) k image m is each here =
-    (each k (omega (arith, is)), full_held holds n (k + 1) image m (omega (arith, is)) each here)
+some_held holds zero k image m is each here = (subst (λ j. holds j image) (sym (let same : k ≡ m = omega (arith, is) in same)) here, tt)
+some_held holds (suc n) k image m is each here =
+    (each k (omega (arith, is)), some_held holds n (k + 1) image m (omega (arith, is)) each here)
 
 -- nothing was lost where one disk is not empty, and those behind it were not taken
 pub all_stay : (rack : Racks) (scripts : List Named) (shelf : ℕ) (image : List ℕ) → AllStayKept scripts rack.before.holds rack.after.holds shelf cause.NotEmpty
@@ -480,26 +557,26 @@ all_stay rack scripts shelf image stay = record {
       stay.behind n (omega (arith, le, length-append empties (image ∷ []), length-replicate {A = List ℕ} shelf []));
 }
 
-pub full_outputs : (rack : Racks) (o : Options) (bytes : List ℕ) (setup : Parsed) (shelf : ℕ) (old new : Option (List ℕ)) (before after : ℕ)
-    → setup_of Steps bytes ≡ Ok setup → (IsTrue rack.tells → IsFull rack o shelf)
+pub some_outputs : (rack : Racks) (o : Options) (bytes : List ℕ) (setup : Parsed) (shelf : ℕ) (old new : Option (List ℕ)) (before after : ℕ)
+    → setup_of Steps bytes ≡ Ok setup → (IsTrue rack.tells → HoldsSome rack o shelf)
     → (IsTrue rack.tells → AllStayKept setup.scripts rack.before.holds rack.after.holds shelf cause.NotEmpty)
     → AppendsUnlessFault old new (unfit_line shelf not_empty) before after → Outputs rack (Play o) bytes status.Journal (sinks old new before after)
-full_outputs rack o bytes setup shelf old new before after h full kept told =
-    by_tells rack o bytes setup h (λ chances. Gives rack (Play o) bytes chances 8 (sinks old new before after) × RemainsShut rack (Play o) (setup_of Steps bytes) chances)
-    (λ t. shut (full t) (kept t))
+some_outputs rack o bytes setup shelf old new before after h held kept told =
+    by_tells rack o bytes setup h (λ chances. LeavesShut rack (Play o) bytes chances (sinks old new before after))
+    (λ t. let x = shut (held t) (kept t) in (x.0, inl x.1))
   where
-    shut : IsFull rack o shelf → AllStayKept setup.scripts rack.before.holds rack.after.holds shelf cause.NotEmpty
+    shut : HoldsSome rack o shelf → AllStayKept setup.scripts rack.before.holds rack.after.holds shelf cause.NotEmpty
         → (chances : Chances) × (Gives rack (Play o) bytes chances 8 (sinks old new before after) × RemainsShut rack (Play o) (setup_of Steps bytes) chances)
     shut p stay =
         let images : List (List ℕ) = replicate shelf [] ++ (p.byte ∷ p.bytes) ∷ [] in
         let chances : Chances = record { disks = images; fates = [] } in
-        let unfit = full_unfit shelf 0 p.byte p.bytes shelf (omega arith) in
+        let unfit = some_unfit shelf 0 p.byte p.bytes shelf (omega arith) in
         let taken : AreTaken unfit_new rack.before.holds o.shelves images = record {
-          held = full_held rack.before.holds shelf 0 (p.byte ∷ p.bytes) shelf (omega arith) p.empty p.full;
+          held = some_held rack.before.holds shelf 0 (p.byte ∷ p.bytes) shelf (omega arith) p.empty p.held;
           all = λ none. absurd (let no : None ≡ Some (shelf, not_empty) = sym none ∙ unfit in cc);
         } in
         let is : output_of (Play o) bytes chances ≡ record { text = []; error = unfit_line shelf not_empty; status = 8 } =
-        rw h (ap (λ f. unless_shut f (finished (run_of o setup.scripts (steps_of setup.steps) []))) unfit) in (
+        rw h (ap (λ f. unless_shut f (finished (run_of o setup.scripts (steps_for o setup) []))) unfit) in (
           chances,
           (
             record {

@@ -1,5 +1,5 @@
 -- What a serving came to, by what its calls say.
-use Rattle.std.proofs.Common.{◌≡◌, ◌≤◌, ◌<◌, ◌^◌, ◌∷◌, ◌∙◌, [], inl, inr, ap, subst, sym, ℕ, List, length, Option, Some, None, IfSome, IsTrue, Result, Ok, refl, arith, codes}
+use Rattle.std.proofs.Common.{◌≡◌, ◌≢◌, ◌∙◌, [], inl, inr, ap, subst, sym, ℕ, List, length, Option, Some, None, IfSome, IsTrue, Result, Ok, refl, arith, codes}
 use Rattle.std.specs.Prelude.{Err, IsErrOf, slice_get, sum_by}
 use Rattle.std.proofs.lemmas.Option.{same_Some, slice_get_within}
 use Rattle.lock_row.proofs.Places.{get_there}
@@ -17,42 +17,42 @@ use Rattle.site_serving.specs.Totals.{total}
 use Rattle.setup_reader.specs.declared.setup.Ending.TheVariants.{Input}
 use Rattle.setup_reader.specs.Setup.{Fault, Parsed, setup_of}
 use Rattle.setup_reader.specs.Faults.{fault_line}
-use Rattle.site.specs.declared.opening.Opening.{Opening}
+use Rattle.site_serving.specs.Shelves.{Opened, Opening}
 use Rattle.site_serving.specs.declared.serving.ServingFault.{ServingFault}
 use Rattle.site_serving.specs.declared.serving.ServingFault.TheVariants as faults
 use Rattle.site_serving.specs.Kept.{Kept}
-use Rattle.site.specs.Opened.{Opened}
 use Rattle.site_serving.specs.Serving.{AreUntouched, ComesTo, IsUnserved, Leaves, opened_as}
 use Rattle.server_command.specs.declared.program.Status.{Status}
 use Rattle.server_command.specs.declared.program.Status.TheVariants as status
 use Rattle.server_command.specs.declared.serving.ServeFault.{ServeFault}
 use Rattle.server_command.specs.declared.serving.ServeFault.TheVariants as fault
-use Rattle.server_command.specs.declared.opening.Unopened.{Unopened}
-use Rattle.server_command.specs.declared.opening.Unopened.TheVariants as unopened
+use Rattle.play_desk.specs.declared.opening.OpenCause.{OpenCause}
+use Rattle.play_desk.specs.declared.opening.OpenCause.TheVariants as cause
+use Rattle.play_desk.specs.declared.opening.OpenFault.{OpenFault}
 use Rattle.server_command.specs.Command.{TellsFaultLine, TellsNoSetup}
 use Rattle.server_command.specs.Opening.{FailsAt, IsRefused, LeavesFrom, OpensOn, RefusesInOrder, RefusesOn}
 use Rattle.server_command.specs.Output.{Answers, Chances, PrintsTo, Sinks, rules_for, served, sinks}
 use Rattle.server_command.specs.Telling.{TellsOutcome, TellsUnopened, told, untold}
 use Rattle.play_desk.specs.Opening.{IsKept}
-use Rattle.server_command.specs.Racks.{AtRest, Racks, damaged, other}
-use Rattle.server_command.specs.Serving.{Faults, HaveRisen, KeepsAll, KeepsAllBut, LeavesInput, LeavesServing, NoneIsLost, Opens, Outside, Served, Serves, ServesBy, ShutsBy, serves_over, told_as, watch_of}
+use Rattle.server_command.specs.Racks.{AtRest, Racks, Unfit, damaged, other, full, first_unfit, unfit_left}
+use Rattle.server_command.specs.Serving.{Faults, HaveRisen, KeepsAll, KeepsAllBut, LeavesInput, LeavesServing, NoneIsLost, Opens, Outside, Served, Serves, ServesBy, Shuts, ShutsBy, serves_over, told_as, watch_of}
 use Rattle.server_command.proofs.Endings.{no_chances, tells}
 use Rattle.server_command.proofs.Shelves.{faults_sum, opened_fits, stands_from, untouched_at}
 
 -- the shelves were opened on what their disks held
 opens_of : {D P L N : Type 0} (o : Outside D P L N) (s : Service) (scripts : List Named) (sources : List N) (middle : RackView) (openings : List (Opening D N))
     → length sources ≡ s.options.shelves
-    → (p : OpensOn o.views.disk o.views.told (IsTrue o.rack.tells) o.views.nonce (λ k. rules_for s.options k scripts) scripts sources o.rack.before middle openings)
+    → (p : OpensOn o.views.disk o.views.told (IsTrue o.rack.tells) o.views.nonce (rules_for s.options) scripts sources o.rack.before middle openings)
     → Opens o.rack s scripts p.images
 opens_of o s scripts sources middle openings count p = λ t. (
   record { held = p.taken.held t; all = λ none. p.taken.many ∙ count },
-  opened_fits o.views.disk o.views.told (IsTrue o.rack.tells) o.views.nonce (λ k. rules_for s.options k scripts) scripts 0 p.images sources openings p.opened t,
+  opened_fits o.views.disk o.views.told (IsTrue o.rack.tells) o.views.nonce (rules_for s.options) scripts 0 p.images sources openings p.opened t,
 )
 
 -- links were served, or not
 pub serves_of : {D P L N : Type 0} (o : Outside D P L N) (s : Service) (scripts : List Named) (sources : List N) (middle : RackView) (openings : List (Opening D N))
     (disks : List D) (result : Result Tally ServingFault) → length sources ≡ s.options.shelves → IfSome (o.seeds.gives s.options.shelves) (λ given. given ≡ sources)
-    → (p : OpensOn o.views.disk o.views.told (IsTrue o.rack.tells) o.views.nonce (λ k. rules_for s.options k scripts) scripts sources o.rack.before middle openings)
+    → (p : OpensOn o.views.disk o.views.told (IsTrue o.rack.tells) o.views.nonce (rules_for s.options) scripts sources o.rack.before middle openings)
     → (IsTrue o.rack.tells → IsTrue o.views.told) → length disks ≡ length sources
     → (IsTrue o.rack.tells → (k : ℕ) (d : D) → slice_get disks k ≡ Some d → AreAmong (o.rack.after.holds k) (o.views.disk d).images)
     → LeavesFrom (length disks) middle o.rack.after → RoseBy (sum_by (λ d. (o.views.disk d).faults) disks) middle.faults o.rack.after.faults
@@ -89,7 +89,7 @@ serves_of {D = D} {P = P} {L = L} {N = N} o s scripts sources middle openings di
           let later = p.taken.later in
           let rose = counts in
           omega (arith, sum, later, rose);
-      stands = λ t k x h x_is h_is. stands_from o.views.disk o.views.told (IsTrue o.rack.tells) o.views.nonce (λ j. rules_for s.options j scripts) scripts 0 s.workers
+      stands = λ t k x h x_is h_is. stands_from o.views.disk o.views.told (IsTrue o.rack.tells) o.views.nonce (rules_for s.options) scripts 0 s.workers
           o.rack.after.holds p.images sources openings disks kept.histories (tells t) p.opened left.served.shelves
           (λ i j d at d_is. subst (λ m. AreAmong (o.rack.after.holds m) (o.views.disk d).images) (let same : i ≡ j = omega (arith, at) in same) (held t i d d_is))
           k k x h (omega arith) x_is h_is;
@@ -106,7 +106,7 @@ serves_of {D = D} {P = P} {L = L} {N = N} o s scripts sources middle openings di
 
 -- no sources were drawn, and nothing was asked of the rack
 pub undrawn : {D P L N : Type 0} (o : Outside D P L N) (s : Service) (scripts : List Named) (why : ServeFault) → IsUnserved o.before o.after o.past → o.rack.after ≡ o.rack.before
-    → (why ≡ fault.Door → ⊥) → ((w : Unopened) → why ≡ fault.Shelf w → ⊥) → ServesBy (serves_over o) s scripts [] (Err why)
+    → (why ≡ fault.Door → ⊥) → ((w : OpenFault) → why ≡ fault.Shelf w → ⊥) → ServesBy (serves_over o) s scripts [] (Err why)
 undrawn o s scripts why none same door shelf = by_why why door shelf
   where
     keeps : KeepsAll o.rack scripts []
@@ -116,7 +116,7 @@ undrawn o s scripts why none same door shelf = by_why why door shelf
       unread = λ k left le is. subst (λ (r : RackView). r.holds k left) same is;
     }
 
-    by_why : (w : ServeFault) → (w ≡ fault.Door → ⊥) → ((x : Unopened) → w ≡ fault.Shelf x → ⊥) → ServesBy (serves_over o) s scripts [] (Err w)
+    by_why : (w : ServeFault) → (w ≡ fault.Door → ⊥) → ((x : OpenFault) → w ≡ fault.Shelf x → ⊥) → ServesBy (serves_over o) s scripts [] (Err w)
     by_why fault.Key door shelf = (
       none,
       record {
@@ -131,50 +131,49 @@ undrawn o s scripts why none same door shelf = by_why why door shelf
     by_why fault.Memory door shelf = (none, keeps)
 
 -- a shelf was not opened
-pub refuses_of : {D P L N : Type 0} (o : Outside D P L N) (s : Service) (scripts : List Named) (why : Unopened) → IsUnserved o.before o.after o.past
-    → (p : RefusesOn (IsTrue o.rack.tells) scripts s.options.shelves o.rack.before o.rack.after why) → ServesBy (serves_over o) s scripts p.images (Err (fault.Shelf why))
-refuses_of o s scripts why none p = (none, by_why why p.refused p.in_order p.kept p.unread)
+pub refuses_of : {D P L N : Type 0} (o : Outside D P L N) (s : Service) (scripts : List Named) (f : OpenFault) → IsUnserved o.before o.after o.past
+    → (p : RefusesOn (IsTrue o.rack.tells) scripts s.options.shelves o.rack.before o.rack.after f) → ServesBy (serves_over o) s scripts p.images (Err (fault.Shelf f))
+refuses_of o s scripts f none p = (none, by_why f.why p.refused p.in_order p.kept)
   where
-    all_kept : {w : Unopened} → IsTrue o.rack.tells
-        → (IsTrue o.rack.tells → (k : ℕ) (read left : List ℕ) → slice_get p.images k ≡ Some read → o.rack.after.holds k left → (w ≡ unopened.Disk k → ⊥)
-        → IsKept scripts k (o.rack.before.holds k) read left)
-        → (IsTrue o.rack.tells → LeavesFrom (length p.images) o.rack.before o.rack.after) → ((k : ℕ) → w ≡ unopened.Disk k → ⊥)
-        → NoneIsLost o.rack scripts p.images
-    all_kept t kept rest not = record {
+    Keeps : OpenCause → Type 0
+    Keeps w =
+        IsTrue o.rack.tells → (k : ℕ) (read left : List ℕ) → slice_get p.images k ≡ Some read → o.rack.after.holds k left → (w ≡ cause.Disk → k ≢ f.shelf)
+        → IsKept scripts k (o.rack.before.holds k) read left
+
+    all_kept : (w : OpenCause) → IsTrue o.rack.tells → Keeps w → (w ≡ cause.Disk → ⊥) → NoneIsLost o.rack scripts p.images
+    all_kept w t kept not = record {
       held = p.held t;
-      read = λ k read left read_is left_is. kept t k read left read_is left_is (not k);
-      unread = λ k left le is. rest t k le left is;
+      read = λ k read left read_is left_is. kept t k read left read_is left_is (λ e. absurd (not e));
+      unread = λ k left le is. p.unread t k le left is;
     }
 
-    by_why : (w : Unopened) → IsRefused (IsTrue o.rack.tells) (FailsAt s.options.shelves o.rack.before o.rack.after) scripts p.images w
-        → (IsTrue o.rack.tells → RefusesInOrder scripts o.rack.before o.rack.after s.options.shelves p.images w)
-        → (IsTrue o.rack.tells → (k : ℕ) (read left : List ℕ) → slice_get p.images k ≡ Some read → o.rack.after.holds k left → (w ≡ unopened.Disk k → ⊥)
-        → IsKept scripts k (o.rack.before.holds k) read left)
-        → (IsTrue o.rack.tells → LeavesFrom (length p.images) o.rack.before o.rack.after)
-        → ShutsBy o.rack s scripts p.images w
-    by_why (unopened.Disk shelf) h order kept rest = (
+    -- nothing was opened on what a disk holds
+    shuts : (w : OpenCause) (why : Unfit) → (IsTrue o.rack.tells → first_unfit (unfit_left scripts) 0 p.images ≡ Some (f.shelf, why))
+        → (IsTrue o.rack.tells → length p.images ≡ s.options.shelves) → Keeps w → (w ≡ cause.Disk → ⊥) → Shuts o.rack s scripts p.images f.shelf why
+    shuts w why h order kept not t = (
+      record { held = p.held t; all = λ none. absurd (let no : None ≡ Some (f.shelf, why) = sym none ∙ h t in cc) },
+      h t,
+      all_kept w t kept not,
+      order t,
+    )
+
+    by_why : (w : OpenCause) → IsRefused (IsTrue o.rack.tells) (FailsAt s.options.shelves o.rack.before o.rack.after) scripts p.images f.shelf w
+        → (IsTrue o.rack.tells → RefusesInOrder scripts o.rack.before o.rack.after s.options.shelves p.images f.shelf w) → Keeps w
+        → ShutsBy o.rack s scripts p.images f.shelf w
+    by_why cause.Disk h order kept = (
       h.0,
       h.1,
       λ t. record {
-        read = λ k read left read_is left_is other. kept t k read left read_is left_is (λ e. other (let same : k ≡ shelf = cc in same));
-        unread = λ k left le is. rest t k le left is;
+        read = λ k read left read_is left_is other. kept t k read left read_is left_is (λ e. other);
+        unread = λ k left le is. p.unread t k le left is;
       },
       order,
     )
-    by_why (unopened.NotEmpty shelf) h order kept rest = h
-    by_why (unopened.Damaged shelf place) h order kept rest = λ t. (
-      record { held = p.held t; all = λ none. absurd (let no : None ≡ Some (shelf, damaged place) = sym none ∙ h t in cc) },
-      h t,
-      all_kept t kept rest (λ k e. let no : ⊥ = cc e in no),
-      order t,
-    )
-    by_why (unopened.Other shelf place) h order kept rest = λ t. (
-      record { held = p.held t; all = λ none. absurd (let no : None ≡ Some (shelf, other place) = sym none ∙ h t in cc) },
-      h t,
-      all_kept t kept rest (λ k e. let no : ⊥ = cc e in no),
-      order t,
-    )
-    by_why unopened.Memory h order kept rest = λ t. all_kept t kept rest (λ k e. let no : ⊥ = cc e in no)
+    by_why cause.NotEmpty h order kept = h
+    by_why (cause.Damaged place) h order kept = shuts (cause.Damaged place) (damaged place) h order kept (λ e. let no : ⊥ = cc e in no)
+    by_why (cause.Other place) h order kept = shuts (cause.Other place) (other place) h order kept (λ e. let no : ⊥ = cc e in no)
+    by_why (cause.Full length) h order kept = shuts (cause.Full length) (full length) h order kept (λ e. let no : ⊥ = cc e in no)
+    by_why cause.Memory h order kept = λ t. all_kept cause.Memory t kept (λ e. let no : ⊥ = cc e in no)
 
 -- the line of a setup's fault
 pub tells_fault_line : (line : List ℕ) (e : Fault) (old new : Option (List ℕ)) (before after : ℕ) → line ≡ fault_line e → AppendsUnlessFault old new line before after
@@ -196,27 +195,35 @@ memory_left serves v bytes s out door seeds is line none rest =
     subst (λ (x : Status). (chances : Chances) × LeavesInput serves v bytes chances x out door seeds) (sym is) (no_chances, (line, inl (none, rest)))
 
 -- what is kept where a shelf was not opened
-keeps_but : (rack : Racks) (v : Service) (scripts : List Named) (images : List (List ℕ)) (why : Unopened) → ShutsBy rack v scripts images why
+keeps_but : (rack : Racks) (v : Service) (scripts : List Named) (images : List (List ℕ)) (shelf : ℕ) (why : OpenCause) → ShutsBy rack v scripts images shelf why
     → KeepsAllBut rack scripts images
-keeps_but rack v scripts images (unopened.Disk shelf) h = inr (shelf, h.1, h.2)
-keeps_but rack v scripts images (unopened.NotEmpty shelf) h = absurd h
-keeps_but rack v scripts images (unopened.Damaged shelf place) h = inl (λ t. (h t).2)
-keeps_but rack v scripts images (unopened.Other shelf place) h = inl (λ t. (h t).2)
-keeps_but rack v scripts images unopened.Memory h = inl h
+keeps_but rack v scripts images shelf cause.Disk h = inr (shelf, h.1, h.2)
+keeps_but rack v scripts images shelf cause.NotEmpty h = absurd h
+keeps_but rack v scripts images shelf (cause.Damaged place) h = inl (λ t. (h t).2)
+keeps_but rack v scripts images shelf (cause.Other place) h = inl (λ t. (h t).2)
+keeps_but rack v scripts images shelf (cause.Full length) h = inl (λ t. (h t).2)
+keeps_but rack v scripts images shelf cause.Memory h = inl h
 
 -- a shelf was not opened, and that was told
-pub shuts_told : (serves : Serves) (v : Service) (scripts : List Named) (images : List (List ℕ)) (why : Unopened) (s : Status) (out : Sinks) (door seeds : Faults)
-    → ServesBy serves v scripts images (Err (fault.Shelf why)) → TellsUnopened why s out → LeavesServing serves v scripts images s out door seeds
-shuts_told serves v scripts images why s out door seeds by (untold is line) =
-    subst (λ x. LeavesServing serves v scripts images x out door seeds) (sym is) (line, inl (by.0, keeps_but serves.rack v scripts images why by.1))
-shuts_told serves v scripts images (unopened.Disk shelf) s out door seeds by (told line is same p) =
-    subst (λ x. LeavesServing serves v scripts images x out door seeds) (sym same) (shelf, by.1.1, by.1.0, subst (PrintsTo out) (sym (same_Some _ _ is)) p, by.0, by.1.2, by.1.3)
-shuts_told serves v scripts images (unopened.NotEmpty shelf) s out door seeds by (told line is same p) = absurd by.1
-shuts_told serves v scripts images (unopened.Damaged shelf place) s out door seeds by (told line is same p) =
-    subst (λ x. LeavesServing serves v scripts images x out door seeds) (sym same) (shelf, damaged place, by.1, subst (PrintsTo out) (sym (same_Some _ _ is)) p, by.0)
-shuts_told serves v scripts images (unopened.Other shelf place) s out door seeds by (told line is same p) =
-    subst (λ x. LeavesServing serves v scripts images x out door seeds) (sym same) (shelf, other place, by.1, subst (PrintsTo out) (sym (same_Some _ _ is)) p, by.0)
-shuts_told serves v scripts images unopened.Memory s out door seeds by (told line is same p) = absurd (let no : None ≡ Some line = is in cc)
+pub shuts_told : (serves : Serves) (v : Service) (scripts : List Named) (images : List (List ℕ)) (shelf : ℕ) (why : OpenCause) (s : Status) (out : Sinks)
+    (door seeds : Faults) → serves.unopened × ShutsBy serves.rack v scripts images shelf why → TellsUnopened shelf why s out
+    → LeavesServing serves v scripts images s out door seeds
+shuts_told serves v scripts images shelf why s out door seeds by (untold is line) =
+    subst (λ x. LeavesServing serves v scripts images x out door seeds) (sym is) (line, inl (by.0, keeps_but serves.rack v scripts images shelf why by.1))
+shuts_told serves v scripts images shelf cause.Disk s out door seeds by (told line is same p) =
+    subst (λ x. LeavesServing serves v scripts images x out door seeds) (sym same)
+    (shelf, by.1.1, by.1.0, subst (PrintsTo out) (sym (same_Some _ _ is)) p, by.0, by.1.2, by.1.3)
+shuts_told serves v scripts images shelf cause.NotEmpty s out door seeds by (told line is same p) = absurd by.1
+shuts_told serves v scripts images shelf (cause.Damaged place) s out door seeds by (told line is same p) =
+    subst (λ x. LeavesServing serves v scripts images x out door seeds) (sym same)
+    (shelf, damaged place, by.1, subst (PrintsTo out) (sym (same_Some _ _ is)) p, by.0)
+shuts_told serves v scripts images shelf (cause.Other place) s out door seeds by (told line is same p) =
+    subst (λ x. LeavesServing serves v scripts images x out door seeds) (sym same)
+    (shelf, other place, by.1, subst (PrintsTo out) (sym (same_Some _ _ is)) p, by.0)
+shuts_told serves v scripts images shelf (cause.Full length) s out door seeds by (told line is same p) =
+    subst (λ x. LeavesServing serves v scripts images x out door seeds) (sym same)
+    (shelf, full length, by.1, subst (PrintsTo out) (sym (same_Some _ _ is)) p, by.0)
+shuts_told serves v scripts images shelf cause.Memory s out door seeds by (told line is same p) = absurd (let no : None ≡ Some line = is in cc)
 
 -- what a serving came to was told
 pub told_left : (serves : Serves) (v : Service) (scripts : List Named) (images : List (List ℕ)) (outcome : Result Tally ServeFault) (s : Status) (out : Sinks)
@@ -228,7 +235,8 @@ told_left serves v scripts images (Ok tally) status.Memory out door seeds by key
 told_left serves v scripts images (Ok tally) s out door seeds by key opened p = absurd p
 told_left serves v scripts images (Err fault.Key) s out door seeds by key opened p =
     subst (λ x. LeavesServing serves v scripts images x out door seeds) (sym p.0) (key refl, p.1, by.0, by.1)
-told_left serves v scripts images (Err (fault.Shelf why)) s out door seeds by key opened p = shuts_told serves v scripts images why s out door seeds by p
+told_left serves v scripts images (Err (fault.Shelf f)) s out door seeds by key opened p =
+    shuts_told serves v scripts images f.shelf f.why s out door seeds by p
 told_left serves v scripts images (Err fault.Door) s out door seeds by key opened p =
     subst (λ x. LeavesServing serves v scripts images x out door seeds) (sym p.0) (opened refl, p.1, by)
 told_left serves v scripts images (Err fault.Memory) s out door seeds by key opened p =

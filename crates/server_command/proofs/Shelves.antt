@@ -1,70 +1,68 @@
 -- The shelves of a site: opened one behind the other, and standing when they were given back.
-use Rattle.std.proofs.Common.{◌≡◌, ◌≢◌, ◌<◌, ◌≤◌, ◌+◌, ◌-◌, ◌^◌, ◌++◌, ◌∷◌, ◌∙◌, inr, ℕ, zero, suc, List, [], length, Bool, IsTrue, Option, Some, None, refl, sym, ap, subst, arith}
+use Rattle.std.proofs.Common.{◌≡◌, ◌≢◌, ◌<◌, ◌≤◌, ◌+◌, ◌-◌, ◌^◌, ◌++◌, ◌∷◌, ◌∙◌, inl, inr, ℕ, append-nil, zero, suc, List, [], length, Bool, IsTrue, Some, None, refl, sym, ap, subst, arith}
 use Rattle.std.specs.Prelude.{min, slice_get, sum_by, take}
 use Rattle.std.proofs.lemmas.List.Sums.{sum_by-cons}
 use Rattle.std.proofs.lemmas.Option.{same_Some, slice_get_within}
 use Rattle.lock_row.specs.Spots.{Home}
 use Rattle.web_disk.specs.View.{View, RackView, AreAmong}
 use Rattle.script_nodes.specs.Setup.{Named}
-use Rattle.script_nodes.specs.Views.{scripts_of}
-use Rattle.script_nodes.specs.declared.setup.Setup.{Setup}
+use Rattle.setup_reader.specs.Texts.{setup_of_texts}
 use Rattle.replay_spec.specs.Book.{Book}
 use Rattle.replay_spec.specs.Rules as spec
+use Rattle.page_journal.specs.Records.{at_rest, stored}
 use Rattle.journal_spec.specs.Making.{book_in_bytes}
 use Rattle.journal_spec.specs.Standing.{Stands}
 use Rattle.lock_row.proofs.Places.{get_there, map_get}
-use Rattle.shelf.specs.declared.begin.BeginFault.{BeginFault}
-use Rattle.shelf.specs.declared.begin.BeginFault.TheVariants as fault
-use Rattle.shelf.specs.Opening.{IsFaultOf, MakesBook}
-use Rattle.shelf.specs.Owning.{StandsOwn}
-use Rattle.shelf.specs.Views.{book_in, rules_of, IsOwnShelf}
+use Rattle.site_serving.specs.Shelves as site
+use Rattle.site_serving.specs.Shelves.fault
+use Rattle.site_serving.specs.Shelves.{BeginFault, IsBegunAt, IsFaultOf, IsNotBegun, KeptEntry, MakesBook, Opening, Rules, SiteFault, StandsOwn, book_in, book_then, entries_of, opened_of, rules_of}
 use Rattle.play_desk.proofs.Closing.{holds_book}
-use Rattle.shelf.specs.declared.rules.Rules.{Rules}
-use Rattle.site.specs.declared.entry.KeptEntry.{KeptEntry}
-use Rattle.site.specs.declared.opening.Opening.{Opening}
-use Rattle.site.specs.declared.fault.SiteFault.{SiteFault}
-use Rattle.site.specs.Beginnings.{IsBegunAt, IsNotBegun}
-use Rattle.site.specs.Beginnings as site
-use Rattle.site.specs.Entries.{entries_of}
-use Rattle.site.specs.Openings.{book_then, opened_of}
 use Rattle.site_serving.specs.Pages.{faults_told}
 use Rattle.site_serving.specs.Serving.{AreEnded, AreUntouched, IsEnded, opened_as, openings_of}
 use Rattle.command_words.specs.declared.Options.{Options}
-use Rattle.server_command.specs.Opening.{AreAsked, IsRefused, RefusesInOrder, seen_on, unopened_by}
-use Rattle.server_command.specs.declared.opening.Unopened.TheVariants as unopened
+use Rattle.play_desk.specs.declared.opening.OpenCause.TheVariants as cause
+use Rattle.server_command.specs.Opening.{AreAsked, IsRefused, RefusesInOrder, seen_on}
 use Rattle.server_command.specs.Output.{rules_for}
-use Rattle.play_desk.specs.Opening.{IsKept}
-use Rattle.play_desk.proofs.Keeping.{is_kept}
-use Rattle.server_command.specs.Racks.{Unfit, found_unfit, first_unfit, unfit_left, unfit_making, damaged, other}
+use Rattle.play_desk.specs.Opening.{IsKept, cause_of, reopen_of}
+use Rattle.server_command.specs.Racks.{Unfit, found_unfit, first_unfit, unfit_left, unfit_making, damaged, other, full}
 use Rattle.server_command.specs.Serving.{AreOpened, AreOwn, IsOpened, StandsBehind}
-use Rattle.server_command.proofs.Racks.{made_fits}
+use Rattle.server_command.proofs.Racks.{long_made, made_fits}
 
 -- ---- opened
 
--- the limits that were asked for, with the number of a shelf
-asked_rules : (o : Options) (r : Rules) (k : ℕ) (scripts : List Named) → AreAsked o r → rules_of scripts (site.rules_for r k) ≡ rules_for o k scripts
-asked_rules o r k scripts a = λ at. record (rules_for o k scripts) { fuel = a.fuel at; life = a.life at; instances = a.instances at; pages = a.pages at }
+-- a disk on which nothing was lost, and what may be left of it
+nothing_lost : (scripts : List Named) (k : ℕ) (old new : View) (held : List ℕ → Type 0) → AreAmong old.images held → site.LosesNothing scripts k old new
+    → (left : List ℕ) → new.images left → IsKept scripts k held old.seen left
+nothing_lost scripts k old new held among (inl (inl u)) left is = inl (among left (u.1.1 left is))
+nothing_lost scripts k old new held among (inl (inr (intact, h))) left is =
+    inr (intact, inl (h.1 left is ∙ (h.0 ∙ ap at_rest (append-nil (stored old.seen)))))
+nothing_lost scripts k old new held among (inr (inl u)) left is = inl (among left (u.1.1 left is))
+nothing_lost scripts k old new held among (inr (inr (intact, h))) left is = inr (intact, inr (h.1 left is ∙ h.0))
 
-module _ {D N : Type 0} (view : D → View) (tells : Bool) (told : Type 0) (nonce : N → ℕ → ℕ) (o : Options) (setup : Setup) (rules : Rules) where
-  opened_one : (k : ℕ) (d : D) (n : N) (h : Home (Opening D N)) → (told → IsTrue tells) → AreAsked o rules → (b : IsBegunAt view tells setup rules k d n h)
-      → IsOpened view tells told nonce (rules_for o k (scripts_of setup)) (scripts_of setup) k (view d).seen n b.opening
+-- the limits that were asked for, with the number of a shelf
+asked_rules : (o : Options) (r : Rules) (k : ℕ) → AreAsked o r → rules_of (site.rules_for r k) ≡ rules_for o k
+asked_rules o r k a = λ at. record (rules_for o k) { fuel = a.fuel at; life = a.life at; instances = a.instances at; pages = a.pages at }
+
+module _ {D N : Type 0} (view : D → View) (tells : Bool) (told : Type 0) (nonce : N → ℕ → ℕ) (o : Options) (scripts : List Named) (rules : Rules) where
+  opened_one : (k : ℕ) (d : D) (n : N) (h : Home (Opening D N)) → (told → IsTrue tells) → AreAsked o rules → (b : IsBegunAt view tells scripts rules k d n h)
+      → IsOpened view tells told nonce (rules_for o k) scripts k (view d).seen n b.opening
   opened_one k d n h knows asked b = record {
-    setup = ap scripts_of b.setup_is;
-    limits = ap (rules_of (scripts_of setup)) b.shelf.rules_are ∙ asked_rules o rules k (scripts_of setup) asked;
+    setup = b.shelf.opened.setup;
+    limits = ap rules_of b.shelf.rules_are ∙ asked_rules o rules k asked;
     number = ap (λ (r : Rules). r.number) b.shelf.rules_are;
     book = λ t. b.shelf.book (knows t);
-    opened = b.shelf.opened;
+    short = b.shelf.in_order.sound;
+    opened = b.shelf.opened.again;
     stream = λ j. ap (λ (x : N). nonce x j) b.shelf.nonces_are ∙ ap (nonce n) (let same : j ≡ 0 + j = omega arith in same);
-    own = λ t image.
-        subst (λ (z : Setup). IsOwnShelf view tells (scripts_of z) b.opening.shelf.value) (sym b.setup_is) (b.shelf.own (knows t) image);
+    own = λ t image. b.shelf.own (knows t) image;
   }
 
   -- the shelves of a site that was begun, from this number on
   pub opened_from : (k : ℕ) (disks : List D) (nonces : List N) (homes : List (Home (Opening D N))) → length nonces ≡ length disks → length homes ≡ length disks
       → (told → IsTrue tells) → AreAsked o rules
       → ((i j : ℕ) (d : D) (n : N) (h : Home (Opening D N)) → j ≡ k + i → slice_get disks i ≡ Some d → slice_get nonces i ≡ Some n → slice_get homes i ≡ Some h
-      → IsBegunAt view tells setup rules j d n h)
-      → AreOpened view tells told nonce (λ j. rules_for o j (scripts_of setup)) (scripts_of setup) k (seen_on view disks) nonces (openings_of homes)
+      → IsBegunAt view tells scripts rules j d n h)
+      → AreOpened view tells told nonce (rules_for o) scripts k (seen_on view disks) nonces (openings_of homes)
   opened_from k [] [] [] ns hs knows asked each = tt
   opened_from k [] (n ∷ nonces) homes ns hs knows asked each = absurd (omega (arith, ns))
   opened_from k [] [] (h ∷ homes) ns hs knows asked each = absurd (omega (arith, hs))
@@ -74,16 +72,16 @@ module _ {D N : Type 0} (view : D → View) (tells : Bool) (told : Type 0) (nonc
       let b = each 0 k d n h (omega arith) refl refl refl in
       let rest = opened_from (k + 1) disks nonces homes (omega (arith, ns)) (omega (arith, hs)) knows asked
       (λ i j x y z is a b c. each (suc i) j x y z (omega (arith, is)) a b c) in
-      subst (λ os. AreOpened view tells told nonce (λ j. rules_for o j (scripts_of setup)) (scripts_of setup) k (seen_on view (d ∷ disks)) (n ∷ nonces) (os ++ openings_of homes))
+      subst (λ os. AreOpened view tells told nonce (rules_for o) scripts k (seen_on view (d ∷ disks)) (n ∷ nonces) (os ++ openings_of homes))
       (sym b.opening_is) (opened_one k d n h knows asked b, rest)
 
   -- nothing was lost on the disks of a site that was begun
   pub kept_from : (k : ℕ) (disks : List D) (nonces : List N) (homes : List (Home (Opening D N))) (holds : ℕ → List ℕ → Type 0) → length nonces ≡ length disks
       → length homes ≡ length disks → IsTrue tells
       → ((i j : ℕ) (d : D) (n : N) (h : Home (Opening D N)) → j ≡ k + i → slice_get disks i ≡ Some d → slice_get nonces i ≡ Some n → slice_get homes i ≡ Some h
-      → IsBegunAt view tells setup rules j d n h × AreAmong (view d).images (holds j))
+      → IsBegunAt view tells scripts rules j d n h × AreAmong (view d).images (holds j))
       → (i j : ℕ) (x : Opening D N) (read left : List ℕ) → j ≡ k + i → slice_get (openings_of homes) i ≡ Some x → slice_get (seen_on view disks) i ≡ Some read
-      → (view x.shelf.value.journal.disk).images left → IsKept (scripts_of setup) j (holds j) read left
+      → (view x.shelf.value.journal.disk).images left → IsKept scripts j (holds j) read left
   kept_from k [] nonces homes holds ns hs t each i j x read left is x_is read_is left_is = absurd (let no : ⊥ = cc read_is in no)
   kept_from k (d ∷ disks) [] homes holds ns hs t each i j x read left is x_is read_is left_is = absurd (omega (arith, ns))
   kept_from k (d ∷ disks) (n ∷ nonces) [] holds ns hs t each i j x read left is x_is read_is left_is = absurd (omega (arith, hs))
@@ -93,8 +91,8 @@ module _ {D N : Type 0} (view : D → View) (tells : Bool) (told : Type 0) (nonc
       let first : Some b.opening ≡ Some x = ap (λ os. slice_get (os ++ openings_of homes) 0) (sym b.opening_is) ∙ x_is in
       let same : b.opening ≡ x = same_Some b.opening x first in
       let bytes : (view d).seen ≡ read = same_Some (view d).seen read read_is in
-      subst (λ r. IsKept (scripts_of setup) j (holds j) r left) bytes
-      (is_kept (scripts_of setup) j (view d) (view b.opening.shelf.value.journal.disk) (holds j) at.1 (b.shelf.keeps t) left
+      subst (λ r. IsKept scripts j (holds j) r left) bytes
+      (nothing_lost scripts j (view d) (view b.opening.shelf.value.journal.disk) (holds j) at.1 (inr (b.shelf.keeps t)) left
       (subst (λ y. (view y.shelf.value.journal.disk).images left) (sym same) left_is))
   kept_from k (d ∷ disks) (n ∷ nonces) (h ∷ homes) holds ns hs t each (suc i) j x read left is x_is read_is left_is =
       let b = (each 0 k d n h (omega arith) refl refl refl).0 in
@@ -107,15 +105,23 @@ pub opened_fits : {D N : Type 0} (view : D → View) (tells : Bool) (told : Type
     (openings : List (Opening D N)) → AreOpened view tells told nonce rules scripts k images sources openings → told → first_unfit (unfit_left scripts) k images ≡ None
 opened_fits view tells told nonce rules scripts k [] sources openings opened t = refl
 opened_fits view tells told nonce rules scripts k (i ∷ images) (z ∷ sources) (x ∷ openings) opened t =
-    rw (made_fits scripts k _ (book_in scripts x.shelf.value) (opened.0.book t)) (opened_fits view tells told nonce rules scripts (k + 1) images sources openings opened.1 t)
+    rw (made_fits scripts k _ (book_in view x.shelf.value) (opened.0.book t) opened.0.short) (opened_fits view tells told nonce rules scripts (k + 1) images sources openings opened.1 t)
 opened_fits view tells told nonce rules scripts k (i ∷ images) [] openings opened t = absurd opened
 opened_fits view tells told nonce rules scripts k (i ∷ images) (z ∷ sources) [] opened t = absurd opened
 
 -- ---- the first that is not opened
 
+-- the disk makes a book that is not too long
+abbrev Opens : {D : Type 0} → (D → View) → List Named → ℕ → D → Type 0
+Opens view scripts k d = (b : Book) × (MakesBook scripts k (view d) b × (b.length ≤ 2 ^ 30))
+
+-- such a disk is fit
+opens_fit : {D : Type 0} (view : D → View) (scripts : List Named) (k : ℕ) (d : D) → Opens view scripts k d → unfit_left scripts k (view d).seen ≡ None
+opens_fit view scripts k d (b, (is, short)) = made_fits scripts k (book_in_bytes setup_of_texts k (view d).seen) b is short
+
 -- behind disks that make books, one that makes none
 pub first_bad : {D : Type 0} (view : D → View) (scripts : List Named) (k i n : ℕ) (disks : List D) (d : D) (why : Unfit) → n ≡ k + i
-    → ((j m : ℕ) (x : D) → j < i → m ≡ k + j → slice_get disks j ≡ Some x → (b : Book) × MakesBook scripts m (view x) b)
+    → ((j m : ℕ) (x : D) → j < i → m ≡ k + j → slice_get disks j ≡ Some x → Opens view scripts m x)
     → slice_get disks i ≡ Some d → unfit_left scripts n (view d).seen ≡ Some why → first_unfit (unfit_left scripts) k (seen_on view disks) ≡ Some (n, why)
 first_bad view scripts k i n [] d why is fit here bad = absurd (let no : ⊥ = cc here in no)
 first_bad view scripts k zero n (x ∷ disks) d why is fit here bad =
@@ -126,18 +132,15 @@ first_bad view scripts k zero n (x ∷ disks) d why is fit here bad =
 first_bad view scripts k (suc i) n (x ∷ disks) d why is fit here bad =
     let first = fit 0 k x (omega arith) (omega arith) refl in
     let rest = first_bad view scripts (k + 1) i n disks d why (omega (arith, is)) (λ j m y low at e. fit (suc j) m y (omega (arith, low)) (omega (arith, at)) e) here bad in
-    ap (λ f. found_unfit k f (first_unfit (unfit_left scripts) (k + 1) (seen_on view disks))) (made_fits scripts k (book_in_bytes scripts k (view x).seen) first.0 first.1) ∙ rest
+    ap (λ f. found_unfit k f (first_unfit (unfit_left scripts) (k + 1) (seen_on view disks))) (opens_fit view scripts k x first) ∙ rest
 
 -- a site was not begun, and why is told as the first shelf that is not opened
-pub refused_at : {D N : Type 0} (view : D → View) (tells : Bool) (setup : Setup) (told : Type 0) (disks : List D) (nonces : List N)
-    (f : SiteFault D N) (risen : ℕ → Type 0) → (told → IsTrue tells) → IsNotBegun view tells setup disks nonces f
+pub refused_at : {D N : Type 0} (view : D → View) (tells : Bool) (scripts : List Named) (told : Type 0) (disks : List D) (nonces : List N)
+    (f : SiteFault D N) (risen : ℕ → Type 0) → (told → IsTrue tells) → IsNotBegun view tells scripts disks nonces f
     → ((k : ℕ) (e : D) → slice_get f.disks.items k ≡ Some e → 1 ≤ (view e).faults → risen k)
-    → IsRefused told (λ k. (k < length disks) × risen k) (scripts_of setup) (seen_on view disks) (unopened_by f.shelf f.fault)
-refused_at {D = D} view tells setup told disks nonces f risen knows not rises = by_fault f.fault refl
+    → IsRefused told (λ k. (k < length disks) × risen k) scripts (seen_on view disks) f.shelf (cause_of (reopen_of f.fault))
+refused_at {D = D} view tells scripts told disks nonces f risen knows not rises = by_fault f.fault refl
   where
-    scripts : List Named
-    scripts = scripts_of setup
-
     there : (d : D) × (slice_get disks f.shelf ≡ Some d)
     there = get_there disks f.shelf not.disks_back.within
 
@@ -147,21 +150,24 @@ refused_at {D = D} view tells setup told disks nonces f risen knows not rises = 
     found : told → (why : Unfit) → unfit_left scripts f.shelf (view there.0).seen ≡ Some why → first_unfit (unfit_left scripts) 0 (seen_on view disks) ≡ Some (f.shelf, why)
     found t why bad =
         first_bad view scripts 0 f.shelf f.shelf disks there.0 why (omega arith)
-        (λ j m x low at x_is. let same : j ≡ m = omega (arith, at) in
-        subst (λ n. (b : Book) × MakesBook scripts n (view x) b) same (not.disks_back.earlier (knows t) j x low x_is)) there.1 bad
+        (λ j m x low at x_is. let same : j ≡ m = omega (arith, at) in subst (λ n. Opens view scripts n x) same (not.disks_back.earlier (knows t) j x low x_is))
+        there.1 bad
 
-    by_fault : (e : BeginFault) → f.fault ≡ e → IsRefused told (λ k. (k < length disks) × risen k) scripts (seen_on view disks) (unopened_by f.shelf e)
-    by_fault (fault.Damaged place) is = λ t.
-        found t (damaged place) (ap unfit_making (subst (IsFaultOf scripts f.shelf (view there.0)) is (not.disks_back.why (knows t) there.0 there.1)))
-    by_fault (fault.Other place) is = λ t.
-        found t (other place) (ap unfit_making (subst (IsFaultOf scripts f.shelf (view there.0)) is (not.disks_back.why (knows t) there.0 there.1)))
+    why_not : told → (e : BeginFault) → f.fault ≡ e → IsFaultOf scripts f.shelf (view there.0) e
+    why_not t e is = subst (IsFaultOf scripts f.shelf (view there.0)) is (not.disks_back.why (knows t) there.0 there.1)
+
+    by_fault : (e : BeginFault) → f.fault ≡ e → IsRefused told (λ k. (k < length disks) × risen k) scripts (seen_on view disks) f.shelf (cause_of (reopen_of e))
+    by_fault (fault.Damaged place) is = λ t. found t (damaged place) (ap (unfit_making scripts f.shelf) (why_not t (fault.Damaged place) is))
+    by_fault (fault.Other place) is = λ t. found t (other place) (ap (unfit_making scripts f.shelf) (why_not t (fault.Other place) is))
+    by_fault (fault.Full size) is = λ t.
+        found t (full size) (long_made scripts f.shelf (book_in_bytes setup_of_texts f.shelf (view there.0).seen) size (why_not t (fault.Full size) is))
     by_fault fault.DiskFault is =
         let rose = not.disks_back.cause is there.0 back.0 there.1 back.1 in (not.disks_back.within, rises f.shelf back.0 back.1 (omega (arith, rose)))
     by_fault fault.Memory is = tt
 
 -- the disks before a shelf, of which books are made, are fit
 fit_front : {D : Type 0} (view : D → View) (scripts : List Named) (k i : ℕ) (disks : List D)
-    → ((j m : ℕ) (x : D) → j < i → m ≡ k + j → slice_get disks j ≡ Some x → (b : Book) × MakesBook scripts m (view x) b)
+    → ((j m : ℕ) (x : D) → j < i → m ≡ k + j → slice_get disks j ≡ Some x → Opens view scripts m x)
     → first_unfit (unfit_left scripts) k (take i (seen_on view disks)) ≡ None
 fit_front view scripts k zero disks fit = refl
 fit_front view scripts k (suc i) [] fit = refl
@@ -169,43 +175,42 @@ fit_front view scripts k (suc i) (x ∷ disks) fit =
     let first = fit 0 k x (omega arith) (omega arith) refl in
     let rest = fit_front view scripts (k + 1) i disks (λ j m y low at e. fit (suc j) m y (omega (arith, low)) (omega (arith, at)) e) in
     ap (λ f. found_unfit k f (first_unfit (unfit_left scripts) (k + 1) (take i (seen_on view disks))))
-    (made_fits scripts k (book_in_bytes scripts k (view x).seen) first.0 first.1) ∙ rest
+    (opens_fit view scripts k x first) ∙ rest
 
 -- a site was not begun, of which all disks had been taken
-pub refused_in_order : {D N : Type 0} (view : D → View) (tells : Bool) (setup : Setup) (disks : List D) (nonces : List N) (f : SiteFault D N)
-    (before after : RackView) (count : ℕ) → IsTrue tells → IsNotBegun view tells setup disks nonces f → length (seen_on view disks) ≡ count
-    → RefusesInOrder (scripts_of setup) before after count (seen_on view disks) (unopened_by f.shelf f.fault)
-refused_in_order view tells setup disks nonces f before after count t not many = by_fault f.fault
+pub refused_in_order : {D N : Type 0} (view : D → View) (tells : Bool) (scripts : List Named) (disks : List D) (nonces : List N) (f : SiteFault D N)
+    (before after : RackView) (count : ℕ) → IsTrue tells → IsNotBegun view tells scripts disks nonces f → length (seen_on view disks) ≡ count
+    → RefusesInOrder scripts before after count (seen_on view disks) f.shelf (cause_of (reopen_of f.fault))
+refused_in_order view tells scripts disks nonces f before after count t not many = by_fault f.fault
   where
-    by_fault : (e : BeginFault) → RefusesInOrder (scripts_of setup) before after count (seen_on view disks) (unopened_by f.shelf e)
+    by_fault : (e : BeginFault) → RefusesInOrder scripts before after count (seen_on view disks) f.shelf (cause_of (reopen_of e))
     by_fault (fault.Damaged place) = many
     by_fault (fault.Other place) = many
+    by_fault (fault.Full size) = many
     by_fault fault.DiskFault =
         inr (
           many,
-          fit_front view (scripts_of setup) 0 f.shelf disks
-              (λ j m x low at x_is. let same : j ≡ m = omega (arith, at) in
-              subst (λ n. (b : Book) × MakesBook (scripts_of setup) n (view x) b) same (not.disks_back.earlier t j x low x_is)),
+          fit_front view scripts 0 f.shelf disks
+              (λ j m x low at x_is. let same : j ≡ m = omega (arith, at) in subst (λ n. Opens view scripts n x) same (not.disks_back.earlier t j x low x_is)),
         )
     by_fault fault.Memory = tt
 
 -- ---- handed back
 
 -- nothing was lost on the disks of a site that was not begun, but on the one of which a call failed
-pub kept_at : {D N : Type 0} (view : D → View) (tells : Bool) (setup : Setup) (told : Type 0) (disks : List D) (nonces : List N)
-    (f : SiteFault D N) (before after : ℕ → List ℕ → Type 0) → (told → IsTrue tells) → IsNotBegun view tells setup disks nonces f
+pub kept_at : {D N : Type 0} (view : D → View) (tells : Bool) (scripts : List Named) (told : Type 0) (disks : List D) (nonces : List N)
+    (f : SiteFault D N) (before after : ℕ → List ℕ → Type 0) → (told → IsTrue tells) → IsNotBegun view tells scripts disks nonces f
     → (told → (k : ℕ) (d : D) → slice_get disks k ≡ Some d → AreAmong (view d).images (before k))
     → (told → (k : ℕ) (e : D) → slice_get f.disks.items k ≡ Some e → AreAmong (after k) (view e).images)
-    → told → (k : ℕ) (read left : List ℕ) → slice_get (seen_on view disks) k ≡ Some read → after k left → (unopened_by f.shelf f.fault ≡ unopened.Disk k → ⊥)
-    → IsKept (scripts_of setup) k (before k) read left
-kept_at view tells setup told disks nonces f before after knows not held given t k read left read_is left_is but =
+    → told → (k : ℕ) (read left : List ℕ) → slice_get (seen_on view disks) k ≡ Some read → after k left → (cause_of (reopen_of f.fault) ≡ cause.Disk → k ≢ f.shelf)
+    → IsKept scripts k (before k) read left
+kept_at view tells scripts told disks nonces f before after knows not held given t k read left read_is left_is but =
     let d = map_get (λ x. (view x).seen) disks k read read_is in
     let low = slice_get_within disks k d.0 d.1 in
     let e = get_there f.disks.items k (let size = not.disks_back.returned.many in omega (arith, low, size)) in
-    let keeps = not.disks_back.keep (knows t) k d.0 e.0 d.1 e.1
-    (λ here why. but (ap (λ w. unopened_by f.shelf w) why ∙ ap (λ s. unopened.Disk s) (sym here))) in
-    subst (λ r. IsKept (scripts_of setup) k (before k) r left) d.2
-    (is_kept (scripts_of setup) k (view d.0) (view e.0) (before k) (held t k d.0 d.1) keeps left (given t k e.0 e.1 left left_is))
+    let keeps = not.disks_back.keep (knows t) k d.0 e.0 d.1 e.1 (λ here why. but (ap (λ (e : BeginFault). cause_of (reopen_of e)) why) here) in
+    subst (λ r. IsKept scripts k (before k) r left) d.2
+    (nothing_lost scripts k (view d.0) (view e.0) (before k) (held t k d.0 d.1) keeps left (given t k e.0 e.1 left left_is))
 
 -- ---- given back
 
@@ -213,19 +218,17 @@ module _ {D N : Type 0} (view : D → View) (tells : Bool) (told : Type 0) (nonc
   -- a disk that stands for the book of a history, and what may be held of it
   stands_one : (k workers : ℕ) (holds : List ℕ → Type 0) (image : List ℕ) (source : N) (o : Opening D N) (d : D) (h : List KeptEntry) → IsTrue tells
       → IsOpened view tells told nonce (rules k) scripts k image source o → IsEnded (IsTrue tells) workers (opened_of view tells nonce o) (view d) (entries_of h) → AreAmong holds (view d).images
-      → StandsBehind view tells nonce scripts k holds o h
+      → StandsBehind view tells nonce k holds o h
   stands_one k workers holds image source o d h t opened ended among = record {
     some =
         let stands = ended.ended.stands t in
-        let there = subst (λ s. Stands s o.shelf.value.rules.number (view d) stands.0) opened.setup stands.1 in
-        let here = subst (λ m. Stands scripts m (view d) stands.0) opened.number there in
+        let here = subst (λ m. Stands setup_of_texts m (view d) stands.0) opened.number stands.1 in
         (stands.0, (here.0, (here.1.0, λ y y_is. here.1.1 y (among y y_is))));
     own = λ own.
-        let b = book_then nonce o (entries_of h) in
+        let b = book_then view nonce o (entries_of h) in
         let stands = (ended.ended.history own).stands t in
-        let there = subst (λ s. StandsOwn (rules_of s o.shelf.value.rules) s o.shelf.value.rules.number (view d) b) opened.setup stands in
-        let here = subst (λ m. StandsOwn (rules_of scripts o.shelf.value.rules) scripts m (view d) b) opened.number there in
-        holds_book (rules_of scripts o.shelf.value.rules) scripts (view d) k b holds here among;
+        let here = subst (λ m. StandsOwn (rules_of o.shelf.value.rules) m (view d) b) opened.number stands in
+        holds_book (rules_of o.shelf.value.rules) (view d) k b holds here among;
   }
 
   -- disks that stand for the books of histories, and what may be held of them
@@ -234,7 +237,7 @@ module _ {D N : Type 0} (view : D → View) (tells : Bool) (told : Type 0) (nonc
       → AreEnded view (IsTrue tells) workers (opened_as view tells nonce openings) disks histories
       → ((i j : ℕ) (d : D) → j ≡ k + i → slice_get disks i ≡ Some d → AreAmong (holds j) (view d).images)
       → (i j : ℕ) (o : Opening D N) (h : List KeptEntry) → j ≡ k + i → slice_get openings i ≡ Some o → slice_get histories i ≡ Some h
-      → StandsBehind view tells nonce scripts j (holds j) o h
+      → StandsBehind view tells nonce j (holds j) o h
   stands_from k workers holds images sources [] disks histories t opened ended held i j o h is o_is h_is = absurd (let no : ⊥ = cc o_is in no)
   stands_from k workers holds [] sources (x ∷ openings) disks histories t opened ended held i j o h is o_is h_is = absurd (no_shelf sources opened)
     where
@@ -247,10 +250,10 @@ module _ {D N : Type 0} (view : D → View) (tells : Bool) (told : Type 0) (nonc
   stands_from k workers holds (image ∷ images) (n ∷ sources) (x ∷ openings) (d ∷ disks) (e ∷ histories) t opened ended held zero j o h is o_is h_is =
       let at : j ≡ k = omega (arith, is) in
       let among = held 0 j d (omega (arith, at)) refl in
-      let whole = subst (λ m. StandsBehind view tells nonce scripts m (holds m) x e) (sym at)
+      let whole = subst (λ m. StandsBehind view tells nonce m (holds m) x e) (sym at)
       (stands_one k workers (holds k) image n x d e t opened.0 ended.0 (subst (λ m. AreAmong (holds m) (view d).images) at among)) in
-      subst (λ z. StandsBehind view tells nonce scripts j (holds j) z h) (same_Some x o o_is)
-      (subst (λ z. StandsBehind view tells nonce scripts j (holds j) x z) (same_Some e h h_is) whole)
+      subst (λ z. StandsBehind view tells nonce j (holds j) z h) (same_Some x o o_is)
+      (subst (λ z. StandsBehind view tells nonce j (holds j) x z) (same_Some e h h_is) whole)
   stands_from k workers holds (image ∷ images) (n ∷ sources) (x ∷ openings) (d ∷ disks) (e ∷ histories) t opened ended held (suc i) j o h is o_is h_is =
       stands_from (k + 1) workers holds images sources openings disks histories t opened.1 ended.1 (λ a b y at y_is. held (suc a) b y (omega (arith, at)) y_is) i j o h
       (omega (arith, is)) o_is h_is

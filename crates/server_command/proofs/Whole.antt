@@ -12,7 +12,7 @@ use Rattle.server_command.specs.Output.{Chances, Hands}
 use Rattle.server_command.specs.Racks.{AreBack}
 use Rattle.server_command.specs.Serving.{Serves}
 use Rattle.server_command.proofs.Causes.{never_usage, plain_asks}
-use Rattle.server_command.proofs.Dues.{complete, disk_cause, door_cause, exact_if, key_cause, load_complete, load_exact}
+use Rattle.server_command.proofs.Dues.{EndsSo, complete, disk_cause, door_cause, exact_if, key_cause, load_complete, load_exact}
 use Rattle.server_command.proofs.Loads.{loads_events}
 use Rattle.server_command.proofs.Playing.{plays_events}
 
@@ -36,7 +36,7 @@ pub completes : (serves : Serves) (result : ℕ) (s : Status) (met : Met) → se
 completes serves result s met same code h = record {
   plain = λ asked p. plain_asks met.words asked p;
   lawful = λ asked bytes plain told lawful opens read write well.
-      subst (EndsWell asked) (sym code)
+      subst (λ n. EndsSo asked n met bytes) (sym code)
       (complete serves s met asked bytes same (plain_asks met.words asked plain) told lawful opens read write well h.0 h.1);
   load = λ l plain opens write well.
       subst (EndsWell (Load l)) (sym code) (load_complete serves s met l (plain_asks met.words (Load l) plain) opens write well h.0 h.1);

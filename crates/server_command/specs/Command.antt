@@ -29,7 +29,7 @@ use Rattle.setup_reader.specs.Setup.{Parsed, Fault, setup_of}
 use Rattle.setup_reader.specs.Faults.{fault_line}
 use Rattle.setup_reader.specs.Sections.{IsSetup}
 use Rattle.replay_spec.specs.Step.{Fate, Reply}
-use Rattle.play_steps.specs.Step.{Step, steps_of, lines_of, AreSteps}
+use Rattle.play_steps.specs.Step.{Step, lines_of, AreSteps}
 use Rattle.server_command.specs.declared.program.Status.{Status}
 use Rattle.server_command.specs.declared.program.Status.TheVariants as status
 use Rattle.server_command.specs.declared.jobs.Job.{Job}
@@ -41,8 +41,8 @@ use Rattle.site_serving.specs.Serving.{Pasts, Views}
 use Rattle.play_desk.specs.Ledger.{print_of}
 use Rattle.play_desk.specs.Laws.{IsRunOfEvents}
 use Rattle.play_desk.specs.Opening.{AreHome, HoldTheBooks}
-use Rattle.server_command.specs.Output.{memory_line, sinks_of, step_line, Chances, Output, output_of, told_scripts, desk_for, loaded, run_of, Sinks, PrintsTo, Answers, BreaksOff, ending_of}
-use Rattle.server_command.specs.Remains.{HaveFailed, Loses, Pauses, RemainsShut, RemainsUnwritten}
+use Rattle.server_command.specs.Output.{memory_line, sinks_of, step_line, Chances, Output, output_of, told_scripts, desk_for, loaded, run_of, steps_for, Sinks, PrintsTo, Answers, BreaksOff, ending_of}
+use Rattle.server_command.specs.Remains.{HasOutgrown, HaveFailed, Loses, Pauses, RemainsShut, RemainsUnwritten, TellsOutgrown}
 use Rattle.server_command.specs.Loading.{LeavesLoad, LoadsEvents}
 
 -- the command that is done with an input alone
@@ -208,7 +208,7 @@ Known rack asked bytes P = Settles rack (with_setup asked (setup_of (ending_of a
 -- the disks that were given back stand for the books that the steps of a setup left, and each fault of one was counted; a check took none
 abbrev pub StandFor : Racks → Command → Result Parsed Fault → Chances → Type 0
 StandFor rack (Play o) (Ok setup) chances =
-    HoldTheBooks (run_of o setup.scripts (steps_of setup.steps) chances.fates).state rack.after.holds
+    HoldTheBooks (run_of o setup.scripts (steps_for o setup) chances.fates).state rack.after.holds
     × HaveFailed rack chances.fates 0
 StandFor rack Check setup chances = AtRest rack
 StandFor rack asked setup chances = ⊤
@@ -219,6 +219,12 @@ StandFor rack asked setup chances = ⊤
 pub record Gives (rack : Racks) (asked : Command) (bytes : List ℕ) (chances : Chances) (status : ℕ) (out : Sinks) : Type 0 where
   pub answered : Answers (output_of asked bytes chances) status out
   pub taken : TakesDisks rack (with_setup asked (setup_of (ending_of asked) bytes)) chances.disks
+
+-- what a command leaves where a journal is at fault: one of its disks is not empty; or an edit outgrows the journal of a shelf
+abbrev pub LeavesShut : Racks → Command → (bytes : List ℕ) → Chances → Sinks → Type 0
+LeavesShut rack asked bytes chances out =
+    (Gives rack asked bytes chances 8 out × RemainsShut rack asked (setup_of (ending_of asked) bytes) chances)
+    ⊎ TellsOutgrown rack (with_setup asked (setup_of (ending_of asked) bytes)) chances out
 
 -- what a command leaves that has read its whole input
 abbrev pub Leaves : Racks → Command → (bytes : List ℕ) → Status → Chances → Sinks → Type 0
@@ -232,8 +238,7 @@ Leaves rack asked bytes status.Write chances out =
     × RemainsUnwritten rack asked (setup_of (ending_of asked) bytes) chances out.held out.holds)
 Leaves rack asked bytes status.Disk chances out =
     (shelf : ℕ) × ShelfFailed rack shelf × Known rack asked bytes (Loses rack asked bytes chances shelf out)
-Leaves rack asked bytes status.Journal chances out =
-    Known rack asked bytes (Gives rack asked bytes chances 8 out × RemainsShut rack asked (setup_of (ending_of asked) bytes) chances)
+Leaves rack asked bytes status.Journal chances out = Known rack asked bytes (LeavesShut rack asked bytes chances out)
 Leaves rack asked bytes status.Memory chances out = Known rack asked bytes (Pauses rack asked bytes chances memory_line out)
 Leaves rack asked bytes _ chances out = ⊥
 
@@ -316,14 +321,20 @@ pub record IsDue (status : ℕ) (met : Met) (bytes : List ℕ) (chances : Chance
   pub same : status ≡ due met.words bytes chances
   pub taken : TakesDisks met.rack (reached_by (asked_in met.words) bytes) chances.disks
 
--- the status is the one that is due, or that of an input, an output, a rack, a door or seeds that failed, or that of want of memory
+-- the status is that of a run of steps of which an edit outgrows the journal of a shelf
+abbrev pub EndsOutgrown : (status : ℕ) → Met → (bytes : List ℕ) → Chances → Type 0
+EndsOutgrown status met bytes chances = (status ≡ 8) × HasOutgrown met.rack (reached_by (asked_in met.words) bytes) chances
+
+-- the status is the one that is due, or that of an input, an output, a rack, a door or seeds that failed, or that of want of memory, or
+-- that of a run of steps of which an edit outgrows the journal of a shelf
 abbrev pub EndsAs : (status : ℕ) → Met → (bytes : List ℕ) → Chances → Type 0
 EndsAs status met bytes chances =
     IsDue status met bytes chances
     ⊎ (((status ≡ 5) × Rose met.input_before met.input_after)
     ⊎ (((status ≡ 6) × Rose met.output.before met.output.after)
     ⊎ (((status ≡ 7) × RackFailed met.rack)
-    ⊎ (((status ≡ 9) × HaveRisen met.door) ⊎ (((status ≡ 14) × HaveRisen met.seeds) ⊎ (status ≡ 10))))))
+    ⊎ (((status ≡ 9) × HaveRisen met.door)
+    ⊎ (((status ≡ 14) × HaveRisen met.seeds) ⊎ ((status ≡ 10) ⊎ EndsOutgrown status met bytes chances))))))
 
 -- the words ask for anything but a measured run, which reads no input
 abbrev pub ReadsInput : Option Command → Type 0
@@ -344,12 +355,12 @@ EndsAsLoad status met l chances =
 -- the steps that are played are events, and the text of the output is the print of the replies of a run of these
 pub record PlaysEvents (o : Options) (setup : Parsed) (fates : List Fate) (output : Output) : Type 0 where
   pub replies : List Reply
-  pub text : output.text ≡ print_of (desk_for o setup.scripts) 1 (steps_of setup.steps) fates replies
-  pub run : IsRunOfEvents (desk_for o setup.scripts) 1 (steps_of setup.steps) fates replies
+  pub text : output.text ≡ print_of (desk_for o setup.scripts) 1 (steps_for o setup) fates replies
+  pub run : IsRunOfEvents (desk_for o setup.scripts) 1 (steps_for o setup) fates replies
 
 -- How the command ended, by what its disks held and the fates of its visits: why; in which order the outside was asked; that the output
 -- which is due to steps, or to a measured run, is that of a run of events, where each shelf begins on an empty disk; and that the status
--- is due but for faults of the outside and want of memory.
+-- is due but for faults of the outside, want of memory, and an edit that outgrows the journal of a shelf.
 pub record Ends {D P L N : Type 0} (result : ℕ) (a : Around D P L N) : Type 0 where
   pub chances : Chances
   pub status : Status
@@ -373,7 +384,8 @@ pub record IsLawful (asked : Command) (bytes : List ℕ) : Type 0 where
   pub lines : setup.steps ≡ lines_of steps
   pub short : length bytes ≤ most_of_input
 
--- each disk that may be taken holds what its shelf is opened on: nothing, where steps are played
+-- each disk that may be taken holds what its shelf is opened on: nothing, where steps are played; and where a setup is served a journal of
+-- its shelf, whatever setup that tells, with room for this one
 abbrev pub AreFit : (ℕ → List ℕ → Option Unfit) → (ℕ → List ℕ → Type 0) → Type 0
 AreFit unfit holds = (shelf : ℕ) (image : List ℕ) → holds shelf image → unfit shelf image ≡ None
 
@@ -399,14 +411,15 @@ EndsWell _ result = (result ≡ 0) ⊎ (result ≡ 10)
 abbrev pub AreUnderstood : List (List ℕ) → Type 0
 AreUnderstood words = (asked : Command) → IsPlain words asked → asked_in words ≡ Some asked
 
--- Plain words over a lawful input end well, at a step that does not fit, or for want of memory, where nothing outside fails and the
--- journals open; and so does a measured run that plain words ask for, whatever the input is.
+-- Plain words over a lawful input end well, at a step that does not fit, at an edit that outgrows the journal of a shelf, or for want of
+-- memory, where nothing outside fails and the journals open; and a measured run that plain words ask for ends well, or for want of
+-- memory, whatever the input is.
 pub record IsComplete (result : ℕ) (met : Met) : Type 0 where
   pub plain : AreUnderstood met.words
   pub lawful : (asked : Command) (bytes : List ℕ) → IsPlain met.words asked → met.input ≡ Some bytes → (l : IsLawful asked bytes)
       → JournalsOpen asked l.setup.scripts met.rack
       → ¬ (Rose met.input_before met.input_after) → ¬ (Rose met.output.before met.output.after) → GoesWell asked met
-      → EndsWell asked result
+      → EndsWell asked result ⊎ ((chances : Chances) × EndsOutgrown result met bytes chances)
   pub load : (l : LoadOptions) → IsPlain met.words (Load l) → JournalsOpen (Load l) [] met.rack
       → ¬ (Rose met.output.before met.output.after) → GoesWell (Load l) met → EndsWell (Load l) result
 

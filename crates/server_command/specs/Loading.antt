@@ -3,10 +3,13 @@ use Rattle.std.specs.Prelude.{◌≡◌, ◌≤◌, ℕ, List, [], length, map, 
 use Rattle.web_outside.specs.Causes.{Rose}
 use Rattle.replay_spec.specs.Step.{Fate, Reply}
 use Rattle.play_steps.specs.Played.{Spot, spot}
+use Rattle.play_steps.specs.declared.stage.Reopen.{Reopen}
+use Rattle.play_steps.specs.declared.stage.Reopen.TheVariants as reopen
 use Rattle.play_steps.specs.Transcript.{done}
 use Rattle.play_desk.specs.Desk.{Desk, desk_rules}
 use Rattle.play_desk.specs.Laws.{IsRunOfEvents}
 use Rattle.play_desk.specs.Opening.{HoldTheBooks, IsLeft}
+use Rattle.play_desk.specs.declared.opening.OpenCause.{OpenCause}
 use Rattle.measured_run.specs.Generator.{source_of}
 use Rattle.measured_run.specs.Tallies.{summary_text}
 use Rattle.measured_run.specs.declared.measuring.Measure.{Measure}
@@ -16,8 +19,8 @@ use Rattle.measured_run.specs.Setups.{load_scripts}
 use Rattle.command_words.specs.declared.LoadOptions.{LoadOptions}
 use Rattle.server_command.specs.declared.program.Status.{Status}
 use Rattle.server_command.specs.declared.program.Status.TheVariants as status
-use Rattle.server_command.specs.Racks.{Racks, AreTaken, ShelfFailed, disk_line, unfit_new}
-use Rattle.server_command.specs.Remains.{AreAllKept, AreLeft, HaveFailed, IsAny, IsThis}
+use Rattle.server_command.specs.Racks.{Racks, AreTaken, MayBeEmpty, ShelfFailed, disk_line, unfit_new}
+use Rattle.server_command.specs.Remains.{AreAllKept, AreLeft, HaveFailed, IsAny, IsFailed}
 use Rattle.server_command.specs.Output.{memory_line, Answers, BreaksOff, Chances, Output, PrintsTo, Sinks, desk_for, loaded, run_loaded}
 
 -- the line of a measured run is all that is told of it
@@ -36,25 +39,27 @@ pub record GivesLoad (rack : Racks) (l : LoadOptions) (chances : Chances) (statu
   pub answered : Answers (loaded l chances) status out
   pub taken : AreTaken unfit_new rack.before.holds l.options.shelves chances.disks
 
--- all steps of a measured run fit, the disks that were given back stand for the books that they left, and each fault of one was counted
+-- All steps of a measured run fit, the disks that were given back stand for the books that they left, and each fault of one was counted. At
+-- first the disks may have held nothing.
 pub record HasLoaded (rack : Racks) (l : LoadOptions) (chances : Chances) : Type 0 where
   pub whole : (run_loaded l chances.fates).end ≡ done
   pub books : HoldTheBooks (run_loaded l chances.fates).state rack.after.holds
   pub counted : HaveFailed rack chances.fates 0
+  pub began : MayBeEmpty rack.before.holds l.options.shelves
 
--- this shelf crashed at the step after some steps of a measured run, which left this desk, and was not opened again
-pub record IsLostBehind (rack : Racks) (l : LoadOptions) (chances : Chances) (shelf : ℕ) (last : Desk) : Type 0 where
+-- this shelf crashed at the step after some steps of a measured run, which left this desk, and was not opened again for this cause
+pub record IsLostBehind (rack : Racks) (l : LoadOptions) (chances : Chances) (shelf : ℕ) (why : Reopen) (last : Desk) : Type 0 where
   pub faults : ℕ
   pub left : Spot desk_rules
-  pub lost : LosesShelf desk_rules (IsLeft rack.after) most_steps (source_of l.number) shelf
+  pub lost : LosesShelf desk_rules (IsLeft rack.after) most_steps (source_of l.number) shelf why
       (spot desk_rules (desk_for l.options load_scripts) faults) left
   pub fates : lost.loads.fates ≡ chances.fates
   pub state : lost.middle.state ≡ last
 
--- this shelf was not opened: at first; or after it crashed at a step of a measured run
+-- this shelf was not opened, as its disk failed: at first; or after it crashed at a step of a measured run
 pub data IsLost (rack : Racks) (l : LoadOptions) (chances : Chances) (shelf : ℕ) : Type 0 where
   at_first : IsLost rack l chances shelf
-  at_crash : (last : Desk) → IsLostBehind rack l chances shelf last → IsLost rack l chances shelf
+  at_crash : (last : Desk) → IsLostBehind rack l chances shelf reopen.Disk last → IsLost rack l chances shelf
 
 -- this is the desk after some first steps of a measured run, or after all
 pub record IsLoaded (l : LoadOptions) (fates : List Fate) (last : Desk) : Type 0 where
@@ -64,9 +69,9 @@ pub record IsLoaded (l : LoadOptions) (fates : List Fate) (last : Desk) : Type 0
   pub state : (run_drawn desk_rules count (source_of l.number) (desk_for l.options load_scripts) fates).state ≡ last
 
 -- what remains where not all steps of a measured run were performed, where such a shelf is told and so many calls failed besides
-abbrev pub RemainsLoaded : Racks → LoadOptions → Chances → (ℕ → Type 0) → (more : ℕ) → Type 0
+abbrev pub RemainsLoaded : Racks → LoadOptions → Chances → (ℕ → OpenCause → Type 0) → (more : ℕ) → Type 0
 RemainsLoaded rack l chances IsTold more =
-    AreLeft rack load_scripts [] IsTold (IsLoaded l chances.fates) (IsLostBehind rack l chances) × HaveFailed rack chances.fates more
+    AreLeft rack l.options.shelves load_scripts [] IsTold (IsLoaded l chances.fates) (IsLostBehind rack l chances) × HaveFailed rack chances.fates more
 
 -- What a measured run leaves, by its status. Nothing is told before want of memory.
 abbrev pub LeavesLoad : Racks → LoadOptions → Status → Chances → Sinks → Type 0
@@ -75,7 +80,7 @@ LeavesLoad rack l status.Write chances out =
     Rose out.before out.after × (IsTrue rack.tells → BreaksOff (loaded l chances) out × HasLoaded rack l chances)
 LeavesLoad rack l status.Disk chances out =
     (shelf : ℕ) × ShelfFailed rack shelf × PrintsTo out (disk_line shelf)
-    × (IsTrue rack.tells → IsLost rack l chances shelf × RemainsLoaded rack l chances (IsThis shelf) 1)
+    × (IsTrue rack.tells → IsLost rack l chances shelf × RemainsLoaded rack l chances (IsFailed shelf) 1)
 LeavesLoad rack l status.Journal chances out =
     IsTrue rack.tells → GivesLoad rack l chances 8 out × AreAllKept rack load_scripts (length chances.disks)
 LeavesLoad rack l status.Memory chances out = PrintsTo out memory_line × (IsTrue rack.tells → RemainsLoaded rack l chances IsAny 0)

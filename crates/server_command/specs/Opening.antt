@@ -1,22 +1,19 @@
 -- What opening the shelves of a server comes to.
-use Rattle.std.specs.Prelude.{⊤, ◌≡◌, ◌≤◌, ◌<◌, ◌+◌, ℕ, Bool, true, false, List, map, length, sum_by, Some, slice_get}
+use Rattle.std.specs.Prelude.{⊤, ◌≡◌, ◌≢◌, ◌≤◌, ◌<◌, ◌+◌, ℕ, Bool, true, false, List, map, length, sum_by, Some, slice_get}
 use Rattle.web_disk.specs.View.{View, RackView, AreAmong}
 use Rattle.script_nodes.specs.Setup.{Named}
 use Rattle.replay_spec.specs.Rules.{Rules}
 use Rattle.journal_records.specs.Records.{IsInGrammar, begin_of}
-use Rattle.shelf.specs.declared.begin.BeginFault.{BeginFault}
-use Rattle.shelf.specs.declared.begin.BeginFault.TheVariants as fault
-use Rattle.shelf.specs.declared.rules.Rules.{Rules as Limits}
-use Rattle.shelf.specs.Views.{rules_of}
-use Rattle.site.specs.declared.opening.Opening.{Opening}
+use Rattle.site_serving.specs.Shelves.{BeginFault, Opening, Rules as Limits, rules_of}
 use Rattle.command_words.specs.declared.Options.{Options}
-use Rattle.server_command.specs.declared.opening.Unopened.{Unopened}
-use Rattle.server_command.specs.declared.opening.Unopened.TheVariants as unopened
 use Rattle.server_command.specs.Output.{rules_for}
 use Rattle.play_steps.specs.Rules.{StaysUp}
 use Rattle.play_steps.specs.Played.{RoseBy}
-use Rattle.play_desk.specs.Opening.{FailedFor, IsKept}
-use Rattle.server_command.specs.Racks.{AreHeld, FailsInOrder, KeepsHome, damaged, other, first_unfit, unfit_left}
+use Rattle.play_desk.specs.Opening.{FailedFor, IsKept, cause_of, reopen_of}
+use Rattle.play_desk.specs.declared.opening.OpenCause.{OpenCause}
+use Rattle.play_desk.specs.declared.opening.OpenCause.TheVariants as cause
+use Rattle.play_desk.specs.declared.opening.OpenFault.{OpenFault}
+use Rattle.server_command.specs.Racks.{AreHeld, FailsInOrder, KeepsHome, damaged, other, full, first_unfit, unfit_left}
 use Rattle.server_command.specs.Serving.{AreOpened}
 
 -- what reads of disks give
@@ -45,7 +42,7 @@ pub record AreAsked (o : Options) (r : Limits) : Type 0 where
 
 -- these are the rules of the shelf of this number
 abbrev pub AreRulesFor : Options → (number : ℕ) → Limits → Type 0
-AreRulesFor o number r = (scripts : List Named) → rules_of scripts r ≡ rules_for o number scripts
+AreRulesFor o number r = rules_of r ≡ rules_for o number
 
 -- the disks of so many numbers came home, and no disk went out; and no count of faults fell
 pub record TakesBack (before after : RackView) (first count : ℕ) : Type 0 where
@@ -73,37 +70,40 @@ abbrev pub AreFrom : {D : Type 0} → (D → View) → RackView → List D → T
 AreFrom view before disks = (k : ℕ) (d : _) → slice_get disks k ≡ Some d → AreAmong (view d).images (before.holds k)
 
 -- the shelf of this number was not opened for this
-abbrev pub unopened_by : (shelf : ℕ) → BeginFault → Unopened
-unopened_by shelf (fault.Damaged place) = unopened.Damaged shelf place
-unopened_by shelf (fault.Other place) = unopened.Other shelf place
-unopened_by shelf fault.DiskFault = unopened.Disk shelf
-unopened_by shelf fault.Memory = unopened.Memory
+abbrev pub unopened_by : (shelf : ℕ) → BeginFault → OpenFault
+unopened_by shelf e = record { shelf = shelf; why = cause_of (reopen_of e) }
 
 -- this is one of so many shelves, and a take of its disk failed, or a call of that disk
 abbrev pub FailsAt : (count : ℕ) → (before after : RackView) → (shelf : ℕ) → Type 0
 FailsAt count before after shelf = (shelf < count) × FailedFor shelf before after
 
+-- why the disk of this shelf was not taken
+abbrev pub IsUntaken : (risen : ℕ → Type 0) → (shelf : ℕ) → OpenCause → Type 0
+IsUntaken risen shelf cause.Disk = risen shelf
+IsUntaken risen shelf cause.Memory = ⊤
+IsUntaken risen shelf _ = ⊥
+
 -- why disks were not taken
-abbrev pub IsUntaken : (risen : ℕ → Type 0) → Unopened → Type 0
-IsUntaken risen (unopened.Disk shelf) = risen shelf
-IsUntaken risen unopened.Memory = ⊤
-IsUntaken risen _ = ⊥
+abbrev pub AreUntaken : (risen : ℕ → Type 0) → OpenFault → Type 0
+AreUntaken risen f = IsUntaken risen f.shelf f.why
 
--- why a shelf was not opened, of those on disks that hold these
-abbrev pub IsRefused : (told : Type 0) → (risen : ℕ → Type 0) → List Named → (images : List (List ℕ)) → Unopened → Type 0
-IsRefused told risen scripts images (unopened.Disk shelf) = risen shelf
-IsRefused told risen scripts images (unopened.NotEmpty shelf) = ⊥
-IsRefused told risen scripts images (unopened.Damaged shelf place) =
+-- why this shelf was not opened, of those on disks that hold these
+abbrev pub IsRefused : (told : Type 0) → (risen : ℕ → Type 0) → List Named → (images : List (List ℕ)) → (shelf : ℕ) → OpenCause → Type 0
+IsRefused told risen scripts images shelf cause.Disk = risen shelf
+IsRefused told risen scripts images shelf cause.NotEmpty = ⊥
+IsRefused told risen scripts images shelf (cause.Damaged place) =
     told → first_unfit (unfit_left scripts) 0 images ≡ Some (shelf, damaged place)
-IsRefused told risen scripts images (unopened.Other shelf place) =
+IsRefused told risen scripts images shelf (cause.Other place) =
     told → first_unfit (unfit_left scripts) 0 images ≡ Some (shelf, other place)
-IsRefused told risen scripts images unopened.Memory = ⊤
+IsRefused told risen scripts images shelf (cause.Full length) =
+    told → first_unfit (unfit_left scripts) 0 images ≡ Some (shelf, full length)
+IsRefused told risen scripts images shelf cause.Memory = ⊤
 
--- in which order disks were asked for until a shelf was not opened: all were taken before one was opened
-abbrev pub RefusesInOrder : List Named → (before after : RackView) → (count : ℕ) → (images : List (List ℕ)) → Unopened → Type 0
-RefusesInOrder scripts before after count images (unopened.Disk shelf) = FailsInOrder scripts before after count images shelf
-RefusesInOrder scripts before after count images unopened.Memory = ⊤
-RefusesInOrder scripts before after count images why = length images ≡ count
+-- in which order disks were asked for until this shelf was not opened: all were taken before one was opened
+abbrev pub RefusesInOrder : List Named → (before after : RackView) → (count : ℕ) → (images : List (List ℕ)) → (shelf : ℕ) → OpenCause → Type 0
+RefusesInOrder scripts before after count images shelf cause.Disk = FailsInOrder scripts before after count images shelf
+RefusesInOrder scripts before after count images shelf cause.Memory = ⊤
+RefusesInOrder scripts before after count images shelf why = length images ≡ count
 
 -- each of these disks was given back to the place of its number: the rack holds what a crash may leave on it, where both tell
 -- that; and a fault of one is a fault of the rack, counted for its number
@@ -113,8 +113,8 @@ pub record AreGiven {D : Type 0} (view : D → View) (told : Type 0) (before aft
   pub faults : (k : ℕ) (d : D) → slice_get disks k ≡ Some d → 1 ≤ (view d).faults → FailedFor k before after
   pub counts : RoseBy (sum_by (λ d. (view d).faults) disks) before.faults after.faults
 
--- The shelves were opened on the disks that were taken from a rack, under these rules and with these sources of nonces. Nothing was lost
--- on any of the disks.
+-- The shelves were opened on the disks that were taken from a rack, with this setup, under these rules and with these sources of nonces.
+-- Nothing was lost on any of the disks.
 pub record OpensOn {D N : Type 0} (view : D → View) (tells : Bool) (told : Type 0) (nonce : N → ℕ → ℕ) (rules : ℕ → Rules)
     (scripts : List Named) (sources : List N) (before after : RackView) (openings : List (Opening D N)) : Type 0 where
   pub images : List (List ℕ)
@@ -123,14 +123,14 @@ pub record OpensOn {D N : Type 0} (view : D → View) (tells : Bool) (told : Typ
   pub kept : told → (k : ℕ) (o : Opening D N) (read left : List ℕ) → slice_get openings k ≡ Some o → slice_get images k ≡ Some read
       → (view o.shelf.value.journal.disk).images left → IsKept scripts k (before.holds k) read left
 
--- A shelf was not opened, in the order of the disks. Nothing was lost on any disk, but on the one of which a call failed; a disk of which nothing was read holds
--- what it might hold.
-pub record RefusesOn (told : Type 0) (scripts : List Named) (count : ℕ) (before after : RackView) (why : Unopened) : Type 0 where
+-- A shelf was not opened, in the order of the disks. Nothing was lost on any disk, but on the one of which a call failed; a disk of which
+-- nothing was read holds what it might hold.
+pub record RefusesOn (told : Type 0) (scripts : List Named) (count : ℕ) (before after : RackView) (f : OpenFault) : Type 0 where
   pub images : List (List ℕ)
   pub held : told → AreHeld before.holds 0 images
-  pub refused : IsRefused told (FailsAt count before after) scripts images why
-  pub in_order : told → RefusesInOrder scripts before after count images why
-  pub kept : told → (k : ℕ) (read left : List ℕ) → slice_get images k ≡ Some read → after.holds k left → (why ≡ unopened.Disk k → ⊥)
+  pub refused : IsRefused told (FailsAt count before after) scripts images f.shelf f.why
+  pub in_order : told → RefusesInOrder scripts before after count images f.shelf f.why
+  pub kept : told → (k : ℕ) (read left : List ℕ) → slice_get images k ≡ Some read → after.holds k left → (f.why ≡ cause.Disk → k ≢ f.shelf)
       → IsKept scripts k (before.holds k) read left
   pub unread : told → LeavesFrom (length images) before after
   pub home : KeepsHome before after

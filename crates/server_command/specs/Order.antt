@@ -76,5 +76,5 @@ AsksInOrder asks rack asked how = asks.undrawn × asks.shut × RestsIfEarly rack
 abbrev pub ComesInOrder : Asks → Racks → (shelves : ℕ) → Result Tally ServeFault → Type 0
 ComesInOrder asks rack shelves (Err fault.Key) = AtRest rack × asks.shut
 ComesInOrder asks rack shelves (Err fault.Memory) = ⊤
-ComesInOrder asks rack shelves (Err (fault.Shelf why)) = asks.drawn shelves × asks.shut
+ComesInOrder asks rack shelves (Err (fault.Shelf f)) = asks.drawn shelves × asks.shut
 ComesInOrder asks rack shelves outcome = asks.drawn shelves

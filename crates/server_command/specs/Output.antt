@@ -1,5 +1,5 @@
 -- What the program writes for its input, and how it may end.
-use Rattle.std.specs.Prelude.{⊤, ◌≡◌, ◌≤◌, ◌⊎◌, ℕ, List, [], ◌∷◌, ◌++◌, length, Option, Some, None, Result, Ok, Err, codes}
+use Rattle.std.specs.Prelude.{⊤, ◌≡◌, ◌≤◌, ◌⊎◌, ℕ, List, [], ◌∷◌, ◌++◌, length, true, Option, Some, None, Result, Ok, Err, codes}
 use Rattle.std.specs.Fmt.{decimal}
 use Rattle.std.specs.Io.KnownBytes.{Appends}
 use Rattle.web_outside.specs.Causes.{Rose}
@@ -8,8 +8,9 @@ use Rattle.web_outside.specs.View.{SinkView}
 use Rattle.script_nodes.specs.Setup.{Named}
 use Rattle.replay_spec.specs.Rules.{Rules}
 use Rattle.replay_spec.specs.Step.{Fate}
-use Rattle.play_steps.specs.Step.{Step, crash, steps_of}
-use Rattle.play_steps.specs.Transcript.{End, done, bad_line, Run, text_of, transcript}
+use Rattle.play_steps.specs.Step.{Step, crashed_at}
+use Rattle.play_steps.specs.Played.{played as played_on}
+use Rattle.play_steps.specs.Transcript.{End, done, bad_line, Run, fits, text_of, transcript}
 use Rattle.setup_reader.specs.declared.setup.Ending.{Ending}
 use Rattle.setup_reader.specs.declared.setup.Ending.TheVariants.{Steps, Input}
 use Rattle.setup_reader.specs.Setup.{Parsed, Fault, setup_of}
@@ -54,14 +55,17 @@ abbrev pub counted : Result Parsed Fault → Output
 counted (Err e) = faulty e
 counted (Ok setup) = told_scripts setup.scripts
 
--- what the events of a shelf run under; its journal begins with these scripts
-abbrev pub rules_for : Options → (shelf : ℕ) → List Named → Rules
-rules_for o shelf scripts =
-    record { fuel = o.fuel; life = o.life; instances = o.instances; pages = o.pages; journal = Some (journal_rules shelf scripts) }
+-- what the events of a shelf run under
+abbrev pub rules_for : Options → (shelf : ℕ) → Rules
+rules_for o shelf = record { fuel = o.fuel; life = o.life; instances = o.instances; pages = o.pages; journal = Some (journal_rules shelf) }
 
 -- the desk that a run begins with: shelves with nothing on them, and workers that hold nothing
 abbrev pub desk_for : Options → List Named → Desk
-desk_for o scripts = first_desk (λ shelf. rules_for o shelf scripts) scripts o.shelves
+desk_for o scripts = first_desk (rules_for o) scripts o.shelves
+
+-- the steps that are played behind a setup, each edit with the crashes that it brings
+abbrev pub steps_for : Options → Parsed → List (Option Step)
+steps_for o setup = played_on desk_rules (desk_for o setup.scripts) setup.steps
 
 -- the run of these steps over these scripts
 abbrev pub run_of : Options → List Named → List (Option Step) → List Fate → Run desk_rules
@@ -90,7 +94,7 @@ finished run = ended (text_of run) run.end
 abbrev pub played : Options → Result Parsed Fault → Chances → Output
 played o (Err e) chances = faulty e
 played o (Ok setup) chances =
-    unless_shut (first_unfit unfit_new 0 chances.disks) (finished (run_of o setup.scripts (steps_of setup.steps) chances.fates))
+    unless_shut (first_unfit unfit_new 0 chances.disks) (finished (run_of o setup.scripts (steps_for o setup) chances.fates))
 
 -- what is due to a setup that is served, but for the line of its counts, which its links decide
 abbrev pub served : Result Parsed Fault → Chances → Output
@@ -170,13 +174,18 @@ Answers output status out = (output.status ≡ status) × Tells output.text outp
 abbrev pub BreaksOff : Output → Sinks → Type 0
 BreaksOff output out = IsCutShort out.held out.holds output.text ⊎ ((output.status ≡ 0) × Appends out.held out.holds output.text)
 
--- the text is the whole replies to the first of the steps, after which a step of this kind stands
-pub record Replied (o : Options) (setup : Parsed) (fates : List Fate) (IsNext : Step → Type 0) (text : List ℕ) : Type 0 where
+-- the step is a crash of this shelf, and fits the desk
+pub record IsCrashOf (shelf : ℕ) (d : Desk) (step : Step) : Type 0 where
+  pub crashed : crashed_at step ≡ Some shelf
+  pub fitting : fits desk_rules step d ≡ true
+
+-- the text is the whole replies to the first of the steps, after which a step stands that is so to the desk that these leave
+pub record Replied (o : Options) (setup : Parsed) (fates : List Fate) (IsNext : Desk → Step → Type 0) (text : List ℕ) : Type 0 where
   pub front : List (Option Step)
   pub step : Step
-  pub next : IsNext step
+  pub next : IsNext (run_of o setup.scripts front fates).state step
   pub rest : List (Option Step)
-  pub cut : steps_of setup.steps ≡ front ++ Some step ∷ rest
+  pub cut : steps_for o setup ≡ front ++ Some step ∷ rest
   pub text_is : text_of (run_of o setup.scripts front fates) ≡ text
   pub goes_on : (run_of o setup.scripts front fates).end ≡ done
 
@@ -186,10 +195,11 @@ pub data Before (asked : Command) (input : List ℕ) (chances : Chances) : List 
   nothing : Before asked input chances []
   at_line : (output_of asked input chances).status ≡ 4 → Before asked input chances (output_of asked input chances).text
   replies : (o : Options) (setup : Parsed) (text : List ℕ) → asked ≡ Play o → setup_of Steps input ≡ Ok setup
-      → Replied o setup chances.fates (λ step. ⊤) text → Before asked input chances text
+      → Replied o setup chances.fates (λ d step. ⊤) text → Before asked input chances text
 
--- what stands before it is told that this shelf was not opened: nothing; or whole replies to the steps before a crash of it
+-- what stands before it is told that this shelf was not opened: nothing; or whole replies to the steps before a crash of it, which may be
+-- one that an edit brings
 pub data BeforeOpening (asked : Command) (input : List ℕ) (chances : Chances) (shelf : ℕ) : List ℕ → Type 0 where
   at_first : (o : Options) → asked ≡ Play o → BeforeOpening asked input chances shelf []
   at_crash : (o : Options) (setup : Parsed) (text : List ℕ) → asked ≡ Play o → setup_of Steps input ≡ Ok setup
-      → Replied o setup chances.fates (λ step. step ≡ crash shelf) text → BeforeOpening asked input chances shelf text
+      → Replied o setup chances.fates (IsCrashOf shelf) text → BeforeOpening asked input chances shelf text

@@ -1,11 +1,14 @@
 -- What the disks of a rack are to the shelves that stand on them.
-use Rattle.std.specs.Prelude.{⊤, ◌≡◌, ◌≤◌, ◌⊎◌, ℕ, ◌+◌, ◌++◌, ◌∷◌, List, [], length, Bool, false, Option, Some, None, slice_get, take, codes}
+use Rattle.std.specs.Prelude.{⊤, ◌≡◌, ◌≤◌, ◌<◌, ◌⊎◌, ℕ, ◌+◌, ◌^◌, ◌++◌, ◌∷◌, List, [], length, Bool, false, Option, Some, None, slice_get, take, nat_le, codes, if◌then◌else◌}
 use Rattle.std.specs.Fmt.{decimal}
 use Rattle.web_disk.specs.View.{RackView, AreAmong}
 use Rattle.script_nodes.specs.Setup.{Named}
+use Rattle.setup_reader.specs.Texts.{setup_of_texts}
 use Rattle.replay_spec.specs.Book.{Book}
+use Rattle.journal_spec.specs.Before.{Made}
 use Rattle.journal_spec.specs.Making as making
 use Rattle.journal_spec.specs.Making.{Making, book_in_bytes}
+use Rattle.journal_spec.specs.Opening.{opened_on}
 use Rattle.journal_spec.specs.Standing.{Between, HoldIn, if_kept}
 use Rattle.play_desk.specs.Opening.{AreHome, FailedFor, IsKept}
 
@@ -43,26 +46,38 @@ abbrev pub AreHeld : (ℕ → List ℕ → Type 0) → ℕ → List (List ℕ) �
 AreHeld holds k [] = ⊤
 AreHeld holds k (image ∷ images) = holds k image × AreHeld holds (k + 1) images
 
--- why a shelf is not opened on what its disk holds
+-- Why a shelf is not opened on what its disk holds: that is not empty, where it has to be; no record that a shelf writes stands at this
+-- place; the journal is another shelf's; or with the setup that the shelf is opened with it would have so many bytes, too many.
 pub data Unfit : Type 0 where
   not_empty : Unfit
   damaged : (place : ℕ) → Unfit
   other : (place : ℕ) → Unfit
+  full : (length : ℕ) → Unfit
 
 -- why a shelf that is played is not opened, if so: it begins on an empty disk
 abbrev pub unfit_new : (shelf : ℕ) → List ℕ → Option Unfit
 unfit_new shelf [] = None
 unfit_new shelf (b ∷ bytes) = Some not_empty
 
--- why a shelf that is served is not opened, if so: it goes on with what the records of its journal make
-abbrev pub unfit_making : Making → Option Unfit
-unfit_making making.nothing = None
-unfit_making (making.made m) = None
-unfit_making (making.damaged place) = Some (damaged place)
-unfit_making (making.other place) = Some (other place)
+-- why a journal may not be so long, if so
+abbrev pub unfit_length : (length : ℕ) → Option Unfit
+unfit_length n = if nat_le n (2 ^ 30) then None else Some (full n)
 
+-- why a shelf may not go on with this book, if so: its journal would be too long
+abbrev pub unfit_made : Option Made → Option Unfit
+unfit_made None = None
+unfit_made (Some m) = unfit_length m.book.length
+
+-- why a shelf that is served with this setup is not opened, if so: it goes on with what the records of its journal make, and has written
+-- its setup there, where that is another than the last one
+abbrev pub unfit_making : List Named → (shelf : ℕ) → Making → Option Unfit
+unfit_making scripts shelf (making.damaged place) = Some (damaged place)
+unfit_making scripts shelf (making.other place) = Some (other place)
+unfit_making scripts shelf m = unfit_made (opened_on shelf scripts m)
+
+-- why a shelf that is served with this setup is not opened on these bytes, if so
 abbrev pub unfit_left : List Named → (shelf : ℕ) → List ℕ → Option Unfit
-unfit_left scripts shelf image = unfit_making (book_in_bytes scripts shelf image)
+unfit_left scripts shelf image = unfit_making scripts shelf (book_in_bytes setup_of_texts shelf image)
 
 -- the shelf of this number where it is not opened, and why; else what is found of the later ones
 abbrev pub found_unfit : ℕ → Option Unfit → Option (ℕ × Unfit) → Option (ℕ × Unfit)
@@ -74,14 +89,18 @@ abbrev pub first_unfit : (ℕ → List ℕ → Option Unfit) → ℕ → List (L
 first_unfit unfit k [] = None
 first_unfit unfit k (image ∷ images) = found_unfit k (unfit k image) (first_unfit unfit (k + 1) images)
 
+-- the disks of so many shelves may hold nothing
+abbrev pub MayBeEmpty : (holds : ℕ → List ℕ → Type 0) → (count : ℕ) → Type 0
+MayBeEmpty holds count = (k : ℕ) → k < count → holds k []
+
 -- these are what the disks of so many shelves hold when they are taken: of all, unless one of the shelves is not opened
 pub record AreTaken (unfit : ℕ → List ℕ → Option Unfit) (holds : ℕ → List ℕ → Type 0) (count : ℕ) (images : List (List ℕ)) : Type 0 where
   pub held : AreHeld holds 0 images
   pub all : first_unfit unfit 0 images ≡ None → length images ≡ count
 
 -- what a disk may hold makes some book, with what is in doubt or without it
-abbrev pub StandsForSome : List Named → (shelf : ℕ) → (images : List ℕ → Type 0) → Type 0
-StandsForSome scripts shelf images = (b : Book) × ((n : ℕ) × ((t : Between scripts shelf b (if_kept n b)) × HoldIn t images))
+abbrev pub StandsForSome : (shelf : ℕ) → (images : List ℕ → Type 0) → Type 0
+StandsForSome shelf images = (b : Book) × ((n : ℕ) × ((t : Between setup_of_texts shelf b (if_kept n b)) × HoldIn t images))
 
 -- nothing was lost on any disk of which something was read
 abbrev pub AreKept : List Named → (before after : RackView) → (images : List (List ℕ)) → Type 0
@@ -101,8 +120,10 @@ abbrev pub unfit_word : Unfit → List ℕ
 unfit_word not_empty = codes "0 not-empty\n"
 unfit_word (damaged place) = decimal place ++ codes " damaged\n"
 unfit_word (other place) = decimal place ++ codes " other\n"
+unfit_word (full length) = decimal length ++ codes " full\n"
 
--- the line of a shelf that is not opened on what its disk holds: `error 8 SHELF PLACE WORD`
+-- the line of a shelf that is not opened on what its disk holds: `error 8 SHELF PLACE WORD`, with a length in place of the place where the
+-- journal would be too long
 abbrev pub unfit_line : (shelf : ℕ) → Unfit → List ℕ
 unfit_line shelf why = codes "error 8 " ++ (decimal shelf ++ 32 ∷ unfit_word why)
 

@@ -1,23 +1,25 @@
 -- What remains on disks after steps that were performed, and how often calls of these failed.
-use Rattle.std.specs.Prelude.{⊤, ◌≡◌, ◌≤◌, ◌<◌, ℕ, ◌+◌, List, [], ◌++◌, length, count_by, Option, Result, Ok}
+use Rattle.std.specs.Prelude.{⊤, ◌≡◌, ◌≤◌, ◌<◌, ℕ, ◌+◌, List, [], ◌++◌, length, count_by, Option, Some, Result, Ok}
 use Rattle.std.specs.Io.KnownBytes.{Appends}
 use mathlib.Core.List.{IsPrefix}
 use Rattle.web_disk.specs.View.{AreAmong}
 use Rattle.script_nodes.specs.Setup.{Named}
 use Rattle.replay_spec.specs.Step.{Fate}
 use Rattle.setup_reader.specs.Setup.{Parsed, Fault, setup_of}
-use Rattle.play_steps.specs.Step.{Step, crash, steps_of}
+use Rattle.play_steps.specs.Step.{Step}
+use Rattle.play_steps.specs.declared.stage.Reopen.{Reopen}
+use Rattle.play_steps.specs.declared.stage.Reopen.TheVariants as reopen
 use Rattle.play_steps.specs.Played.{RoseBy}
 use Rattle.play_steps.specs.Transcript.{text_of}
 use Rattle.play_desk.specs.Desk.{Desk, is_fault}
-use Rattle.play_desk.specs.Opening.{AllKept, AllStayKept, HoldTheBooks, IsLeft}
+use Rattle.play_desk.specs.Opening.{AllKept, AllStayKept, HoldTheBooks, IsLeft, cause_of}
 use Rattle.play_desk.specs.declared.opening.OpenCause.{OpenCause}
 use Rattle.play_desk.specs.declared.opening.OpenCause.TheVariants as cause
 use Rattle.command_words.specs.declared.Command.{Command}
 use Rattle.command_words.specs.declared.Command.TheVariants.{Check, Play}
 use Rattle.command_words.specs.declared.Options.{Options}
-use Rattle.server_command.specs.Racks.{Racks, AtRest, ShelfFailed, disk_line}
-use Rattle.server_command.specs.Output.{Before, BeforeOpening, Chances, Replied, Sinks, Tells, ending_of, run_of}
+use Rattle.server_command.specs.Racks.{Racks, AtRest, MayBeEmpty, ShelfFailed, disk_line, full, unfit_line}
+use Rattle.server_command.specs.Output.{Before, BeforeOpening, Chances, IsCrashOf, Replied, Sinks, Tells, ending_of, run_of, steps_for}
 
 -- The rack's count rose by one at least for each of these fates that is a fault of a disk, and by so many more.
 abbrev pub HaveFailed : Racks → List Fate → (more : ℕ) → Type 0
@@ -35,43 +37,46 @@ pub record IsUnopened (rack : Racks) (scripts : List Named) (shelf : ℕ) (why :
   pub failed : why ≡ cause.Disk → ShelfFailed rack shelf
   pub kept : AllStayKept scripts rack.before.holds rack.after.holds shelf why
 
--- What is left on the disks, by which shelf is told: that one was not opened at first; or each disk stands for the book of its shelf,
--- as the last of some steps left it; or that one crashed, and was not opened again: each disk stands for the book that its shelf had
--- before that crash.
-pub data AreLeft (rack : Racks) (scripts : List Named) (text : List ℕ) (IsTold : ℕ → Type 0) (IsLast : Desk → Type 0)
-    (IsLost : ℕ → Desk → Type 0) : Type 0 where
-  unopened : (shelf : ℕ) (why : OpenCause) → IsTold shelf → text ≡ [] → IsUnopened rack scripts shelf why
-      → AreLeft rack scripts text IsTold IsLast IsLost
-  performed : (last : Desk) → IsLast last → HoldTheBooks last rack.after.holds → AreLeft rack scripts text IsTold IsLast IsLost
-  lost : (shelf : ℕ) (last : Desk) → IsTold shelf → IsLost shelf last → IsLeft rack.after last shelf
-      → AreLeft rack scripts text IsTold IsLast IsLost
+-- What is left on the disks of so many shelves, by which one is told, and for which cause: that one was not opened at first; or each disk
+-- stands for the book of its shelf, as the last of some steps left it; or that one crashed, and was not opened again: each disk stands for
+-- the book that its shelf had before that crash. Steps are performed on disks that may hold nothing alone.
+pub data AreLeft (rack : Racks) (count : ℕ) (scripts : List Named) (text : List ℕ) (IsTold : ℕ → OpenCause → Type 0) (IsLast : Desk → Type 0)
+    (IsLost : ℕ → Reopen → Desk → Type 0) : Type 0 where
+  unopened : (shelf : ℕ) (why : OpenCause) → IsTold shelf why → text ≡ [] → IsUnopened rack scripts shelf why
+      → AreLeft rack count scripts text IsTold IsLast IsLost
+  performed : (last : Desk) → IsLast last → HoldTheBooks last rack.after.holds → MayBeEmpty rack.before.holds count
+      → AreLeft rack count scripts text IsTold IsLast IsLost
+  lost : (shelf : ℕ) (why : Reopen) (last : Desk) → IsTold shelf (cause_of why) → IsLost shelf why last → IsLeft rack.after last shelf why
+      → MayBeEmpty rack.before.holds count → AreLeft rack count scripts text IsTold IsLast IsLost
 
--- any shelf may be meant, where none is told
-abbrev pub IsAny : (shelf : ℕ) → Type 0
-IsAny shelf = ⊤
+-- any shelf may be meant, and any cause, where none is told
+abbrev pub IsAny : (shelf : ℕ) → OpenCause → Type 0
+IsAny shelf why = ⊤
 
--- the shelf is the one that is told
-abbrev pub IsThis : (told shelf : ℕ) → Type 0
-IsThis told shelf = shelf ≡ told
+-- the shelf is the one that is told, and its disk failed
+abbrev pub IsFailed : (told shelf : ℕ) → OpenCause → Type 0
+IsFailed told shelf why = (shelf ≡ told) × (why ≡ cause.Disk)
 
 -- this is the desk after the first of the steps, of which so much is printed, or more
 pub record IsBehind (o : Options) (setup : Parsed) (fates : List Fate) (text : List ℕ) (last : Desk) : Type 0 where
   pub front : List (Option Step)
   pub rest : List (Option Step)
-  pub cut : steps_of setup.steps ≡ front ++ rest
+  pub cut : steps_for o setup ≡ front ++ rest
   pub printed : IsPrefix text (text_of (run_of o setup.scripts front fates))
   pub state : (run_of o setup.scripts front fates).state ≡ last
 
 -- this shelf crashed after steps of which this is printed, which left this desk, and was not opened again
 abbrev pub IsLostBehind : Options → Parsed → List Fate → (text : List ℕ) → (shelf : ℕ) → Desk → Type 0
 IsLostBehind o setup fates text shelf last =
-    (replied : Replied o setup fates (λ step. step ≡ crash shelf) text) × ((run_of o setup.scripts replied.front fates).state ≡ last)
+    (replied : Replied o setup fates (IsCrashOf shelf) text)
+    × ((run_of o setup.scripts replied.front fates).state ≡ last)
 
 -- what remains on the disks where the steps of a setup were told up to this text, and such a shelf, and so many calls failed besides; a
 -- check takes no disks
-abbrev pub Remains : Racks → Command → Result Parsed Fault → Chances → (text : List ℕ) → (ℕ → Type 0) → (more : ℕ) → Type 0
+abbrev pub Remains : Racks → Command → Result Parsed Fault → Chances → (text : List ℕ) → (ℕ → OpenCause → Type 0) → (more : ℕ) → Type 0
 Remains rack (Play o) (Ok setup) chances text IsTold more =
-    AreLeft rack setup.scripts text IsTold (IsBehind o setup chances.fates text) (IsLostBehind o setup chances.fates text)
+    AreLeft rack o.shelves setup.scripts text IsTold (IsBehind o setup chances.fates text)
+    (λ shelf why last. IsLostBehind o setup chances.fates text shelf last)
     × HaveFailed rack chances.fates more
 Remains rack Check setup chances text IsTold more = AtRest rack
 Remains rack asked setup chances text IsTold more = ⊤
@@ -80,7 +85,7 @@ Remains rack asked setup chances text IsTold more = ⊤
 abbrev pub RemainsUnwritten : Racks → Command → Result Parsed Fault → Chances → (old new : Option (List ℕ)) → Type 0
 RemainsUnwritten rack (Play o) (Ok setup) chances old new =
     (text : List ℕ) × (last : Desk) × Appends old new text × IsBehind o setup chances.fates text last × HoldTheBooks last rack.after.holds
-    × HaveFailed rack chances.fates 0
+    × HaveFailed rack chances.fates 0 × MayBeEmpty rack.before.holds o.shelves
 RemainsUnwritten rack Check setup chances old new = AtRest rack
 RemainsUnwritten rack asked setup chances old new = ⊤
 
@@ -99,4 +104,25 @@ Pauses rack asked input chances line out =
 abbrev pub Loses : Racks → Command → (input : List ℕ) → Chances → (shelf : ℕ) → Sinks → Type 0
 Loses rack asked input chances shelf out =
     (text : List ℕ) × BeforeOpening asked input chances shelf text × Tells text (disk_line shelf) out
-    × Remains rack asked (setup_of (ending_of asked) input) chances text (IsThis shelf) 1
+    × Remains rack asked (setup_of (ending_of asked) input) chances text (IsFailed shelf) 1
+
+-- A crash of this shelf, behind steps of which this is printed, left its journal without room for the setup that an edit had changed: it
+-- would be so long. Each disk stands for the book that its shelf had before that crash, and may have held nothing at first.
+pub record Outgrows (rack : Racks) (o : Options) (setup : Parsed) (chances : Chances) (shelf length : ℕ) (text : List ℕ) : Type 0 where
+  pub last : Desk
+  pub lost : IsLostBehind o setup chances.fates text shelf last
+  pub left : IsLeft rack.after last shelf (reopen.Full length)
+  pub counted : HaveFailed rack chances.fates 0
+  pub began : MayBeEmpty rack.before.holds o.shelves
+
+-- what the words ask for is a run of steps, and an edit outgrows the journal of a shelf
+abbrev pub HasOutgrown : Racks → Option (Command × Parsed) → Chances → Type 0
+HasOutgrown rack (Some (Play o, setup)) chances = (shelf : ℕ) × (length : ℕ) × (text : List ℕ) × Outgrows rack o setup chances shelf length text
+HasOutgrown rack _ chances = ⊥
+
+-- the sink grew by the whole replies to the steps before such a crash, and then by the line that names the shelf and the length
+abbrev pub TellsOutgrown : Racks → Option (Command × Parsed) → Chances → Sinks → Type 0
+TellsOutgrown rack (Some (Play o, setup)) chances out =
+    (shelf : ℕ) × (length : ℕ) × (text : List ℕ) × Outgrows rack o setup chances shelf length text
+    × Tells text (unfit_line shelf (full length)) out
+TellsOutgrown rack _ chances out = ⊥

@@ -1,5 +1,5 @@
 -- What serving a setup over HTTP comes to.
-use Rattle.std.specs.Prelude.{⊤, ◌≡◌, ◌≢◌, ◌≤◌, ◌<◌, ◌==◌, ◌⊎◌, ◌++◌, ◌∷◌, [], ℕ, ◌+◌, Bool, List, length, Option, Some, None, IfSome, IsTrue, Result, Ok, Err, codes, slice_get, if◌then◌else◌}
+use Rattle.std.specs.Prelude.{⊤, ◌≡◌, ◌≢◌, ◌≤◌, ◌<◌, ◌==◌, ◌⊎◌, ◌++◌, ◌∷◌, [], ℕ, ◌+◌, ◌^◌, Bool, List, length, Some, None, IfSome, IsTrue, Result, Ok, Err, codes, slice_get, if◌then◌else◌}
 use Rattle.std.specs.Fmt.{decimal}
 use Rattle.web_outside.specs.Causes.{Rose}
 use Rattle.web_outside.specs.View.{DoorView, SeedsView}
@@ -10,22 +10,19 @@ use Rattle.script_nodes.specs.Setup.{Named}
 use Rattle.command_words.specs.declared.Service.{Service}
 use Rattle.setup_reader.specs.declared.setup.Ending.TheVariants.{Input}
 use Rattle.setup_reader.specs.Setup.{Parsed, setup_of}
+use Rattle.setup_reader.specs.Texts.{setup_of_texts}
 use Rattle.replay_spec.specs.Book.{reopened}
 use Rattle.replay_spec.specs.Rules.{Rules}
-use Rattle.journal_spec.specs.Making.{begun, book_in_bytes}
-use Rattle.journal_spec.specs.Standing.{IsBook}
+use Rattle.journal_spec.specs.Making.{book_in_bytes}
+use Rattle.journal_spec.specs.Opening.{opened_on}
+use Rattle.journal_spec.specs.Standing.{IsMadeBook}
 use Rattle.request_workers.specs.Counting.{Count}
 use Rattle.request_workers.specs.Tallies.{count_of}
 use Rattle.request_workers.specs.declared.tally.Tally.{Tally}
 use Rattle.request_workers.specs.declared.tally.WorkEnd.{WorkEnd}
 use Rattle.request_workers.specs.declared.tally.WorkEnd.TheVariants as ends
 use Rattle.site_serving.specs.Totals.{total}
-use Rattle.shelf.specs.Owning.{IsOwnImage}
-use Rattle.shelf.specs.Views.{book_in, rules_of, HasGiven}
-use Rattle.site.specs.declared.entry.KeptEntry.{KeptEntry}
-use Rattle.site.specs.declared.opening.Opening.{Opening}
-use Rattle.site.specs.Entries.{entries_of}
-use Rattle.site.specs.Openings.{scripts_in, IsOwnOpening, book_then}
+use Rattle.site_serving.specs.Shelves.{HasGiven, IsOwnImage, IsOwnOpening, KeptEntry, Opening, book_in, book_then, entries_of, rules_of, scripts_in}
 use Rattle.site_serving.specs.declared.serving.Watch.{Watch}
 use Rattle.site_serving.specs.declared.serving.ServingFault.{ServingFault}
 use Rattle.site_serving.specs.declared.serving.ServingFault.TheVariants as faults
@@ -34,12 +31,12 @@ use Rattle.site_serving.specs.Pages.{faults_told}
 use Rattle.site_serving.specs.Serving.{IsUnserved, Leaves, Pasts, Views, opened_as}
 use Rattle.server_command.specs.declared.program.Status.{Status}
 use Rattle.server_command.specs.declared.program.Status.TheVariants as status
-use Rattle.server_command.specs.declared.opening.Unopened.{Unopened}
-use Rattle.server_command.specs.declared.opening.Unopened.TheVariants as unopened
+use Rattle.play_desk.specs.declared.opening.OpenCause.{OpenCause}
+use Rattle.play_desk.specs.declared.opening.OpenCause.TheVariants as cause
 use Rattle.server_command.specs.declared.serving.ServeFault.{ServeFault}
 use Rattle.server_command.specs.declared.serving.ServeFault.TheVariants as fault
 use Rattle.server_command.specs.Output.{memory_line, Chances, Output, Sinks, PrintsTo, Answers, BreaksOff, rules_for, served}
-use Rattle.server_command.specs.Racks.{Racks, AreHeld, AreKept, FailsInOrder, AreTaken, AtRest, ShelfFailed, StandsForSome, Unfit, damaged, other, disk_line, first_unfit, unfit_left, unfit_line}
+use Rattle.server_command.specs.Racks.{Racks, AreHeld, AreKept, FailsInOrder, AreTaken, AtRest, ShelfFailed, StandsForSome, Unfit, damaged, other, full, disk_line, first_unfit, unfit_left, unfit_line}
 
 -- ---- what is told
 
@@ -82,20 +79,22 @@ outside views rack before after seeds past =
 abbrev pub watch_of : Service → Watch
 watch_of s = record { port = s.port; workers = s.workers; connections = s.connections; requests = s.requests }
 
--- The shelf of this number was opened under this setup and these rules, with nonces of this source: its book is what the bytes of
--- its disk make, and empty where they have no record. Where the records are own ones, it was opened as an own shelf.
+-- The shelf of this number was opened with this setup and under these rules, with nonces of this source: its book is what the bytes of
+-- its disk make, opened again with this setup, whatever setup they told last; and empty where they have no record. Where the records are
+-- own ones, it was opened as an own shelf.
 pub record IsOpened {D N : Type 0} (view : D → View) (tells : Bool) (told : Type 0) (nonce : N → ℕ → ℕ) (rules : Rules)
     (scripts : List Named) (k : ℕ) (image : List ℕ) (source : N) (o : Opening D N) : Type 0 where
   pub setup : scripts_in o ≡ scripts
-  pub limits : rules_of scripts o.shelf.value.rules ≡ rules
+  pub limits : rules_of o.shelf.value.rules ≡ rules
   pub number : o.shelf.value.rules.number ≡ k
-  pub book : told → IsBook (begun scripts k (book_in_bytes scripts k image)) (book_in scripts o.shelf.value)
-  pub opened : book_in scripts o.shelf.value ≡ reopened (book_in scripts o.shelf.value)
+  pub book : told → IsMadeBook (opened_on k scripts (book_in_bytes setup_of_texts k image)) (book_in view o.shelf.value)
+  pub short : (book_in view o.shelf.value).length ≤ 2 ^ 30
+  pub opened : book_in view o.shelf.value ≡ reopened (book_in view o.shelf.value)
   pub stream : HasGiven (nonce source) 0 (nonce o.shelf.value.nonces)
-  pub own : told → IsOwnImage scripts k image → IsOwnOpening view tells o
+  pub own : told → IsOwnImage k image → IsOwnOpening view tells o
 
 module _ {D N : Type 0} (view : D → View) (tells : Bool) where
-  -- all shelves from this number on were opened under this setup, each on what its disk held and with nonces of its source
+  -- all shelves from this number on were opened with this setup, each on what its disk held and with nonces of its source
   abbrev pub AreOpened : (told : Type 0) → (nonce : N → ℕ → ℕ) → (ℕ → Rules) → List Named → ℕ → List (List ℕ) → List N → List (Opening D N) → Type 0
   AreOpened told nonce rules scripts k [] [] [] = ⊤
   AreOpened told nonce rules scripts k (image ∷ images) (source ∷ sources) (o ∷ openings) =
@@ -107,17 +106,15 @@ module _ {D N : Type 0} (view : D → View) (tells : Bool) where
   AreOwn openings = (k : ℕ) (o : Opening D N) → slice_get openings k ≡ Some o → IsOwnOpening view tells o
 
   -- What the disk of a shelf may hold makes some book. Of a shelf that was opened as an own one it is the book of its history.
-  pub record StandsBehind (nonce : N → ℕ → ℕ) (scripts : List Named) (shelf : ℕ) (images : List ℕ → Type 0) (o : Opening D N) (h : List KeptEntry)
-      : Type 0 where
-    pub some : StandsForSome scripts shelf images
-    pub own : IsOwnOpening view tells o
-        → HoldsTheBook (rules_of scripts o.shelf.value.rules) scripts shelf images (book_then nonce o (entries_of h))
+  pub record StandsBehind (nonce : N → ℕ → ℕ) (shelf : ℕ) (images : List ℕ → Type 0) (o : Opening D N) (h : List KeptEntry) : Type 0 where
+    pub some : StandsForSome shelf images
+    pub own : IsOwnOpening view tells o → HoldsTheBook (rules_of o.shelf.value.rules) shelf images (book_then view nonce o (entries_of h))
 
   -- the disk of each shelf may hold what makes some book; of a shelf that was opened as an own one it is the book of its history
-  abbrev pub AllStand : (nonce : N → ℕ → ℕ) → List Named → (ℕ → List ℕ → Type 0) → List (Opening D N) → List (List KeptEntry) → Type 0
-  AllStand nonce scripts holds openings histories =
+  abbrev pub AllStand : (nonce : N → ℕ → ℕ) → (ℕ → List ℕ → Type 0) → List (Opening D N) → List (List KeptEntry) → Type 0
+  AllStand nonce holds openings histories =
       (k : ℕ) (o : Opening D N) (h : List KeptEntry) → slice_get openings k ≡ Some o → slice_get histories k ≡ Some h
-      → StandsBehind nonce scripts k (holds k) o h
+      → StandsBehind nonce k (holds k) o h
 
 -- the rack's count rose by so many, at least
 abbrev pub HaveRisenBy : ℕ → Racks → Type 0
@@ -134,11 +131,10 @@ pub record Served {D P L N : Type 0} (o : Outside D P L N) (s : Service) (script
   pub disks : List D
   pub shelves : length sources ≡ s.options.shelves
   pub drawn : AreDrawn o.seeds s.options.shelves sources
-  pub opened : AreOpened o.views.disk o.views.told (IsTrue o.rack.tells) o.views.nonce (λ k. rules_for s.options k scripts) scripts 0
-      images sources openings
+  pub opened : AreOpened o.views.disk o.views.told (IsTrue o.rack.tells) o.views.nonce (rules_for s.options) scripts 0 images sources openings
   pub leaves : Leaves o.views (opened_as o.views.disk o.views.told o.views.nonce openings) o.before o.after o.past (watch_of s) disks end kept
   pub counted : AreOwn o.views.disk o.views.told openings → HaveRisenBy (faults_told kept.histories) o.rack
-  pub stands : IsTrue o.rack.tells → AllStand o.views.disk o.views.told o.views.nonce scripts o.rack.after.holds openings kept.histories
+  pub stands : IsTrue o.rack.tells → AllStand o.views.disk o.views.told o.views.nonce o.rack.after.holds openings kept.histories
 
 -- serving links from the shelves of a setup ended so, and this was counted
 pub record ServedSo {D P L N : Type 0} (o : Outside D P L N) (s : Service) (scripts : List Named) (images : List (List ℕ)) (end : WorkEnd)
@@ -214,16 +210,17 @@ abbrev pub KeepsAllBut : Racks → List Named → List (List ℕ) → Type 0
 KeepsAllBut rack scripts images =
     KeepsAll rack scripts images ⊎ ((shelf : ℕ) × ShelfFailed rack shelf × (IsTrue rack.tells → AreKeptBut rack scripts images shelf))
 
--- why a shelf was not opened
-abbrev pub ShutsBy : Racks → Service → List Named → List (List ℕ) → Unopened → Type 0
-ShutsBy rack s scripts images (unopened.Disk shelf) =
+-- why this shelf was not opened
+abbrev pub ShutsBy : Racks → Service → List Named → List (List ℕ) → (shelf : ℕ) → OpenCause → Type 0
+ShutsBy rack s scripts images shelf cause.Disk =
     (shelf < s.options.shelves) × ShelfFailed rack shelf
     × (IsTrue rack.tells → AreKeptBut rack scripts images shelf)
     × (IsTrue rack.tells → FailsInOrder scripts rack.before rack.after s.options.shelves images shelf)
-ShutsBy rack s scripts images (unopened.NotEmpty shelf) = ⊥
-ShutsBy rack s scripts images (unopened.Damaged shelf place) = Shuts rack s scripts images shelf (damaged place)
-ShutsBy rack s scripts images (unopened.Other shelf place) = Shuts rack s scripts images shelf (other place)
-ShutsBy rack s scripts images unopened.Memory = KeepsAll rack scripts images
+ShutsBy rack s scripts images shelf cause.NotEmpty = ⊥
+ShutsBy rack s scripts images shelf (cause.Damaged place) = Shuts rack s scripts images shelf (damaged place)
+ShutsBy rack s scripts images shelf (cause.Other place) = Shuts rack s scripts images shelf (other place)
+ShutsBy rack s scripts images shelf (cause.Full length) = Shuts rack s scripts images shelf (full length)
+ShutsBy rack s scripts images shelf cause.Memory = KeepsAll rack scripts images
 
 -- what was counted, or why nothing was, as the command tells it
 abbrev pub told_as : Result Tally ServingFault → Result Tally ServeFault
@@ -242,7 +239,7 @@ FailsAtDoor serves s scripts images =
 abbrev pub ServesBy : Serves → Service → List Named → List (List ℕ) → Result Tally ServeFault → Type 0
 ServesBy serves s scripts images (Ok tally) = serves.can s scripts images (count_of tally) × Opens serves.rack s scripts images
 ServesBy serves s scripts images (Err fault.Door) = FailsAtDoor serves s scripts images
-ServesBy serves s scripts images (Err (fault.Shelf why)) = serves.unopened × ShutsBy serves.rack s scripts images why
+ServesBy serves s scripts images (Err (fault.Shelf f)) = serves.unopened × ShutsBy serves.rack s scripts images f.shelf f.why
 ServesBy serves s scripts images (Err fault.Key) = serves.unopened × AtRest serves.rack
 ServesBy serves s scripts images (Err fault.Memory) = serves.unopened × KeepsAll serves.rack scripts images
 
@@ -252,7 +249,7 @@ HasServedIfAny serves s scripts images =
     (serves.unopened × KeepsAllBut serves.rack scripts images) ⊎ ((count : Count) × serves.can s scripts images count × Opens serves.rack s scripts images)
 
 -- the links of a setup were served and their counts told; or the seeds, the disks or the door failed, at once or at last; or a disk
--- holds no journal of its shelf; or memory ran out
+-- holds no journal of its shelf, or has no room for the setup; or memory ran out
 abbrev pub LeavesServing : Serves → Service → List Named → List (List ℕ) → Status → Sinks → (door seeds : Faults) → Type 0
 LeavesServing serves s scripts images status.Done out door seeds =
     (count : Count) × serves.can s scripts images count × Opens serves.rack s scripts images × TellsCount count status.Done out

@@ -1,11 +1,10 @@
-ghost use Rattle.std.specs.Prelude.{◌&&◌, ◌≡◌, ◌≤◌, List, ℕ, Ok, length};
+ghost use Rattle.std.specs.Prelude.{◌&&◌, ◌≡◌, ◌≤◌, List, ℕ, Ok};
 ghost use Rattle.script_nodes.specs.Views.{scripts_of};
-ghost use Rattle.setup_reader.specs.Limits.{AreShort, most_scripts};
+ghost use Rattle.setup_reader.specs.Texts.{IsReadSetup};
 ghost use Rattle.setup_reader.specs.Views.{parsed_of};
 ghost use Rattle.command_words.specs.Plain.{AreInRange, IsInRange};
 ghost use Rattle.play_desk.specs.Opening.{AreHome};
 ghost use Rattle.server_command.specs.Command.{Came, Outputs, OutputsFor, PlaysSteps, asked_of, met_of};
-ghost use Rattle.server_command.specs.Opening.{CanBegin};
 ghost use Rattle.server_command.specs.Order.{RestsIfEarly};
 ghost use Rattle.server_command.specs.Output.{Hands, ending_of, sinks_of};
 ghost use Rattle.server_command.specs.Racks.{AreBack, racks_of};
@@ -14,10 +13,10 @@ ghost use Rattle.server_command.specs.Serving.{Faults};
 use crate::opening::rules_of;
 use crate::program::Status;
 use crate::telling::{
-    hand_on, no_memory, tell_count, tell_fault, tell_line, tell_unopened, tell_unread, unopened_by,
+    hand_on, no_memory, tell_count, tell_fault, tell_line, tell_unopened, tell_unread,
 };
 use command_words::Options;
-use play_desk::{OpenCause, open_desk};
+use play_desk::{OpenCause, OpenFault, open_desk};
 use play_steps::{PlayEnd, play};
 use script_nodes::Setup;
 use setup_reader::{Ending, Parsed, SetupFault};
@@ -46,17 +45,16 @@ fn ending_of(job: &Job) -> Ending
 fn play_all<O: Sink, D: Disk, R: Rack<D>>(
     alloc: Global,
     options: &Options,
-    setup: &Setup,
+    setup: Setup,
     steps: &[u8],
     output: &mut O,
     rack: &mut R,
 ) -> Status
     requires range { AreInRange options.now }
-    requires few { length (scripts_of setup.now) ≤ most_scripts }
-    requires begins { CanBegin options.now.shelves (scripts_of setup.now) }
+    requires read { IsReadSetup (scripts_of setup) }
     requires home { AreHome (R.view rack.old).out }
     ensures outputs { PlaysSteps (racks_of (R.tells && D.tells) (R.view rack.old) (R.view rack.new))
-        options.now (scripts_of setup.now) steps.now result
+        options.now (scripts_of setup) steps.now result
         (sinks_of (O.view output.old) (O.view output.new)) }
     ensures hands { Hands result (O.view output.old) (O.view output.new) }
     ensures back { AreBack (R.view rack.old) (R.view rack.new) }
@@ -64,7 +62,7 @@ fn play_all<O: Sink, D: Disk, R: Rack<D>>(
     let rules = rules_of(options, 0);
     let mut desk = match open_desk(alloc, rack, options.journal.as_str(), setup, rules) {
         Ok(desk) => desk,
-        Err(fault) => return tell_unopened(alloc, unopened_by(fault.shelf, fault.why), output),
+        Err(fault) => return tell_unopened(alloc, fault, output),
     };
     let end = play(alloc, &mut desk, rack, steps, output);
     desk.close(rack);
@@ -73,11 +71,10 @@ fn play_all<O: Sink, D: Disk, R: Rack<D>>(
         PlayEnd::Line(number) => tell_line(alloc, number, output),
         PlayEnd::Write => Status::Write,
         PlayEnd::Memory => no_memory(output),
-        PlayEnd::Reopen { shelf, why } => tell_unopened(
-            alloc,
-            unopened_by(shelf, OpenCause::of(why)),
-            output,
-        ),
+        PlayEnd::Reopen { shelf, why } => {
+            let why = OpenCause::of(why);
+            tell_unopened(alloc, OpenFault { shelf, why }, output)
+        }
     }
 }
 
@@ -85,23 +82,23 @@ fn play_all<O: Sink, D: Disk, R: Rack<D>>(
 fn run_setup<O: Sink, D: Disk, R: Rack<D>>(
     alloc: Global,
     job: &Job,
-    parsed: &Parsed,
+    parsed: Parsed,
     output: &mut O,
     rack: &mut R,
 ) -> Status
     requires range { IsInRange (asked_of job.now) }
-    requires few { length (scripts_of parsed.now.setup) ≤ most_scripts }
-    requires short { AreShort (scripts_of parsed.now.setup) }
+    requires read { IsReadSetup (scripts_of parsed.setup) }
     requires home { AreHome (R.view rack.old).out }
     ensures outputs { OutputsFor (racks_of (R.tells && D.tells) (R.view rack.old) (R.view rack.new))
-        (asked_of job.now) (Ok (parsed_of parsed.now)) result
+        (asked_of job.now) (Ok (parsed_of parsed.entry)) result
         (sinks_of (O.view output.old) (O.view output.new)) }
     ensures hands { Hands result (O.view output.old) (O.view output.new) }
     ensures back { AreBack (R.view rack.old) (R.view rack.new) }
 {
+    let Parsed { setup, steps } = parsed;
     match job {
-        Job::Check => tell_count(alloc, &parsed.setup, output),
-        Job::Play(options) => play_all(alloc, options, &parsed.setup, parsed.steps, output, rack),
+        Job::Check => tell_count(alloc, &setup, output),
+        Job::Play(options) => play_all(alloc, options, setup, steps, output, rack),
     }
 }
 
@@ -121,7 +118,7 @@ fn run_input<O: Sink, D: Disk, R: Rack<D>>(
     ensures back { AreBack (R.view rack.old) (R.view rack.new) }
 {
     match Parsed::parse(alloc, ending_of(job), input) {
-        Ok(parsed) => run_setup(alloc, job, &parsed, output, rack),
+        Ok(parsed) => run_setup(alloc, job, parsed, output, rack),
         Err(SetupFault::At(error)) => tell_fault(alloc, &error, output),
         Err(SetupFault::Memory) => no_memory(output),
     }

@@ -9,6 +9,5 @@ mod service;
 mod serving;
 mod telling;
 
-pub use opening::Unopened;
 pub use program::{Status, command};
 pub use site_serving::{KeptPast, NoPast, Past};

@@ -8,10 +8,10 @@ ghost use Rattle.server_command.specs.Racks.{AreBack, racks_of};
 
 use crate::opening::rules_of;
 use crate::program::Status;
-use crate::telling::{hand_on, no_memory, tell_unopened, unopened_by};
+use crate::telling::{hand_on, no_memory, tell_unopened};
 use command_words::LoadOptions;
 use measured_run::{LOAD_STEPS, Measure, load, load_setup};
-use play_desk::{OpenCause, open_desk};
+use play_desk::{OpenCause, OpenFault, open_desk};
 use play_steps::Halt;
 use std::alloc::Global;
 use web_disk::{Disk, Rack};
@@ -53,19 +53,18 @@ pub fn load_all<O: Sink, D: Disk, R: Rack<D>>(
     };
     let rules = rules_of(&options.options, 0);
     let directory = options.options.journal.as_str();
-    let mut desk = match open_desk(alloc, rack, directory, &setup, rules) {
+    let mut desk = match open_desk(alloc, rack, directory, setup, rules) {
         Ok(desk) => desk,
-        Err(fault) => return tell_unopened(alloc, unopened_by(fault.shelf, fault.why), output),
+        Err(fault) => return tell_unopened(alloc, fault, output),
     };
     let end = load(alloc, &mut desk, rack, options.number, LOAD_STEPS);
     desk.close(rack);
     match end {
         Ok(measure) => tell_measure(alloc, &measure, output),
         Err(Halt::Memory) => no_memory(output),
-        Err(Halt::Reopen { shelf, why }) => tell_unopened(
-            alloc,
-            unopened_by(shelf, OpenCause::of(why)),
-            output,
-        ),
+        Err(Halt::Reopen { shelf, why }) => {
+            let why = OpenCause::of(why);
+            tell_unopened(alloc, OpenFault { shelf, why }, output)
+        }
     }
 }

@@ -1,4 +1,4 @@
-ghost use Rattle.std.specs.Prelude.{◌&&◌, ◌≡◌, ◌≤◌, List, ℕ};
+ghost use Rattle.std.specs.Prelude.{◌&&◌, ◌≡◌, ◌≤◌};
 ghost use Rattle.play_desk.specs.Opening.{AreHome};
 ghost use Rattle.site_serving.specs.Serving.{pasts_of, views};
 ghost use Rattle.server_command.specs.Command as spec;
@@ -41,7 +41,7 @@ pub enum Status {
     Long,
     /// The rack failed, or a disk, where a shelf was opened.
     Disk,
-    /// A disk is not empty, or holds no journal of its shelf.
+    /// A disk is not empty, or holds no journal of its shelf, or has no room for the setup in it.
     Journal,
     /// The door failed, or a porch.
     Door,
@@ -136,7 +136,7 @@ where
 /// Does what the words ask for with the setup and the steps that the input has, or performs a measured run, which reads
 /// no input; writes what is due, and answers the process's status.
 ///
-/// Each visit that is accepted shows what its script, run again from its start, shows next when fed the answers of
+/// Each visit that is accepted shows what its instance's own script, run again from its start, shows next when fed the answers of
 /// its page's own ancestors and their reads of shared cells, and then its own; each other reply is the script's own
 /// fault or exactly the refusal that admission, cost or limits name, or want of memory. Of a shelf that is served this is
 /// said where it was opened as an own one: each page that its journal has has the state of its chain, as on a disk that
@@ -180,7 +180,7 @@ where
         (racks_of (R.tells && D.tells) (R.view rack.old) (R.view rack.new))
         (both (A.view door.old) (A.view door.new)) (both (S.view seeds.old) (S.view seeds.new))
         (pasts_of (P.told past.old) (P.told past.new))) }
-    // Plain words over a lawful input end well, at a step that does not fit, or for want of memory, where nothing outside fails.
+    // Plain words over a lawful input end well, at a step that does not fit, at an edit that outgrows a journal, or for want of memory, where nothing outside fails.
     ensures complete { IsComplete result (met_in (around (texts words.now)
         (views D.view D.tells A.Porch.Link.view A.Porch.view N.nonce (C.shows clock.now))
         (both (I.view input.old) (I.view input.new)) (both (O.view output.old) (O.view output.new))

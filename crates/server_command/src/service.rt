@@ -1,6 +1,7 @@
 ghost use Rattle.std.specs.Prelude.{◌&&◌, ◌≡◌, ◌≤◌, List, ℕ, IfErr, IfOk, OnOk, length};
 ghost use Rattle.script_nodes.specs.Views.{scripts_of};
 ghost use Rattle.setup_reader.specs.Limits.{AreShort, most_scripts};
+ghost use Rattle.setup_reader.specs.Texts.{IsReadSetup};
 ghost use Rattle.command_words.specs.Plain.{CanServe};
 ghost use Rattle.play_desk.specs.Opening.{AreHome};
 ghost use Rattle.site_serving.specs.Serving.{pasts_of, views};
@@ -27,6 +28,7 @@ fn parse_setup<O: Sink>(alloc: Global, bytes: &[u8], output: &mut O) -> Result<S
     ensures setup { IfOk result (λ setup. IsSetupOf bytes.now (scripts_of setup)) }
     ensures few { IfOk result (λ setup. length (scripts_of setup) ≤ most_scripts) }
     ensures short { IfOk result (λ setup. AreShort (scripts_of setup)) }
+    ensures read { IfOk result (λ setup. IsReadSetup (scripts_of setup)) }
     ensures none { IfErr result (TellsNoSetup bytes.now
         (sinks_of (O.view output.old) (O.view output.new))) }
     ensures same { OnOk result (output.new ≡ output.old) }

@@ -1,16 +1,18 @@
-ghost use Rattle.std.specs.Prelude.{◌&&◌, ◌≡◌, ◌≤◌, List, ℕ, length, IfOk, IsErrOf, IsTrue, vec_len};
+ghost use Rattle.std.specs.Prelude.{◌&&◌, ◌≡◌, ◌≤◌, List, ℕ, length, IfOk, IsErrOf};
 ghost use Rattle.web_outside.specs.Causes.{Rose};
 ghost use Rattle.script_nodes.specs.Views.{scripts_of};
-ghost use Rattle.setup_reader.specs.Limits.{most_scripts};
+ghost use Rattle.setup_reader.specs.Texts.{IsReadSetup};
 ghost use Rattle.command_words.specs.Plain.{CanServe};
 ghost use Rattle.site_serving.specs.Serving.{pasts_of, views};
+ghost use Rattle.play_desk.specs.declared.opening.OpenFault.{OpenFault};
 ghost use Rattle.server_command.specs.Opening.{CanBegin};
 ghost use Rattle.server_command.specs.Order.{ComesInOrder, asks_of, both};
 ghost use Rattle.server_command.specs.Racks.{KeepsHome, racks_of};
 ghost use Rattle.server_command.specs.Serving.{AreDrawn, ServesBy, outside, serves_over, told_as, watch_of};
 
-use crate::opening::{Unopened, give_all, open_site};
+use crate::opening::{give_all, open_site};
 use command_words::Service;
+use play_desk::OpenFault;
 use request_workers::Tally;
 use script_nodes::Setup;
 use site_serving::{Past, ServingFault, Watch, serve_site};
@@ -26,7 +28,7 @@ pub enum ServeFault {
     /// The seeds failed.
     Key,
     /// A shelf was not opened.
-    Shelf(Unopened),
+    Shelf(OpenFault),
     /// The door failed, or a porch.
     Door,
     /// Memory ran out.
@@ -68,7 +70,7 @@ fn draw_sources<N: Nonces + Drop, S: Seeds<N>>(
         Rose (S.view seeds.old).faults (S.view seeds.new).faults }
     ensures later { (S.view seeds.old).faults ≤ (S.view seeds.new).faults }
     ensures other { IsErrOf result ServeFault.Door → ⊥ }
-    ensures none { (why : Unopened) → IsErrOf result (ServeFault.Shelf why) → ⊥ }
+    ensures none { (f : OpenFault) → IsErrOf result (ServeFault.Shelf f) → ⊥ }
 {
     match seeds.draw(alloc, count) {
         Ok(sources) => Ok(sources),
@@ -78,8 +80,8 @@ fn draw_sources<N: Nonces + Drop, S: Seeds<N>>(
 }
 
 /// Serves a setup by as many workers as the service says: links of the door, each with as many requests at most as it says,
-/// until each worker served as many links as it says, or no more come. The shelves go on with what the journals of their disks make. When the workers have
-/// ended, what each shelf's callers did and what each worker counted is kept, once. An error is that of the seeds, of a shelf
+/// until each worker served as many links as it says, or no more come. The shelves go on with what the journals of their disks make, under this setup. When
+/// the workers have ended, what each shelf's callers did and what each worker counted is kept, once. An error is that of the seeds, of a shelf
 /// that was not opened, of the door or a porch, or want of memory.
 pub fn serve<
     W: Threads + Wait + Sync,
@@ -109,7 +111,7 @@ where
     <<A::Porch as Porch>::Link as Link>::Input: Send,
     <<A::Porch as Porch>::Link as Link>::Output: Send,
     requires can { CanServe service.now }
-    requires few { length (scripts_of setup) ≤ most_scripts }
+    requires read { IsReadSetup (scripts_of setup) }
     requires begins { CanBegin service.now.options.shelves (scripts_of setup) }
     ensures served { let o = outside
         (views D.view D.tells A.Porch.Link.view A.Porch.view N.nonce (C.shows clock.now))
@@ -134,7 +136,7 @@ where
     let sources = draw_sources(alloc, seeds, service.options.shelves)?;
     let site = match open_site(rt, alloc, rack, sources, setup, &service.options) {
         Ok(site) => site,
-        Err(why) => return Err(ServeFault::Shelf(why)),
+        Err(fault) => return Err(ServeFault::Shelf(fault)),
     };
     let (disks, outcome) = serve_site(rt, alloc, site, &watch_of(service), door, clock, gate, past);
     give_all(rack, disks);

@@ -8,14 +8,13 @@ ghost use Rattle.request_workers.specs.Tallies.{count_of};
 ghost use Rattle.server_command.specs.declared.program.Status.{Status};
 ghost use Rattle.server_command.specs.Command.{Counts, IsDoneUnlessFault, TellsFaultLine, TellsLine, unread_line, unread_status};
 ghost use Rattle.server_command.specs.Output.{Hands, HandsOnIfDone, PrintsTo, memory_line, sinks_of, step_line};
-ghost use Rattle.server_command.specs.Racks.{damaged, disk_line, not_empty, other, unfit_line};
+ghost use Rattle.server_command.specs.Racks.{damaged, disk_line, full, not_empty, other, unfit_line};
 ghost use Rattle.server_command.specs.Serving.{TellsCount, count_line};
-ghost use Rattle.server_command.specs.Telling.{TellsOutcome, TellsUnopened, unopened_by, unopened_line, unopened_status};
+ghost use Rattle.server_command.specs.Telling.{TellsOutcome, TellsUnopened, unopened_line, unopened_status};
 
-use crate::opening::Unopened;
 use crate::program::Status;
 use crate::serving::ServeFault;
-use play_desk::OpenCause;
+use play_desk::{OpenCause, OpenFault};
 use request_workers::Tally;
 use script_nodes::Setup;
 use setup_reader::{SetupError, fault_line};
@@ -173,7 +172,7 @@ fn disk_error(alloc: Global, shelf: u32) -> Result<String, AllocError>
 }
 
 // The line that names a shelf whose disk is not empty.
-fn full_error(alloc: Global, shelf: u32) -> Result<String, AllocError>
+fn not_empty_error(alloc: Global, shelf: u32) -> Result<String, AllocError>
     ensures { IfOk result (λ text. string_bytes text ≡ unfit_line shelf not_empty) }
 {
     format!(in alloc; "error 8 {shelf} 0 not-empty\n")
@@ -193,58 +192,56 @@ fn other_error(alloc: Global, shelf: u32, place: u64) -> Result<String, AllocErr
     format!(in alloc; "error 8 {shelf} {place} other\n")
 }
 
-// The line that tells why a shelf was not opened, where that is no want of memory.
-fn unopened_error(alloc: Global, why: Unopened) -> Result<String, AllocError>
-    ensures { IfOk result (λ text. unopened_line why ≡ Some (string_bytes text)) }
+// The line that names a shelf and the length that its journal would have, too many bytes.
+fn full_error(alloc: Global, shelf: u32, len: u64) -> Result<String, AllocError>
+    ensures { IfOk result (λ text. string_bytes text ≡ unfit_line shelf (full len)) }
 {
+    format!(in alloc; "error 8 {shelf} {len} full\n")
+}
+
+// The line that tells why a shelf was not opened, where that is no want of memory.
+fn unopened_error(alloc: Global, fault: OpenFault) -> Result<String, AllocError>
+    ensures { IfOk result (λ text. unopened_line fault.shelf fault.why ≡ Some (string_bytes text)) }
+{
+    let OpenFault { shelf, why } = fault;
     match why {
-        Unopened::Disk { shelf } => disk_error(alloc, shelf),
-        Unopened::NotEmpty { shelf } => full_error(alloc, shelf),
-        Unopened::Damaged { shelf, place } => damage_error(alloc, shelf, place),
-        Unopened::Other { shelf, place } => other_error(alloc, shelf, place),
-        Unopened::Memory => Err(AllocError),
+        OpenCause::Disk => disk_error(alloc, shelf),
+        OpenCause::NotEmpty => not_empty_error(alloc, shelf),
+        OpenCause::Damaged { place } => damage_error(alloc, shelf, place),
+        OpenCause::Other { place } => other_error(alloc, shelf, place),
+        OpenCause::Full { len } => full_error(alloc, shelf, len),
+        OpenCause::Memory => Err(AllocError),
     }
 }
 
-// The status of a shelf that was not opened.
-fn unopened_status(why: Unopened) -> Status
+// The status of a shelf that was not opened for this cause.
+fn unopened_status(why: OpenCause) -> Status
     ensures { result ≡ unopened_status why }
 {
     match why {
-        Unopened::Disk { .. } => Status::Disk,
-        Unopened::NotEmpty { .. } | Unopened::Damaged { .. } | Unopened::Other { .. } => {
-            Status::Journal
-        }
-        Unopened::Memory => Status::Memory,
+        OpenCause::Disk => Status::Disk,
+        OpenCause::NotEmpty
+        | OpenCause::Damaged { .. }
+        | OpenCause::Other { .. }
+        | OpenCause::Full { .. } => Status::Journal,
+        OpenCause::Memory => Status::Memory,
     }
 }
 
-/// Tells why a shelf was not opened.
-pub fn tell_unopened<O: Sink>(alloc: Global, why: Unopened, output: &mut O) -> Status
-    ensures tells { TellsUnopened why result (sinks_of (O.view output.old) (O.view output.new)) }
+/// Tells which shelf was not opened, and why.
+pub fn tell_unopened<O: Sink>(alloc: Global, fault: OpenFault, output: &mut O) -> Status
+    ensures tells { TellsUnopened fault.shelf fault.why result
+        (sinks_of (O.view output.old) (O.view output.new)) }
     ensures handed { HandsAllOn (O.view output.old) (O.view output.new) }
     ensures later { (O.view output.old).faults ≤ (O.view output.new).faults }
     ensures other { result ≢ Status.Done }
 {
-    match unopened_error(alloc, why) {
+    match unopened_error(alloc, fault) {
         Ok(text) => {
             write_or_drop(output, text.as_bytes());
-            unopened_status(why)
+            unopened_status(fault.why)
         }
         Err(_) => no_memory(output),
-    }
-}
-
-/// What a shelf that was not opened on a desk is told as.
-pub fn unopened_by(shelf: u32, why: OpenCause) -> Unopened
-    ensures { result ≡ unopened_by shelf why }
-{
-    match why {
-        OpenCause::Disk => Unopened::Disk { shelf },
-        OpenCause::NotEmpty => Unopened::NotEmpty { shelf },
-        OpenCause::Damaged { place } => Unopened::Damaged { shelf, place },
-        OpenCause::Other { place } => Unopened::Other { shelf, place },
-        OpenCause::Memory => Unopened::Memory,
     }
 }
 
@@ -263,7 +260,7 @@ pub fn tell_outcome<O: Sink>(
             write_or_drop(output, b"error 14 key\n");
             Status::Key
         }
-        Err(ServeFault::Shelf(why)) => tell_unopened(alloc, why, output),
+        Err(ServeFault::Shelf(fault)) => tell_unopened(alloc, fault, output),
         Err(ServeFault::Door) => {
             write_or_drop(output, b"error 9 door\n");
             Status::Door

@@ -1,5 +1,5 @@
-use Rattle.std.proofs.Common.{rules, ◌≡◌, ◌≤◌, ◌^◌, ◌∙◌, ◌∷◌, [], inl, inr, refl, ap, sym, subst, true, List, Some, arith}
-use Rattle.play_steps.specs.Step.{Step, IsWithin}
+use Rattle.std.proofs.Common.{◌≡◌, ◌≤◌, ◌^◌, ◌∙◌, ◌∷◌, [], inl, inr, refl, ap, sym, subst, true, List, Some, arith}
+use Rattle.play_steps.specs.Step.{Step, IsWithin, is_edit}
 use Rattle.play_steps.specs.Transcript.{fits}
 use Rattle.play_steps.specs.Views.{meaning}
 use Rattle.play_steps.specs.Played.{Came, spot}
@@ -8,7 +8,7 @@ use Rattle.play_steps.specs.declared.report.Report.{Report}
 use Rattle.measured_run.specs.Fnv.{goes_on}
 use Rattle.measured_run.specs.Tallies.{counted}
 use Rattle.measured_run.specs.Drawing.{learned_from}
-use Rattle.measured_run.proofs.Fitting.{drawn_within, drawn_fits}
+use Rattle.measured_run.proofs.Fitting.{drawn_within, drawn_fits, none_edits}
 use Rattle.measured_run.proofs.Going.{drawn_is, step_is, told_by, course_is, halts_on}
 use Rattle.measured_run.proofs.measuring.go_on.Goals as goal
 
@@ -21,6 +21,9 @@ perform-requires-clause-range g c =
     let draws = drawn_is r s c.shelves-shelves.result c.holders-workers.result source c.next.new.self c.in-Ok.step c.shelves-shelves.ensures c.holders-workers.ensures c.in-Ok.ensures.drawn in
     let is = step_is r s source c.next.new.self c.in-Ok.step (meaning c.as_step.result) draws c.as_step.ensures in
     subst IsWithin (sym is) (drawn_within r s source c.requires.some few c.requires.clock)
+
+pub perform-requires-clause-no_edit : goal.perform-requires-clause-no_edit
+perform-requires-clause-no_edit g c = ap is_edit c.as_step.ensures ∙ none_edits c.in-Ok.step
 
 pub perform-requires-clause-fitting : goal.perform-requires-clause-fitting
 perform-requires-clause-fitting g c =

@@ -1,4 +1,4 @@
-use Rattle.std.proofs.Common.{rules, ◌≡◌, ◌<◌, ℕ, ap, sym, subst, refl, arith}
+use Rattle.std.proofs.Common.{◌≡◌, ◌<◌, ap, sym, subst, refl, arith}
 use Rattle.play_steps.specs.Played.{spot}
 use Rattle.measured_run.specs.Generator.{Source, source_of}
 use Rattle.measured_run.proofs.Reached.{begun, one_more}

@@ -1,4 +1,4 @@
-use Rattle.std.proofs.Common.{◌≡◌, ◌≤◌, ◌<◌, ◌*◌, IsTrue}
+use Rattle.std.proofs.Common.{◌≤◌, ◌<◌, ◌*◌, IsTrue}
 use Rattle.play_steps.specs.Rules.{StaysUp}
 use Rattle.play_steps.specs.Played.{spot}
 use Rattle.measured_run.specs.Generator.{source_of}

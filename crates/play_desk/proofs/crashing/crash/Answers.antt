@@ -1,4 +1,4 @@
-use Rattle.std.proofs.Common.{◌≡◌, ◌≤◌, ◌∙◌, ap, sym, subst, ℕ, List, [], slice_get, Some, None, true, false, Err, Vec, arith}
+use Rattle.std.proofs.Common.{◌≡◌, ◌≤◌, ◌∙◌, ap, sym, subst, List, slice_get, Some, None, true, false, Err, Vec, arith}
 use Rattle.std.specs.declared.alloc.Global.{Global}
 use Rattle.web_outside.specs.Causes.{Rose}
 use Rattle.web_outside.specs.declared.nonces.Counting.{Counting}
@@ -30,12 +30,12 @@ returns-in-Err-clause-closed g c = ap (λ (v : Vec (Shelf g.row.D.Denot Counting
 pub returns-in-Err-clause-fit : goal.returns-in-Err-clause-fit
 returns-in-Err-clause-fit g c =
     let none = ap (λ (v : Vec (Shelf g.row.D.Denot Counting) Global). v.items) c.replace.ensures.after ∙ c.new.ensures.items in
-    fit_none g.D.Disk.view g.D.Disk.tells (scripts_of c.args.setup.now) c.replace.new.dest.items c.no_tickets.result none c.no_tickets.ensures
+    fit_none g.D.Disk.view g.D.Disk.tells c.replace.new.dest.items c.no_tickets.result none c.no_tickets.ensures
 
 pub returns-in-Err-clause-own : goal.returns-in-Err-clause-own
 returns-in-Err-clause-own g c rack_tells disk_tells own =
     let none = ap (λ (v : Vec (Shelf g.row.D.Denot Counting) Global). v.items) c.replace.ensures.after ∙ c.new.ensures.items in
-    own_alone g.D.Disk.view g.D.Disk.tells (scripts_of c.args.setup.now) c.replace.new.dest.items c.no_tickets.result
+    own_alone g.D.Disk.view g.D.Disk.tells c.replace.new.dest.items c.no_tickets.result
     (λ k x e. absurd (let no : None ≡ Some x = sym (ap (λ (ys : List (Shelf g.row.D.Denot Counting)). slice_get ys k) none) ∙ e in cc)) c.no_tickets.ensures
 
 pub returns-in-Err-clause-home : goal.returns-in-Err-clause-home
@@ -94,8 +94,9 @@ returns-in-Err-clause-left g c rack_tells disk_tells own =
     let ys = c.reopen_at.new.staff.shelves.items in
     let mid = g.R.Rack.view c.reopen_at.new.rack in
     let new = g.R.Rack.view c.put_all_back.new.rack in
-    left_behind g.D.Disk.view g.D.Disk.tells (scripts_of c.args.setup.now) staff.shelves.items ys staff.tickets c.args.place mid new disk_tells
-    c.requires.fit own c.in-Err.ensures.others (c.in-Err.ensures.left rack_tells disk_tells own) c.in-Err.ensures.gone c.in-Err.ensures.home
+    left_behind g.D.Disk.view g.D.Disk.tells (scripts_of c.args.setup.now) staff.shelves.items ys staff.tickets c.args.place c.in-Err.why mid new disk_tells
+    c.requires.fit own c.in-Err.ensures.others (c.in-Err.ensures.left rack_tells disk_tells own)
+    (c.in-Err.ensures.room rack_tells disk_tells own) c.in-Err.ensures.gone c.in-Err.ensures.home
     (subst (λ (v : Vec (Shelf g.row.D.Denot Counting) Global). HoldImages g.D.Disk.view v.items new.holds) c.replace.ensures.value (c.put_all_back.ensures.images rack_tells))
     (subst (λ (v : Vec (Shelf g.row.D.Denot Counting) Global). LeaveOthers v.items mid new) c.replace.ensures.value c.put_all_back.ensures.others)
     c.put_all_back.ensures.home

@@ -1,6 +1,6 @@
-use Rattle.std.proofs.Common.{◌≡◌, ◌≤◌, ◌∙◌, ◌+◌, ap, sym, subst, List, Some, length, map, option_map, slice_get, Err}
+use Rattle.std.proofs.Common.{◌≡◌, ◌≤◌, ◌∙◌, ◌+◌, ap, sym, subst, List, length, map, option_map, slice_get, Err}
 use Rattle.web_outside.specs.Causes.{Rose}
-use Rattle.script_nodes.specs.Views.{scripts_of}
+use Rattle.script_nodes.specs.Views.{library_of, scripts_of}
 use Rattle.web_outside.specs.declared.nonces.Counting.{Counting}
 use Rattle.shelf.specs.declared.shelf.Shelf.{Shelf}
 use Rattle.std.specs.Prelude.{insert}
@@ -11,7 +11,7 @@ use Rattle.play_steps.specs.declared.stage.Reopen.{Reopen}
 use Rattle.play_steps.specs.declared.stage.Reopen.TheVariants.{Disk}
 use Rattle.play_desk.specs.Desk.{desk_crash, is_fault, without_shelf}
 use Rattle.shelf.specs.Views.{book_in, rules_of}
-use Rattle.play_desk.specs.Opening.{StandsLost}
+use Rattle.play_desk.specs.Opening.{StandsLost, TellsRoom}
 use Rattle.play_desk.specs.Staff.{AreFit, AreOwn, HaveOwnNumbers, IsHome, KeepsOthers, desk_with, faults_in, total}
 use Rattle.play_desk.proofs.Places.{at_index, same_Some}
 use Rattle.play_desk.proofs.Fitting.{fit_crash, number_at, own_numbers}
@@ -20,9 +20,9 @@ use Rattle.play_desk.proofs.Removing.{put_in, still_in, taken_out}
 use Rattle.play_desk.proofs.Outage.{crash_comes, home_out, home_set, own_numbers_out, rises_out, stays_out, stays_set}
 use Rattle.play_desk.proofs.crashing.reopen_at.Goals as goal
 
-pub reopened-requires-clause-served : goal.reopened-requires-clause-served
-reopened-requires-clause-served g c =
-    c.requires.fit.served c.args.place c.remove-shelf.result
+pub reopened-requires-clause-in_order : goal.reopened-requires-clause-in_order
+reopened-requires-clause-in_order g c =
+    c.requires.fit.in_order c.args.place c.remove-shelf.result
     (at_index c.args.staff.now.shelves.items c.args.place c.remove-shelf.result c.remove-shelf.result c.requires.place c.remove-shelf.ensures.value)
 
 pub reopened-requires-clause-out : goal.reopened-requires-clause-out
@@ -80,8 +80,8 @@ returns-in-Ok-insert-clause-fit g c =
     let left = c.remove-shelf.ensures.by_index.2 ∙ taken_out xs k c.requires.place in
     let now = c.in-Ok-insert.ensures.items ∙ ap (λ (ys : List (Shelf g.row.D.Denot Counting)). insert ys k y) left ∙ put_in xs k y c.requires.place in
     let kept = subst (λ n. KeepsOthers n k s.tickets c.lose_tickets.new.tickets) (c.len-count.ensures ∙ s.shelves.ok.0) c.lose_tickets.ensures.kept in
-    subst (λ (ys : List (Shelf g.row.D.Denot Counting)). AreFit g.D.Disk.view g.D.Disk.tells scripts ys c.lose_tickets.new.tickets) (sym now)
-    (fit_crash g.D.Disk.view g.D.Disk.tells scripts xs s.tickets c.lose_tickets.new.tickets k x y c.requires.fit here c.in-Ok.ensures.served
+    subst (λ (ys : List (Shelf g.row.D.Denot Counting)). AreFit g.D.Disk.view g.D.Disk.tells ys c.lose_tickets.new.tickets) (sym now)
+    (fit_crash g.D.Disk.view g.D.Disk.tells xs s.tickets c.lose_tickets.new.tickets k x y c.requires.fit here c.in-Ok.ensures.in_order
     c.in-Ok.ensures.rules c.lose_tickets.ensures.workers kept)
 
 pub returns-in-Ok-insert-clause-own : goal.returns-in-Ok-insert-clause-own
@@ -96,8 +96,8 @@ returns-in-Ok-insert-clause-own g c rack_tells disk_tells own =
     let left = c.remove-shelf.ensures.by_index.2 ∙ taken_out xs k c.requires.place in
     let now = c.in-Ok-insert.ensures.items ∙ ap (λ (ys : List (Shelf g.row.D.Denot Counting)). insert ys k y) left ∙ put_in xs k y c.requires.place in
     let kept = subst (λ n. KeepsOthers n k s.tickets c.lose_tickets.new.tickets) (c.len-count.ensures ∙ s.shelves.ok.0) c.lose_tickets.ensures.kept in
-    subst (λ (ys : List (Shelf g.row.D.Denot Counting)). AreOwn g.D.Disk.view g.D.Disk.tells scripts ys c.lose_tickets.new.tickets) (sym now)
-    (own_crash g.D.Disk.view g.D.Disk.tells scripts xs s.tickets c.lose_tickets.new.tickets k x y own here
+    subst (λ (ys : List (Shelf g.row.D.Denot Counting)). AreOwn g.D.Disk.view g.D.Disk.tells ys c.lose_tickets.new.tickets) (sym now)
+    (own_crash g.D.Disk.view g.D.Disk.tells xs s.tickets c.lose_tickets.new.tickets k x y own here
     (c.in-Ok.ensures.own rack_tells disk_tells (own.own k x here)) kept)
 
 pub returns-in-Ok-insert-clause-home : goal.returns-in-Ok-insert-clause-home
@@ -137,10 +137,10 @@ returns-in-Ok-insert-clause-step g c rack_tells disk_tells own =
     let now = c.in-Ok-insert.ensures.items ∙ ap (λ (ys : List (Shelf g.row.D.Denot Counting)). insert ys k y) left ∙ put_in xs k y c.requires.place in
     let held = subst (λ n. map (option_map ticket_of) c.lose_tickets.new.tickets ≡ without_shelf n k 0 (map (option_map ticket_of) s.tickets))
     (c.len-count.ensures ∙ s.shelves.ok.0) c.lose_tickets.ensures.held in
-    subst (λ (ys : List (Shelf g.row.D.Denot Counting)). Comes is_fault ⊥ (desk_crash (desk_with scripts xs s.tickets) k) (desk_with scripts xs s.tickets) c.live-live.result
-    (desk_with scripts ys c.lose_tickets.new.tickets)) (sym now)
-    (crash_comes scripts xs s.tickets c.lose_tickets.new.tickets k c.live-live.result x y here (c.in-Ok.ensures.crashed rack_tells disk_tells (own.own k x here))
-    c.in-Ok.ensures.rules c.in-Ok.ensures.nonces (length-map y.book.instances.things.items (instance_of scripts) ∙ sym c.live-live.ensures) held)
+    subst (λ (ys : List (Shelf g.row.D.Denot Counting)). Comes is_fault ⊥ (desk_crash (desk_with g.D.Disk.view scripts xs s.tickets) k) (desk_with g.D.Disk.view scripts xs s.tickets) c.live-live.result
+    (desk_with g.D.Disk.view scripts ys c.lose_tickets.new.tickets)) (sym now)
+    (crash_comes g.D.Disk.view scripts xs s.tickets c.lose_tickets.new.tickets k c.live-live.result x y here (c.in-Ok.ensures.crashed rack_tells disk_tells (own.own k x here))
+    c.in-Ok.ensures.rules c.in-Ok.ensures.nonces (length-map y.book.instances.things.items (instance_of (library_of y.library).all) ∙ sym c.live-live.ensures) held)
 
 pub returns-in-Ok-insert-clause-count : goal.returns-in-Ok-insert-clause-count
 returns-in-Ok-insert-clause-count g c =
@@ -189,5 +189,15 @@ returns-in-Err-clause-left g c rack_tells disk_tells own s at =
     let x = c.remove-shelf.result in
     let here = at_index xs k x x c.requires.place c.remove-shelf.ensures.value in
     let holds = (g.R.Rack.view c.reopened.new.rack).holds in
-    subst (λ (z : Shelf g.row.D.Denot Counting). StandsLost (rules_of scripts z.rules) scripts z.rules.number (holds z.rules.number) (book_in scripts z))
+    subst (λ (z : Shelf g.row.D.Denot Counting). StandsLost (rules_of z.rules) scripts z.rules.number (holds z.rules.number) (book_in g.D.Disk.view z))
     (same_Some x s (sym here ∙ at)) (c.in-Err.ensures.left rack_tells disk_tells (own.own k x here))
+
+pub returns-in-Err-clause-room : goal.returns-in-Err-clause-room
+returns-in-Err-clause-room g c rack_tells disk_tells own s at =
+    let scripts = scripts_of c.args.setup.now in
+    let xs = c.args.staff.now.shelves.items in
+    let k = c.args.place in
+    let x = c.remove-shelf.result in
+    let here = at_index xs k x x c.requires.place c.remove-shelf.ensures.value in
+    subst (λ (z : Shelf g.row.D.Denot Counting). TellsRoom (rules_of z.rules) scripts (book_in g.D.Disk.view z) c.in-Err.why)
+    (same_Some x s (sym here ∙ at)) (c.in-Err.ensures.room rack_tells disk_tells (own.own k x here))

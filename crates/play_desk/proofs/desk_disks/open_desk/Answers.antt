@@ -1,109 +1,19 @@
-use Rattle.std.proofs.Common.{◌≡◌, ◌≤◌, ◌∙◌, ap, sym, subst, List, Err, arith}
-use Rattle.script_nodes.specs.Views.{scripts_of}
-use Rattle.journal_records.specs.Records.{IsInGrammar, begin_of}
-use Rattle.web_outside.specs.declared.nonces.Counting.{Counting}
-use Rattle.shelf.specs.declared.rules.Rules.{Rules}
-use Rattle.shelf.specs.declared.shelf.Shelf.{Shelf}
-use Rattle.play_desk.specs.Desk.{first_desk}
-use Rattle.play_desk.specs.Opening.{FailedFor, GivesOne, HoldImages, IsRefusedBy, KeepsClosed, LeaveOthers, OpensNext, rules_at}
-use Rattle.play_desk.specs.Staff.{HaveOwnNumbers, IsHome, desk_with, faults_in, total}
-use Rattle.play_desk.specs.declared.opening.OpenCause.{OpenCause}
-use Rattle.play_desk.proofs.Beginning.{closed_by, desk_opened, failed_closed, fit_opened, given_later, kept_all, later_closed, next_home, opened_more, own_opened, still_home}
+use Rattle.std.proofs.Common.{arith}
+use Rattle.play_desk.proofs.Beginning.{desk_opened, fit_opened}
 use Rattle.play_desk.proofs.Owning.{own_alone}
 use Rattle.play_desk.proofs.desk_disks.open_desk.Goals as goal
 
-pub open_next-requires-clause-begins : goal.open_next-requires-clause-begins
-open_next-requires-clause-begins g c =
-    subst (λ (r : Rules). IsInGrammar (begin_of r.number (scripts_of c.args.setup.now))) (sym c.numbered-next.ensures)
-    (c.requires.begins c.loop-number.number (omega arith))
+pub returns-in-Ok-clause-desk : goal.returns-in-Ok-clause-desk
+returns-in-Ok-clause-desk g c rack_tells disk_tells =
+    desk_opened _ _ _ _ _ _ _ _ _ c.no_tickets.result c.in-Ok.ensures.opened rack_tells disk_tells c.no_tickets.ensures
 
-pub open_next-requires-clause-home : goal.open_next-requires-clause-home
-open_next-requires-clause-home g c =
-    ap (λ (r : Rules). (g.R.Rack.view c.loop-number.rack).out r.number) c.numbered-next.ensures
-    ∙ next_home _ _ _ _ _ _ _ _ _ c.loop-number.invariant
+pub returns-in-Ok-clause-sound : goal.returns-in-Ok-clause-sound
+returns-in-Ok-clause-sound g c = record {
+  read = c.requires.read;
+  fit = fit_opened _ _ _ _ _ _ _ _ _ c.no_tickets.result c.in-Ok.ensures.opened (omega (arith, c.requires.range.shelves)) c.no_tickets.ensures;
+}
 
-pub put_all_back-requires-clause-numbers : goal.put_all_back-requires-clause-numbers
-put_all_back-requires-clause-numbers g c =
-    subst (λ (ys : List (Shelf g.row.D.Denot Counting)). HaveOwnNumbers ys) (sym c.in-Err.ensures.same)
-    (own_opened _ _ _ _ _ _ _ _ _ c.loop-number.invariant)
-
-pub put_all_back-requires-clause-home : goal.put_all_back-requires-clause-home
-put_all_back-requires-clause-home g c =
-    let old = g.R.Rack.view c.loop-number.rack in
-    let new = g.R.Rack.view c.open_next.new.rack in
-    let given = subst (λ (r : Rules). GivesOne r.number old new) c.numbered-next.ensures c.in-Err.ensures.given in
-    subst (λ (ys : List (Shelf g.row.D.Denot Counting)). IsHome ys new.out) (sym c.in-Err.ensures.same)
-    (still_home _ _ _ _ _ _ _ _ _ new c.loop-number.invariant given)
-
-pub returns-in-Err-clause-closed : goal.returns-in-Err-clause-closed
-returns-in-Err-clause-closed g c rack_tells disk_tells =
-    closed_by _ _ _ _ _ _ _ _ _ c.args.rules.shelves c.in-Err.why c.loop-number.invariant (omega arith) rack_tells disk_tells
-    (subst (λ (r : Rules). IsRefusedBy ((g.R.Rack.view c.loop-number.rack).holds r.number) c.in-Err.why) c.numbered-next.ensures
-    (c.in-Err.ensures.why rack_tells disk_tells))
-
-pub returns-in-Err-clause-keeps : goal.returns-in-Err-clause-keeps
-returns-in-Err-clause-keeps g c rack_tells disk_tells =
-    let scripts = scripts_of c.args.setup.now in
-    let old = g.R.Rack.view c.loop-number.rack in
-    let mid = g.R.Rack.view c.open_next.new.rack in
-    let new = g.R.Rack.view c.put_all_back.new.rack in
-    let same = c.in-Err.ensures.same in
-    kept_all _ _ _ _ _ _ _ _ _ mid new c.in-Err.why c.loop-number.invariant rack_tells disk_tells
-    (subst (λ (r : Rules). GivesOne r.number old mid) c.numbered-next.ensures c.in-Err.ensures.given)
-    (subst (λ (r : Rules). KeepsClosed {T = Unit {0}} scripts r.number (old.holds r.number) (mid.holds r.number) (Err c.in-Err.why)) c.numbered-next.ensures
-    (c.in-Err.ensures.keeps rack_tells disk_tells))
-    (subst (λ (ys : List (Shelf g.row.D.Denot Counting)). HoldImages g.D.Disk.view ys new.holds) same (c.put_all_back.ensures.images rack_tells))
-    (subst (λ (ys : List (Shelf g.row.D.Denot Counting)). LeaveOthers ys mid new) same c.put_all_back.ensures.others)
-
-pub returns-in-Err-clause-later : goal.returns-in-Err-clause-later
-returns-in-Err-clause-later g c =
-    let mid = (g.R.Rack.view c.open_next.new.rack).faults in
-    let new = (g.R.Rack.view c.put_all_back.new.rack).faults in
-    later_closed _ _ _ _ _ _ _ _ _ mid new c.loop-number.invariant c.in-Err.ensures.later
-    (subst (λ (ys : List (Shelf g.row.D.Denot Counting)). total mid (faults_in g.D.Disk.view ys) ≤ new) c.in-Err.ensures.same c.put_all_back.ensures.later)
-
-pub returns-in-Err-clause-failed_later : goal.returns-in-Err-clause-failed_later
-returns-in-Err-clause-failed_later g c =
-    let old = g.R.Rack.view c.loop-number.rack in
-    let mid = g.R.Rack.view c.open_next.new.rack in
-    given_later _ _ _ _ _ _ _ _ _ mid (g.R.Rack.view c.put_all_back.new.rack) c.loop-number.invariant
-    (subst (λ (r : Rules). GivesOne r.number old mid) c.numbered-next.ensures c.in-Err.ensures.given) c.put_all_back.ensures.failed_later
-
-pub returns-in-Err-clause-disk : goal.returns-in-Err-clause-disk
-returns-in-Err-clause-disk g c is =
-    let old = g.R.Rack.view c.loop-number.rack in
-    let mid = g.R.Rack.view c.open_next.new.rack in
-    let new = g.R.Rack.view c.put_all_back.new.rack in
-    failed_closed _ _ _ _ _ _ _ _ _ mid new c.loop-number.invariant
-    (subst (λ (r : Rules). FailedFor r.number old mid) c.numbered-next.ensures (c.in-Err.ensures.disk (ap (λ (w : OpenCause). Err w) is)))
-    c.in-Err.ensures.later
-    (subst (λ (ys : List (Shelf g.row.D.Denot Counting)). total mid.faults (faults_in g.D.Disk.view ys) ≤ new.faults) c.in-Err.ensures.same c.put_all_back.ensures.later)
-    c.put_all_back.ensures.failed_later
-
-pub loop-number-preserved : goal.loop-number-preserved
-loop-number-preserved g c =
-    let old = g.R.Rack.view c.loop-number.rack in
-    let new = g.R.Rack.view c.open_next.new.rack in
-    opened_more _ _ _ _ _ _ _ _ _ c.open_next.new.shelves.items new c.loop-number.invariant
-    (subst (λ (r : Rules). OpensNext g.D.Disk.view g.R.Rack.tells g.D.Disk.tells (scripts_of c.args.setup.now) r c.loop-number.shelves.items
-    c.open_next.new.shelves.items old new) c.numbered-next.ensures c.in_default.ensures.opened)
-
-pub returns-clause-desk : goal.returns-clause-desk
-returns-clause-desk g c rack_tells disk_tells =
-    let scripts = scripts_of c.args.setup.now in
-    let all : c.loop-number.number ≡ c.args.rules.shelves = omega arith in
-    subst (λ n. desk_with scripts c.loop-number.shelves.items c.no_tickets.result ≡ first_desk (rules_at scripts c.args.rules) scripts n) all
-    (desk_opened _ _ _ _ _ _ _ _ _ c.no_tickets.result c.loop-number.invariant rack_tells disk_tells c.no_tickets.ensures)
-
-pub returns-clause-sound : goal.returns-clause-sound
-returns-clause-sound g c =
-    fit_opened _ _ _ _ _ _ _ _ _ c.no_tickets.result c.loop-number.invariant (omega (arith, c.requires.range.shelves)) c.no_tickets.ensures
-
-pub returns-clause-own : goal.returns-clause-own
-returns-clause-own g c rack_tells disk_tells =
-    own_alone g.D.Disk.view g.D.Disk.tells (scripts_of c.args.setup.now) c.loop-number.shelves.items c.no_tickets.result
-    (c.loop-number.invariant.own rack_tells disk_tells) c.no_tickets.ensures
-
-pub returns-clause-count : goal.returns-clause-count
-returns-clause-count g c =
-    let all : c.loop-number.number ≡ c.args.rules.shelves = omega arith in c.loop-number.invariant.size ∙ all
+pub returns-in-Ok-clause-own : goal.returns-in-Ok-clause-own
+returns-in-Ok-clause-own g c rack_tells disk_tells =
+    own_alone g.D.Disk.view g.D.Disk.tells c.in-Ok.shelves.items c.no_tickets.result
+    (c.in-Ok.ensures.opened.own rack_tells disk_tells) c.no_tickets.ensures

@@ -1,4 +1,4 @@
-use Rattle.std.proofs.Common.{◌≡◌, sym, subst, ap, [], Err, rules}
+use Rattle.std.proofs.Common.{◌≡◌, subst, [], Err, rules}
 use Rattle.script_nodes.specs.Views.{scripts_of}
 use Rattle.web_disk.specs.View.{AreAmong}
 use Rattle.shelf.specs.declared.rules.Rules.{Rules}

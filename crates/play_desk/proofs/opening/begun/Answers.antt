@@ -1,13 +1,16 @@
-use Rattle.std.proofs.Common.{ℕ, List, sym, subst}
+use Rattle.std.proofs.Common.{ℕ, List, sym, subst, arith}
 use Rattle.std.specs.Prelude.{Err}
 use Rattle.script_nodes.specs.Setup.{Named}
 use Rattle.script_nodes.specs.Views.{scripts_of}
+use Rattle.setup_reader.specs.Texts.{setup_of_texts}
+use Rattle.journal_spec.proofs.Standings.{one_of}
 use Rattle.web_disk.specs.View.{View}
 use Rattle.shelf.specs.Opening.{IsFaultOf}
 use Rattle.shelf.specs.declared.begin.BeginFault.{BeginFault}
 use Rattle.shelf.specs.declared.begin.BeginFault.TheVariants as begin
-use Rattle.play_desk.specs.Opening.{Finds, KeepsBegun, reopen_of}
-use Rattle.play_desk.proofs.Keeping.{not_begun}
+use Rattle.play_desk.specs.Opening.{BeginsEmpty, Finds, KeepsBegun, reopen_of}
+use Rattle.play_desk.proofs.Firsts.{begins, begins_empty}
+use Rattle.play_desk.proofs.Keeping.{is_kept, not_begun}
 use Rattle.play_desk.proofs.Reopening.{stays_lost}
 use Rattle.play_desk.proofs.opening.begun.Goals as goal
 
@@ -15,22 +18,27 @@ pub returns-in-Ok-clause-found : goal.returns-in-Ok-clause-found
 returns-in-Ok-clause-found g c told = (c.args.disk, λ image here. here, c.in-Ok.ensures.one_of told)
 
 -- a disk that makes no shelf
-found_not : {D : Type 0} (view : D → View) (scripts : List Named) (number : ℕ) (v : View) (e : BeginFault) → v.images v.seen → IsFaultOf scripts number v e
-    → Finds view scripts number v.images (Err (reopen_of e))
-found_not view scripts number v (begin.Damaged place) reads is = (v.seen, reads, is)
-found_not view scripts number v (begin.Other place) reads is = (v.seen, reads, is)
-found_not view scripts number v begin.DiskFault reads is = tt
-found_not view scripts number v begin.Memory reads is = tt
+found_not : {D : Type 0} (view : D → View) (scripts : List Named) (number : ℕ) (disk : D) (e : BeginFault) → (view disk).images (view disk).seen
+    → IsFaultOf scripts number (view disk) e → Finds view scripts number (view disk).images (Err (reopen_of e))
+found_not view scripts number disk (begin.Damaged place) reads is = ((view disk).seen, reads, is)
+found_not view scripts number disk (begin.Other place) reads is = ((view disk).seen, reads, is)
+found_not view scripts number disk (begin.Full len) reads is =
+    (is.made.book, (disk, (λ image here. here), one_of setup_of_texts number scripts (view disk) is.made reads is.opened), is.is, is.long)
+found_not view scripts number disk begin.DiskFault reads is = tt
+found_not view scripts number disk begin.Memory reads is = tt
 
 pub returns-in-Err-clause-found : goal.returns-in-Err-clause-found
 returns-in-Err-clause-found g c = λ told.
     let v = g.D.Disk.view in
     let ss = scripts_of c.args.setup.now in
     subst (λ r. Finds v ss c.args.rules.number (v c.args.disk).images (Err r)) (sym c.why_not.ensures)
-    (found_not v ss c.args.rules.number (v c.args.disk) c.in-Err.fault (g.met.D.Disk.reads_image c.args.disk told) (c.in-Err.ensures.refused told))
+    (found_not v ss c.args.rules.number c.args.disk c.in-Err.fault (g.met.D.Disk.reads_image c.args.disk told) (c.in-Err.ensures.refused told))
 
 pub returns-in-Ok-clause-keeps : goal.returns-in-Ok-clause-keeps
-returns-in-Ok-clause-keeps g c rack_tells tells out = c.in-Ok.ensures.keeps tells (λ e. let no : ⊥ = cc in no)
+returns-in-Ok-clause-keeps g c rack_tells tells out =
+    let v = g.D.Disk.view in
+    is_kept (scripts_of c.args.setup.now) c.args.rules.number (v c.args.disk) (v c.in-Ok.shelf.journal.disk) (v c.args.disk).images (λ image h. h)
+    (c.in-Ok.ensures.keeps tells (λ e. let no : ⊥ = cc in no))
 
 pub returns-in-Err-clause-keeps : goal.returns-in-Err-clause-keeps
 returns-in-Err-clause-keeps g c rack_tells tells out =
@@ -56,3 +64,15 @@ returns-in-Err-clause-left g c rack_tells tells out =
     stays_lost (scripts_of c.args.setup.now) c.args.rules.number (v c.args.disk) (v now) ((g.R.Rack.view c.give.new.self).holds c.args.rules.number)
     (λ t image. g.met.D.Disk.counts_now now t image)
     (c.in-Err.ensures.any_moment tells) (c.in-Err.ensures.own_moments tells) (c.give.ensures.images rack_tells out)
+
+pub begin-requires-clause-begins : goal.begin-requires-clause-begins
+begin-requires-clause-begins g c =
+    begins c.args.rules.number (scripts_of c.args.setup.now)
+    (let low = c.requires.range.number in let most = c.requires.range.shelves in omega (arith, low, most)) c.requires.read
+
+pub returns-in-Err-clause-empty : goal.returns-in-Err-clause-empty
+returns-in-Err-clause-empty g c told none =
+    let v = g.D.Disk.view in
+    let ss = scripts_of c.args.setup.now in
+    subst (λ r. BeginsEmpty v ss c.args.rules (Err r)) (sym c.why_not.ensures)
+    (begins_empty v ss c.args.rules (v c.args.disk) c.in-Err.fault none c.requires.read (c.in-Err.ensures.refused told))

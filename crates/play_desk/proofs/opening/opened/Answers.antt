@@ -1,9 +1,9 @@
-use Rattle.std.proofs.Common.{◌≡◌, ◌∙◌, ap, sym, subst, ℕ, List, [], Err, rules, arith}
+use Rattle.std.proofs.Common.{◌≡◌, ◌∙◌, ap, sym, subst, ℕ, List, Err, rules, arith}
 use Rattle.play_steps.specs.declared.stage.Reopen.{Reopen}
 use Rattle.script_nodes.specs.Views.{scripts_of}
 use Rattle.play_desk.specs.declared.opening.OpenCause.TheVariants.{Disk}
 use Rattle.play_desk.specs.Opening.{AllKept, KeepsOpened}
-use Rattle.play_desk.proofs.Keeping.{is_kept, not_opened, unread}
+use Rattle.play_desk.proofs.Keeping.{all_kept_in, not_opened, unread}
 use Rattle.play_desk.proofs.Reopening.{disk_cause, empty_is_own, rose_after}
 use Rattle.play_desk.proofs.opening.opened.Goals as goal
 
@@ -22,7 +22,7 @@ returns-in-Err-clause-disk g c is =
 -- no record is on a disk without bytes
 pub returns-in-Ok-clause-own : goal.returns-in-Ok-clause-own
 returns-in-Ok-clause-own g c rack_tells disk_tells =
-    c.in-Ok.ensures.own disk_tells (empty_is_own (scripts_of c.args.setup.now) c.args.rules.number _ (c.in_ok-disk.ensures.empty rack_tells disk_tells).0)
+    c.in-Ok.ensures.own disk_tells (empty_is_own c.args.rules.number _ (c.in_ok-disk.ensures.empty rack_tells disk_tells).0)
 
 -- nothing was lost on the disk, which is given back unread, or begun as an empty one
 pub returns-in_err-disk-clause-keeps : goal.returns-in_err-disk-clause-keeps
@@ -40,8 +40,9 @@ returns-in-Ok-clause-keeps g c rack_tells tells =
     let n = c.args.rules.number in
     let held = (g.R.Rack.view c.args.rack.now).holds n in
     let disk = c.in_ok-disk.disk in
-    subst (λ (read : List ℕ). AllKept scripts n held read (v c.in-Ok.shelf.journal.disk).images) (c.in_ok-disk.ensures.empty rack_tells tells).0
-    (is_kept scripts n (v disk) (v c.in-Ok.shelf.journal.disk) held (c.in_ok-disk.ensures.images rack_tells)
+    let images = (v c.in-Ok.shelf.journal.disk).images in
+    subst (λ (read : List ℕ). AllKept scripts n held read images) (c.in_ok-disk.ensures.empty rack_tells tells).0
+    (all_kept_in scripts n held (v disk).images (v disk).seen images images (c.in_ok-disk.ensures.images rack_tells) (λ image h. h)
     (c.in-Ok.ensures.keeps rack_tells tells c.in_ok-disk.ensures.rack.out))
 
 pub returns-in-Err-clause-keeps : goal.returns-in-Err-clause-keeps

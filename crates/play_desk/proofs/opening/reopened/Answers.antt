@@ -9,7 +9,7 @@ use Rattle.shelf.specs.Views.{book_in, rules_of}
 use Rattle.shelf.proofs.Owned.{images_own}
 use Rattle.shelf.specs.declared.rules.Rules.{Rules}
 use Rattle.play_desk.specs.Opening.{Finds, StandsLost, left_on}
-use Rattle.play_desk.proofs.Reopening.{lost_among, none_other, own_among, reopened_ok, undamaged}
+use Rattle.play_desk.proofs.Reopening.{lost_among, none_other, own_among, reopened_ok, tells_room, undamaged}
 use Rattle.play_desk.proofs.opening.reopened.Goals as goal
 
 pub returns-clause-crashed : goal.returns-clause-crashed
@@ -22,6 +22,17 @@ returns-clause-crashed g c rack_tells disk_tells own =
     (λ image here. c.put_back-nonces.ensures.images rack_tells image (held image here)) c.begun.result
     (subst (λ (r : Rules). Finds g.D.Disk.view scripts r.number images c.begun.result) c.rules-rules.ensures.rules (c.begun.ensures.found disk_tells))
 
+-- where there is no room for the setup, it is told of the book
+pub returns-clause-room : goal.returns-clause-room
+returns-clause-room g c rack_tells disk_tells own =
+    let scripts = scripts_of c.args.setup.now in
+    let old = c.args.shelf in
+    let images = (g.D.Disk.view c.in_ok-disk.disk).images in
+    let held = subst (λ (r : Rules). AreAmong images ((g.R.Rack.view c.put_back-nonces.new.rack).holds r.number)) c.rules-rules.ensures.rules (c.in_ok-disk.ensures.images rack_tells) in
+    tells_room g.D.Disk.view c.a_reopened_shelf_has_crashed.ensures scripts old (own.own disk_tells).stands images
+    (λ image here. c.put_back-nonces.ensures.images rack_tells image (held image here)) c.begun.result
+    (subst (λ (r : Rules). Finds g.D.Disk.view scripts r.number images c.begun.result) c.rules-rules.ensures.rules (c.begun.ensures.found disk_tells))
+
 -- what is read of the disk is one of its images, which are own
 pub returns-clause-own : goal.returns-clause-own
 returns-clause-own g c rack_tells disk_tells own =
@@ -31,8 +42,8 @@ returns-clause-own g c rack_tells disk_tells own =
     let held = subst (λ (r : Rules). AreAmong disk.images ((g.R.Rack.view c.put_back-nonces.new.rack).holds r.number)) c.rules-rules.ensures.rules (c.in_ok-disk.ensures.images rack_tells) in
     let seen = c.put_back-nonces.ensures.images rack_tells disk.seen (held disk.seen (g.met.D.Disk.reads_image c.in_ok-disk.disk disk_tells)) in
     c.begun.ensures.own disk_tells
-    (subst (λ (r : Rules). IsOwnImage scripts r.number disk.seen) (sym c.rules-rules.ensures.rules)
-    (images_own scripts old.rules.number (g.D.Disk.view old.journal.disk) disk.seen (own.own disk_tells).images seen))
+    (subst (λ (r : Rules). IsOwnImage r.number disk.seen) (sym c.rules-rules.ensures.rules)
+    (images_own old.rules.number (g.D.Disk.view old.journal.disk) disk.seen (own.own disk_tells).images seen))
 
 pub returns-clause-damaged : goal.returns-clause-damaged
 returns-clause-damaged g c rack_tells disk_tells =
@@ -40,8 +51,8 @@ returns-clause-damaged g c rack_tells disk_tells =
     let old = c.args.shelf in
     let images = (g.D.Disk.view c.in_ok-disk.disk).images in
     let held = subst (λ (r : Rules). AreAmong images ((g.R.Rack.view c.put_back-nonces.new.rack).holds r.number)) c.rules-rules.ensures.rules (c.in_ok-disk.ensures.images rack_tells) in
-    undamaged g.D.Disk.view c.images_make_books.ensures scripts old.rules.number old.journal.disk (book_in scripts old)
-    (c.requires.served.in_order.fit disk_tells).stands images
+    undamaged g.D.Disk.view c.images_make_books.ensures scripts old.rules.number old.journal.disk (book_in g.D.Disk.view old)
+    (c.requires.in_order.fit disk_tells).stands images
     (λ image here. c.put_back-nonces.ensures.images rack_tells image (held image here)) c.begun.result
     (subst (λ (r : Rules). Finds g.D.Disk.view scripts r.number images c.begun.result) c.rules-rules.ensures.rules (c.begun.ensures.found disk_tells))
 
@@ -51,8 +62,8 @@ returns-clause-other g c rack_tells disk_tells =
     let old = c.args.shelf in
     let images = (g.D.Disk.view c.in_ok-disk.disk).images in
     let held = subst (λ (r : Rules). AreAmong images ((g.R.Rack.view c.put_back-nonces.new.rack).holds r.number)) c.rules-rules.ensures.rules (c.in_ok-disk.ensures.images rack_tells) in
-    none_other g.D.Disk.view c.images_make_books.ensures scripts old.rules.number old.journal.disk (book_in scripts old)
-    (c.requires.served.in_order.fit disk_tells).stands images
+    none_other g.D.Disk.view c.images_make_books.ensures scripts old.rules.number old.journal.disk (book_in g.D.Disk.view old)
+    (c.requires.in_order.fit disk_tells).stands images
     (λ image here. c.put_back-nonces.ensures.images rack_tells image (held image here)) c.begun.result
     (subst (λ (r : Rules). Finds g.D.Disk.view scripts r.number images c.begun.result) c.rules-rules.ensures.rules (c.begun.ensures.found disk_tells))
 
@@ -63,8 +74,8 @@ returns-in_err-disk-clause-left g c rack_tells disk_tells own =
     let scripts = scripts_of c.args.setup.now in
     let why = c.in_err-disk.field-0.0 in
     let told : c.from_residual.result ≡ Err why = search rules in
-    rw told (lost_among (rules_of scripts old.rules) scripts old.rules.number (g.D.Disk.view old.journal.disk)
-    ((g.R.Rack.view c.taken.new.rack).holds old.rules.number) (book_in scripts old) (own.own disk_tells)
+    rw told (lost_among (rules_of old.rules) scripts old.rules.number (g.D.Disk.view old.journal.disk)
+    ((g.R.Rack.view c.taken.new.rack).holds old.rules.number) (book_in g.D.Disk.view old) (own.own disk_tells)
     (λ image h. c.put_back-nonces.ensures.images rack_tells image (c.in_err-disk.ensures.rack.holds old.rules.number image h)))
 
 -- the shelf was opened on it or not
@@ -72,16 +83,16 @@ pub returns-clause-left : goal.returns-clause-left
 returns-clause-left g c rack_tells disk_tells own =
     let old = c.args.shelf in
     let scripts = scripts_of c.args.setup.now in
-    let r = rules_of scripts old.rules in
-    let b = book_in scripts old in
+    let r = rules_of old.rules in
+    let b = book_in g.D.Disk.view old in
     let disk = g.D.Disk.view c.in_ok-disk.disk in
     let holds = (g.R.Rack.view c.begun.new.rack).holds in
     let held = subst (λ (l : Rules). AreAmong disk.images ((g.R.Rack.view c.put_back-nonces.new.rack).holds l.number)) c.rules-rules.ensures.rules (c.in_ok-disk.ensures.images rack_tells) in
-    let here = own_among r scripts old.rules.number (g.D.Disk.view old.journal.disk) disk b (own.own disk_tells)
+    let here = own_among r old.rules.number (g.D.Disk.view old.journal.disk) disk b (own.own disk_tells)
     (λ image h. c.put_back-nonces.ensures.images rack_tells image (held image h)) in
     subst (λ (l : Rules). StandsLost r scripts l.number (left_on g.D.Disk.view l.number holds c.begun.result) b) c.rules-rules.ensures.rules
     (c.begun.ensures.left rack_tells disk_tells c.in_ok-disk.ensures.rack.out r b
-    (subst (λ (l : Rules). StandsOwn r scripts l.number disk b) (sym c.rules-rules.ensures.rules) here))
+    (subst (λ (l : Rules). StandsOwn r l.number disk b) (sym c.rules-rules.ensures.rules) here))
 
 -- the count of its number rose over what its disk had failed
 pub returns-in_err-disk-clause-here : goal.returns-in_err-disk-clause-here

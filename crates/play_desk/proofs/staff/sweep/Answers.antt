@@ -1,4 +1,3 @@
-use Rattle.script_nodes.specs.Views.{scripts_of}
 use Rattle.shelf.specs.Views.{fate_by, swept_of}
 use Rattle.play_desk.proofs.Places.{at_index}
 use Rattle.play_desk.proofs.Stepping.{is_event, shelf_there, sweep_step, sweeps}
@@ -11,11 +10,11 @@ use Rattle.play_desk.proofs.staff.sweep.Goals as goal
 pub sweep-requires-clause-in_order : goal.sweep-requires-clause-in_order
 sweep-requires-clause-in_order g c =
     let here = at_index c.args.staff.now.shelves.items c.args.place c.index_mut.result.now c.index_mut.result.now c.requires.place c.index_mut.ensures.value in
-    (scripts_of c.args.setup.now, (c.requires.fit.served c.args.place c.index_mut.result.now here).in_order)
+    c.requires.fit.in_order c.args.place c.index_mut.result.now here
 
 pub returns-clause-step : goal.returns-clause-step
-returns-clause-step g c =
-    let scripts = scripts_of c.args.setup.now in
+returns-clause-step g c scripts =
+    let view = g.D.Disk.view in
     let xs = c.args.staff.now.shelves.items in
     let ts = c.args.staff.now.tickets in
     let k = c.args.place in
@@ -23,35 +22,35 @@ returns-clause-step g c =
     let y = c.sweep.new.self in
     let r = c.sweep.result in
     let here = at_index xs k x x c.requires.place c.index_mut.ensures.value in
-    let h = happens scripts x y _ (swept_of r) (c.sweep.ensures.event scripts) in
-    is_event _ _ _ _ r _ (fate_by (swept_of r)) (sweeps _ k c.args.tick _ (shelf_there scripts xs ts k x here)) (sweep_step scripts xs ts k x y c.args.tick r h)
+    let h = happens view x y _ (swept_of r) c.sweep.ensures.event in
+    is_event _ _ _ _ r _ (fate_by (swept_of r)) (sweeps _ k c.args.tick _ (shelf_there view scripts xs ts k x here)) (sweep_step view scripts xs ts k x y c.args.tick r h)
     (λ fails. faults_rise g.D.Disk.view xs k x y here (told_rise _ _ (swept_of r) c.sweep.ensures.cause fails))
 
 pub returns-clause-fit : goal.returns-clause-fit
 returns-clause-fit g c =
-    let scripts = scripts_of c.args.setup.now in
+    let view = g.D.Disk.view in
     let xs = c.args.staff.now.shelves.items in
     let k = c.args.place in
     let x = c.index_mut.result.now in
     let y = c.sweep.new.self in
     let r = c.sweep.result in
     let here = at_index xs k x x c.requires.place c.index_mut.ensures.value in
-    let h = happens scripts x y _ (swept_of r) (c.sweep.ensures.event scripts) in
-    fit_sweep g.D.Disk.view g.D.Disk.tells scripts xs c.args.staff.now.tickets k x y c.args.tick r c.requires.fit here h
-    (c.sweep.ensures.in_order scripts (c.requires.fit.served k x here).in_order) c.sweep.ensures.rules
+    let h = happens view x y _ (swept_of r) c.sweep.ensures.event in
+    fit_sweep view g.D.Disk.tells xs c.args.staff.now.tickets k x y c.args.tick r c.requires.fit here h
+    c.sweep.ensures.in_order c.sweep.ensures.rules c.sweep.ensures.library
 
 pub returns-clause-own : goal.returns-clause-own
 returns-clause-own g c own =
-    let scripts = scripts_of c.args.setup.now in
+    let view = g.D.Disk.view in
     let xs = c.args.staff.now.shelves.items in
     let k = c.args.place in
     let x = c.index_mut.result.now in
     let y = c.sweep.new.self in
     let r = c.sweep.result in
     let here = at_index xs k x x c.requires.place c.index_mut.ensures.value in
-    let h = happens scripts x y _ (swept_of r) (c.sweep.ensures.event scripts) in
-    own_sweep g.D.Disk.view g.D.Disk.tells scripts xs c.args.staff.now.tickets k x y c.args.tick r own here h
-    (c.sweep.ensures.own scripts (c.requires.fit.served k x here).in_order (own.own k x here))
+    let h = happens view x y _ (swept_of r) c.sweep.ensures.event in
+    own_sweep view g.D.Disk.tells xs c.args.staff.now.tickets k x y c.args.tick r own here h
+    c.sweep.ensures.library (c.sweep.ensures.own (own.own k x here))
 
 pub returns-clause-there : goal.returns-clause-there
 returns-clause-there g c =

@@ -1,11 +1,11 @@
-use Rattle.std.proofs.Common.{◌≡◌, [], ◌∷◌, MatchResult, subst, rules}
-use Rattle.play_steps.specs.Step.{Step, take, publish, get, crash}
+use Rattle.std.proofs.Common.{◌≡◌, [], ◌∷◌, MatchResult, inl, inr, ⊎_elim, ap, subst, rules}
+use Rattle.play_steps.specs.Step.{Step, take, publish, get}
 use Rattle.play_steps.specs.Views.{meaning}
 use Rattle.play_steps.specs.Played.{Performs, spot}
 use Rattle.play_steps.specs.declared.report.Report.{Report}
 use Rattle.play_steps.specs.declared.performing.Halt.{Halt}
 use Rattle.play_steps.specs.declared.performing.Halt.TheVariants as halt
-use Rattle.play_steps.proofs.Performed.{comes_called, took, published, got_number, got_refusal, tells, told_crash, crash_performs}
+use Rattle.play_steps.proofs.Performed.{comes_called, took, published, got_number, got_refusal, tells, IsCrashOf, told_either, either_performs}
 use Rattle.play_steps.proofs.performing.perform.Goals as goal
 
 pub returns-in-Take-clause-came : goal.returns-in-Take-clause-came
@@ -62,14 +62,12 @@ returns-in-Err-clause-came g c known own =
 pub returns-in-Crash-clause-came : goal.returns-in-Crash-clause-came
 returns-in-Crash-clause-came g c known own =
     let r = g.T.Stage.rules in
-    let step : crash c.in-Crash.shelf ≡ meaning c.args.step.now = search rules in
+    let step : IsCrashOf (meaning c.args.step.now) c.in-Crash.shelf = ⊎_elim (λ e. inl (ap meaning e)) (λ e. inr (ap meaning e)) c.in-Crash.is in
+    let tells = told_either g.T.Stage.tells _ _ step known in
     let call = c.crash-opened.ensures in
-    let new = c.crash-opened.new in
-    subst (λ (s : Step). Performs r (g.T.Stage.left new.devices) s c.crash_report.result (spot r (g.T.Stage.state c.args.stage.now) (g.T.Stage.faults c.args.stage.now c.args.devices.now))
-    (spot r (g.T.Stage.state new.self) (g.T.Stage.faults new.self new.devices))) step
-    (crash_performs r (g.T.Stage.left new.devices) _ _ _ _ _ c.crash_report.ensures (call.step (told_crash g.T.Stage.tells _ _ step known) own) call.disk call.later (call.left (told_crash g.T.Stage.tells _ _ step known) own))
+    either_performs r (g.T.Stage.left c.crash-opened.new.devices) _ _ _ _ _ _ step c.crash_report.ensures (call.step tells own) call.disk call.later (call.left tells own)
 
 pub returns-in-Crash-clause-own : goal.returns-in-Crash-clause-own
 returns-in-Crash-clause-own g c known own =
-    let step : crash c.in-Crash.shelf ≡ meaning c.args.step.now = search rules in
-    c.crash-opened.ensures.own (told_crash g.T.Stage.tells _ _ step known) own
+    let step : IsCrashOf (meaning c.args.step.now) c.in-Crash.shelf = ⊎_elim (λ e. inl (ap meaning e)) (λ e. inr (ap meaning e)) c.in-Crash.is in
+    c.crash-opened.ensures.own (told_either g.T.Stage.tells _ _ step known) own

@@ -1,4 +1,4 @@
-use Rattle.std.proofs.Common.{◌∙◌, ap, refl, subst, arith}
+use Rattle.std.proofs.Common.{ap, refl, subst, arith}
 use Rattle.std.specs.Prelude.{◌&&◌}
 use Rattle.script_nodes.specs.Views.{scripts_of}
 use Rattle.play_steps.specs.Step.{steps_of}
@@ -8,7 +8,7 @@ use Rattle.play_desk.specs.Opening.{IsClosedBy, IsLeft}
 use Rattle.play_desk.proofs.Closing.{left_home}
 use Rattle.server_command.specs.Output.{sinks_of}
 use Rattle.server_command.specs.Racks.{racks_of}
-use Rattle.server_command.specs.Telling.{TellsUnopened, unopened_by}
+use Rattle.server_command.specs.Telling.{TellsUnopened}
 use Rattle.measured_run.proofs.Going.{told_by}
 use Rattle.server_command.proofs.Opened.{again_outputs, first_outputs}
 use Rattle.server_command.proofs.Openings.{both_tell}
@@ -24,18 +24,18 @@ returns-in-Err-clause-outputs g c = λ bytes h.
     let fault = c.in-Err.fault in
     let old = g.O.Sink.view c.args.output.now in
     let new = g.O.Sink.view c.tell_unopened.new.output in
-    first_outputs rack o bytes (record { scripts = scripts_of c.args.setup.now; steps = c.args.steps.now }) fault.shelf fault.why c.tell_unopened.result
+    first_outputs rack o bytes (record { scripts = scripts_of c.args.setup; steps = c.args.steps.now }) fault.shelf fault.why c.tell_unopened.result
     old.written new.written old.faults new.faults h
     (λ t. let b = both_tell g.R.Rack.tells g.D.Disk.tells t in
     subst (λ n. IsClosedBy rack.before.holds n fault.shelf fault.why) c.rules_of-rules.ensures.asked.shelves (c.in-Err.ensures.closed b.0 b.1))
     c.in-Err.ensures.disk
     (λ t. let b = both_tell g.R.Rack.tells g.D.Disk.tells t in c.in-Err.ensures.keeps b.0 b.1) c.in-Err.ensures.later
-    (subst (λ why. TellsUnopened why c.tell_unopened.result (sinks_of old new)) c.unopened_by.ensures c.tell_unopened.ensures.tells)
+    c.tell_unopened.ensures.tells
 
 pub returns-in-Done-clause-outputs : goal.returns-in-Done-clause-outputs
 returns-in-Done-clause-outputs g c = λ bytes h.
     let o = c.args.options.now in
-    let scripts = scripts_of c.args.setup.now in
+    let scripts = scripts_of c.args.setup in
     let tells = g.R.Rack.tells && g.D.Disk.tells in
     let rack = racks_of tells (g.R.Rack.view c.args.rack.now) (g.R.Rack.view c.close.new.rack) in
     let old = g.O.Sink.view c.args.output.now in
@@ -43,7 +43,7 @@ returns-in-Done-clause-outputs g c = λ bytes h.
     let new = g.O.Sink.view c.hand_on.new.output in
     done_outputs rack o bytes (record { scripts = scripts; steps = c.args.steps.now }) c.hand_on.result old.written mid.written new.written old.faults mid.faults new.faults h
     (λ t. let b = both_tell g.R.Rack.tells g.D.Disk.tells t in
-    ran rack o scripts (steps_of c.args.steps.now) done old.written mid.written _ _ _ _
+    ran rack o scripts c.args.steps.now done old.written mid.written _ _ _ _
     (begins rack o scripts c.rules_of-rules.result _ c.rules_of-rules.ensures.asked (c.in-Ok.ensures.desk b.0 b.1) (c.in-Ok.ensures.empty b.0 b.1))
     (c.in-Done.ensures.ended (told_by tells (steps_of c.args.steps.now) t) (c.in-Ok.ensures.own b.0 b.1))
     (c.close.ensures.books b.0 b.1 (c.in-Done.ensures.own (told_by tells (steps_of c.args.steps.now) t) (c.in-Ok.ensures.own b.0 b.1)))
@@ -53,7 +53,7 @@ returns-in-Done-clause-outputs g c = λ bytes h.
 pub returns-in-Line-clause-outputs : goal.returns-in-Line-clause-outputs
 returns-in-Line-clause-outputs g c = λ bytes h.
     let o = c.args.options.now in
-    let scripts = scripts_of c.args.setup.now in
+    let scripts = scripts_of c.args.setup in
     let tells = g.R.Rack.tells && g.D.Disk.tells in
     let rack = racks_of tells (g.R.Rack.view c.args.rack.now) (g.R.Rack.view c.close.new.rack) in
     let old = g.O.Sink.view c.args.output.now in
@@ -61,7 +61,7 @@ returns-in-Line-clause-outputs g c = λ bytes h.
     let new = g.O.Sink.view c.tell_line.new.output in
     line_outputs rack o bytes (record { scripts = scripts; steps = c.args.steps.now }) c.in-Line.number c.tell_line.result old.written mid.written new.written old.faults mid.faults new.faults h
     (λ t. let b = both_tell g.R.Rack.tells g.D.Disk.tells t in
-    ran rack o scripts (steps_of c.args.steps.now) (bad_line c.in-Line.number) old.written mid.written _ _ _ _
+    ran rack o scripts c.args.steps.now (bad_line c.in-Line.number) old.written mid.written _ _ _ _
     (begins rack o scripts c.rules_of-rules.result _ c.rules_of-rules.ensures.asked (c.in-Ok.ensures.desk b.0 b.1) (c.in-Ok.ensures.empty b.0 b.1))
     (c.in-Line.ensures.ended (told_by tells (steps_of c.args.steps.now) t) (c.in-Ok.ensures.own b.0 b.1))
     (c.close.ensures.books b.0 b.1 (c.in-Line.ensures.own (told_by tells (steps_of c.args.steps.now) t) (c.in-Ok.ensures.own b.0 b.1)))
@@ -71,14 +71,14 @@ returns-in-Line-clause-outputs g c = λ bytes h.
 pub returns-in-Write-clause-outputs : goal.returns-in-Write-clause-outputs
 returns-in-Write-clause-outputs g c = λ bytes h.
     let o = c.args.options.now in
-    let scripts = scripts_of c.args.setup.now in
+    let scripts = scripts_of c.args.setup in
     let tells = g.R.Rack.tells && g.D.Disk.tells in
     let rack = racks_of tells (g.R.Rack.view c.args.rack.now) (g.R.Rack.view c.close.new.rack) in
     let old = g.O.Sink.view c.args.output.now in
     let mid = g.O.Sink.view c.play-end.new.sink in
     write_outputs rack o bytes (record { scripts = scripts; steps = c.args.steps.now }) old.written mid.written old.faults mid.faults h
     (λ t. let b = both_tell g.R.Rack.tells g.D.Disk.tells t in
-    halted rack o scripts (steps_of c.args.steps.now) old.written mid.written _ _ _ _
+    halted rack o scripts c.args.steps.now old.written mid.written _ _ _ _
     (begins rack o scripts c.rules_of-rules.result _ c.rules_of-rules.ensures.asked (c.in-Ok.ensures.desk b.0 b.1) (c.in-Ok.ensures.empty b.0 b.1))
     (c.in-Write.ensures.ended (told_by tells (steps_of c.args.steps.now) t) (c.in-Ok.ensures.own b.0 b.1))
     (c.close.ensures.books b.0 b.1 (c.in-Write.ensures.own (told_by tells (steps_of c.args.steps.now) t) (c.in-Ok.ensures.own b.0 b.1)))
@@ -88,7 +88,7 @@ returns-in-Write-clause-outputs g c = λ bytes h.
 pub returns-in-Memory-clause-outputs : goal.returns-in-Memory-clause-outputs
 returns-in-Memory-clause-outputs g c = λ bytes h.
     let o = c.args.options.now in
-    let scripts = scripts_of c.args.setup.now in
+    let scripts = scripts_of c.args.setup in
     let tells = g.R.Rack.tells && g.D.Disk.tells in
     let rack = racks_of tells (g.R.Rack.view c.args.rack.now) (g.R.Rack.view c.close.new.rack) in
     let old = g.O.Sink.view c.args.output.now in
@@ -96,10 +96,10 @@ returns-in-Memory-clause-outputs g c = λ bytes h.
     let new = g.O.Sink.view c.no_memory.new.output in
     memory_outputs rack o bytes (record { scripts = scripts; steps = c.args.steps.now }) c.no_memory.result old.written mid.written new.written old.faults mid.faults new.faults h
     (λ t. let b = both_tell g.R.Rack.tells g.D.Disk.tells t in
-    paused rack o scripts (steps_of c.args.steps.now) old.written mid.written _ _ _ _
+    paused rack o scripts c.args.steps.now old.written mid.written _ _ _ _
     (begins rack o scripts c.rules_of-rules.result _ c.rules_of-rules.ensures.asked (c.in-Ok.ensures.desk b.0 b.1) (c.in-Ok.ensures.empty b.0 b.1))
     (IsLeft (g.R.Rack.view c.play-end.new.devices))
-    (λ d k. left_home c.play-end.new.stage.staff.shelves.items (g.R.Rack.view c.play-end.new.devices) rack.after d k c.play-end.ensures.home
+    (λ d k w. left_home c.play-end.new.stage.staff.shelves.items (g.R.Rack.view c.play-end.new.devices) rack.after d k w c.play-end.ensures.home
     c.close.ensures.others c.close.ensures.home)
     (c.in-Memory.ensures.ended (told_by tells (steps_of c.args.steps.now) t) (c.in-Ok.ensures.own b.0 b.1))
     (c.close.ensures.books b.0 b.1 (c.in-Memory.ensures.own (told_by tells (steps_of c.args.steps.now) t) (c.in-Ok.ensures.own b.0 b.1)))
@@ -109,7 +109,7 @@ returns-in-Memory-clause-outputs g c = λ bytes h.
 pub returns-in-Reopen-clause-outputs : goal.returns-in-Reopen-clause-outputs
 returns-in-Reopen-clause-outputs g c = λ bytes h.
     let o = c.args.options.now in
-    let scripts = scripts_of c.args.setup.now in
+    let scripts = scripts_of c.args.setup in
     let tells = g.R.Rack.tells && g.D.Disk.tells in
     let rack = racks_of tells (g.R.Rack.view c.args.rack.now) (g.R.Rack.view c.close.new.rack) in
     let old = g.O.Sink.view c.args.output.now in
@@ -120,12 +120,12 @@ returns-in-Reopen-clause-outputs g c = λ bytes h.
     again_outputs rack o bytes (record { scripts = scripts; steps = c.args.steps.now }) shelf why c.tell_unopened-in-Reopen.result
     old.written mid.written new.written old.faults mid.faults new.faults h
     (λ t. let b = both_tell g.R.Rack.tells g.D.Disk.tells t in
-    lost rack o scripts (steps_of c.args.steps.now) shelf why old.written mid.written _ _ _ _
+    lost rack o scripts c.args.steps.now shelf why old.written mid.written _ _ _ _
     (begins rack o scripts c.rules_of-rules.result _ c.rules_of-rules.ensures.asked (c.in-Ok.ensures.desk b.0 b.1) (c.in-Ok.ensures.empty b.0 b.1))
     (IsLeft (g.R.Rack.view c.play-end.new.devices))
-    (λ d k. left_home c.play-end.new.stage.staff.shelves.items (g.R.Rack.view c.play-end.new.devices) rack.after d k c.play-end.ensures.home
+    (λ d k w. left_home c.play-end.new.stage.staff.shelves.items (g.R.Rack.view c.play-end.new.devices) rack.after d k w c.play-end.ensures.home
     c.close.ensures.others c.close.ensures.home)
-    (loses (IsLeft (g.R.Rack.view c.play-end.new.devices)) (steps_of c.args.steps.now) shelf why _ _ (c.in-Reopen.ensures.ended (told_by tells (steps_of c.args.steps.now) t) (c.in-Ok.ensures.own b.0 b.1)))
+    (loses (IsLeft (g.R.Rack.view c.play-end.new.devices)) _ shelf why _ _ (c.in-Reopen.ensures.ended (told_by tells (steps_of c.args.steps.now) t) (c.in-Ok.ensures.own b.0 b.1)))
     c.in-Ok.ensures.later_open c.close.ensures.later)
     (λ e. let rose = c.in-Reopen.ensures.disk shelf (ap (λ w. Reopen shelf w) e) in
     let here = c.in-Reopen.ensures.failed shelf (ap (λ w. Reopen shelf w) e) in
@@ -135,4 +135,4 @@ returns-in-Reopen-clause-outputs g c = λ bytes h.
     (λ t place e. c.in-Reopen.ensures.damaged t shelf place (ap (λ w. Reopen shelf w) e))
     (λ t place e. c.in-Reopen.ensures.other t shelf place (ap (λ w. Reopen shelf w) e))
     c.play-end.ensures.later
-    (subst (λ x. TellsUnopened x c.tell_unopened-in-Reopen.result (sinks_of mid new)) (c.unopened_by-in-Reopen.ensures ∙ ap (unopened_by shelf) c.of.ensures) c.tell_unopened-in-Reopen.ensures.tells)
+    (subst (λ w. TellsUnopened shelf w c.tell_unopened-in-Reopen.result (sinks_of mid new)) c.of-why.ensures c.tell_unopened-in-Reopen.ensures.tells)

@@ -1,7 +1,9 @@
-use Rattle.std.proofs.Common.{◌≡◌, ◌<◌, ◌∙◌, ap, Err, subst, List, arith, rules}
+use Rattle.std.proofs.Common.{◌≡◌, ◌≤◌, ◌^◌, Err, subst, List, arith, rules}
 use Rattle.std.specs.Prelude.{◌&&◌}
 use Rattle.std.proofs.lemmas.List.{length-map}
+use Rattle.lock_row.proofs.Places.{map_get}
 use Rattle.script_nodes.specs.Setup.{Named}
+use Rattle.replay_spec.specs.Runs.{Shelf}
 use Rattle.script_nodes.specs.Views.{scripts_of}
 use Rattle.play_steps.specs.declared.performing.Halt.TheVariants.{Memory, Reopen}
 use Rattle.play_desk.specs.Opening.{AllStayKept, IsClosedBy, IsLeft}
@@ -10,27 +12,21 @@ use Rattle.play_steps.specs.declared.stage.Reopen.TheVariants as again
 use Rattle.play_desk.specs.Staff.{desk_of, faults_in, shelf_at, total}
 use Rattle.server_command.specs.Output.{sinks_of}
 use Rattle.server_command.specs.Racks.{racks_of}
-use Rattle.server_command.specs.Telling.{TellsUnopened, unopened_by}
+use Rattle.server_command.specs.Telling.{TellsUnopened}
 use Rattle.server_command.proofs.Loads.{again_leaves, error_is, first_leaves, loaded_by, lost_if, measure_leaves, memory_leaves, short_if, untouched}
 use Rattle.server_command.proofs.Openings.{both_tell}
 use Rattle.server_command.proofs.Playing.{Begins}
 use Rattle.server_command.proofs.Runs.{begins}
-use Rattle.server_command.proofs.Short.{can_begin}
 use Rattle.server_command.proofs.loading.load_all.Goals as goal
 
 pub returns-in_default-clause-leaves : goal.returns-in_default-clause-leaves
 returns-in_default-clause-leaves g c = memory_leaves _ c.args.options.now _ _ _ _ _ c.no_memory.ensures.status c.no_memory.ensures.line
     (λ t. untouched _ _ c.args.options.now)
 
-pub open_desk-requires-clause-begins : goal.open_desk-requires-clause-begins
-open_desk-requires-clause-begins g c =
-    let begin = can_begin c.args.options.now.options.shelves (scripts_of c.in-Ok.setup) c.requires.range.options.shelves.1 c.in-Ok.ensures.few c.in-Ok.ensures.short in
-    λ k low. begin k (subst (λ n. k < n) c.rules_of-rules.ensures.asked.shelves low)
-
 pub load-end-requires-clause-some : goal.load-end-requires-clause-some
 load-end-requires-clause-some g c =
     let shelves = c.in-Ok-open_desk.desk.staff.shelves.items in
-    let as_many = length-map shelves (shelf_at (scripts_of c.in-Ok-open_desk.desk.setup.now)) in
+    let as_many = length-map shelves (shelf_at g.D.Disk.view) in
     omega (arith, as_many, c.in-Ok-open_desk.ensures.count, c.rules_of-rules.ensures.asked.shelves, c.requires.range.options.shelves.0)
 
 pub returns-in-Err-clause-leaves : goal.returns-in-Err-clause-leaves
@@ -46,7 +42,7 @@ returns-in-Err-clause-leaves g c =
     (λ t. let b = both_tell g.R.Rack.tells g.D.Disk.tells t in
     subst (λ (ss : List Named). AllStayKept ss rack.before.holds rack.after.holds fault.shelf fault.why) c.in-Ok.ensures.scripts (c.in-Err.ensures.keeps b.0 b.1))
     c.in-Err.ensures.later
-    (subst (λ why. TellsUnopened why c.tell_unopened.result (sinks_of old new)) c.unopened_by.ensures c.tell_unopened.ensures.tells)
+    c.tell_unopened.ensures.tells
 
 pub returns-in-Ok-end-clause-leaves : goal.returns-in-Ok-end-clause-leaves
 returns-in-Ok-end-clause-leaves g c =
@@ -56,11 +52,11 @@ returns-in-Ok-end-clause-leaves g c =
     let last = c.load-end.new.stage in
     measure_leaves rack l c.in-Ok-end.measure c.tell_measure.result (sinks_of (g.O.Sink.view c.args.output.now) (g.O.Sink.view c.tell_measure.new.output))
     (λ t. let b = both_tell g.R.Rack.tells g.D.Disk.tells t in
-    loaded_by rack l (IsLeft (g.R.Rack.view c.load-end.new.devices)) c.in-Ok-end.measure (desk_of first.setup.now first.staff) (desk_of last.setup.now last.staff)
+    loaded_by rack l (IsLeft (g.R.Rack.view c.load-end.new.devices)) c.in-Ok-end.measure (desk_of g.D.Disk.view (scripts_of first.setup) first.staff) (desk_of g.D.Disk.view (scripts_of last.setup) last.staff)
     (total (g.R.Rack.view c.open_desk.new.rack).faults (faults_in g.D.Disk.view first.staff.shelves.items))
     (total (g.R.Rack.view c.load-end.new.devices).faults (faults_in g.D.Disk.view last.staff.shelves.items))
-    (subst (λ (ss : List Named). Begins rack l.options ss (desk_of first.setup.now first.staff)) c.in-Ok.ensures.scripts
-    (begins rack l.options (scripts_of c.in-Ok.setup) c.rules_of-rules.result (desk_of first.setup.now first.staff) c.rules_of-rules.ensures.asked
+    (subst (λ (ss : List Named). Begins rack l.options ss (desk_of g.D.Disk.view (scripts_of first.setup) first.staff)) c.in-Ok.ensures.scripts
+    (begins rack l.options (scripts_of c.in-Ok.setup) c.rules_of-rules.result (desk_of g.D.Disk.view (scripts_of first.setup) first.staff) c.rules_of-rules.ensures.asked
     (c.in-Ok-open_desk.ensures.desk b.0 b.1) (c.in-Ok-open_desk.ensures.empty b.0 b.1)))
     (c.in-Ok-end.ensures.measured t (c.in-Ok-open_desk.ensures.own b.0 b.1)) (c.close.ensures.books b.0 b.1 (c.in-Ok-end.ensures.own t (c.in-Ok-open_desk.ensures.own b.0 b.1)))
     c.in-Ok-open_desk.ensures.later_open c.close.ensures.later)
@@ -76,19 +72,22 @@ returns-in-Err-Memory-clause-leaves g c =
     memory_leaves rack l _ _ _ _ _ c.no_memory-in-Err-Memory.ensures.status c.no_memory-in-Err-Memory.ensures.line
     (λ t. let b = both_tell g.R.Rack.tells g.D.Disk.tells t in
     short_if rack l (IsLeft (g.R.Rack.view c.load-end.new.devices))
-    (λ d k. left_home last.staff.shelves.items (g.R.Rack.view c.load-end.new.devices) rack.after d k c.load-end.ensures.home c.close.ensures.others c.close.ensures.home)
-    c.load-end.result (desk_of first.setup.now first.staff) (desk_of last.setup.now last.staff)
+    (λ d k w. left_home last.staff.shelves.items (g.R.Rack.view c.load-end.new.devices) rack.after d k w c.load-end.ensures.home c.close.ensures.others c.close.ensures.home)
+    c.load-end.result (desk_of g.D.Disk.view (scripts_of first.setup) first.staff) (desk_of g.D.Disk.view (scripts_of last.setup) last.staff)
     (total (g.R.Rack.view c.open_desk.new.rack).faults (faults_in g.D.Disk.view first.staff.shelves.items))
     (total (g.R.Rack.view c.load-end.new.devices).faults (faults_in g.D.Disk.view last.staff.shelves.items)) is
-    (subst (λ (ss : List Named). Begins rack l.options ss (desk_of first.setup.now first.staff)) c.in-Ok.ensures.scripts
-    (begins rack l.options (scripts_of c.in-Ok.setup) c.rules_of-rules.result (desk_of first.setup.now first.staff) c.rules_of-rules.ensures.asked
+    (subst (λ (ss : List Named). Begins rack l.options ss (desk_of g.D.Disk.view (scripts_of first.setup) first.staff)) c.in-Ok.ensures.scripts
+    (begins rack l.options (scripts_of c.in-Ok.setup) c.rules_of-rules.result (desk_of g.D.Disk.view (scripts_of first.setup) first.staff) c.rules_of-rules.ensures.asked
     (c.in-Ok-open_desk.ensures.desk b.0 b.1) (c.in-Ok-open_desk.ensures.empty b.0 b.1)))
+    (λ k s e. let x = map_get (shelf_at g.D.Disk.view) first.staff.shelves.items k s e in
+    subst (λ (z : Shelf). z.book.length ≤ 2 ^ 30) x.2 (c.in-Ok-open_desk.ensures.sound.fit.in_order k x.0 x.1).sound)
+    c.requires.range.options.shelves.0
     (c.load-end.ensures.measured t (c.in-Ok-open_desk.ensures.own b.0 b.1))
     (c.close.ensures.books b.0 b.1 (c.load-end.ensures.own t (c.in-Ok-open_desk.ensures.own b.0 b.1)))
     c.in-Ok-open_desk.ensures.later_open c.close.ensures.later)
 
-pub returns-clause-leaves : goal.returns-clause-leaves
-returns-clause-leaves g c =
+pub returns-in-Err-Reopen-clause-leaves : goal.returns-in-Err-Reopen-clause-leaves
+returns-in-Err-Reopen-clause-leaves g c =
     let l = c.args.options.now in
     let rack = racks_of (g.R.Rack.tells && g.D.Disk.tells) (g.R.Rack.view c.args.rack.now) (g.R.Rack.view c.close.new.rack) in
     let first = c.in-Ok-open_desk.desk in
@@ -101,13 +100,16 @@ returns-clause-leaves g c =
     again_leaves rack l shelf why c.tell_unopened-in-Err-Reopen.result old.written new.written old.faults new.faults
     (λ t. let b = both_tell g.R.Rack.tells g.D.Disk.tells t in
     lost_if rack l (IsLeft (g.R.Rack.view c.load-end.new.devices))
-    (λ d k. left_home last.staff.shelves.items (g.R.Rack.view c.load-end.new.devices) rack.after d k c.load-end.ensures.home c.close.ensures.others c.close.ensures.home)
-    shelf why c.load-end.result (desk_of first.setup.now first.staff) (desk_of last.setup.now last.staff)
+    (λ d k w. left_home last.staff.shelves.items (g.R.Rack.view c.load-end.new.devices) rack.after d k w c.load-end.ensures.home c.close.ensures.others c.close.ensures.home)
+    shelf why c.load-end.result (desk_of g.D.Disk.view (scripts_of first.setup) first.staff) (desk_of g.D.Disk.view (scripts_of last.setup) last.staff)
     (total (g.R.Rack.view c.open_desk.new.rack).faults (faults_in g.D.Disk.view first.staff.shelves.items))
     (total (g.R.Rack.view c.load-end.new.devices).faults (faults_in g.D.Disk.view last.staff.shelves.items)) is
-    (subst (λ (ss : List Named). Begins rack l.options ss (desk_of first.setup.now first.staff)) c.in-Ok.ensures.scripts
-    (begins rack l.options (scripts_of c.in-Ok.setup) c.rules_of-rules.result (desk_of first.setup.now first.staff) c.rules_of-rules.ensures.asked
+    (subst (λ (ss : List Named). Begins rack l.options ss (desk_of g.D.Disk.view (scripts_of first.setup) first.staff)) c.in-Ok.ensures.scripts
+    (begins rack l.options (scripts_of c.in-Ok.setup) c.rules_of-rules.result (desk_of g.D.Disk.view (scripts_of first.setup) first.staff) c.rules_of-rules.ensures.asked
     (c.in-Ok-open_desk.ensures.desk b.0 b.1) (c.in-Ok-open_desk.ensures.empty b.0 b.1)))
+    (λ k s e. let x = map_get (shelf_at g.D.Disk.view) first.staff.shelves.items k s e in
+    subst (λ (z : Shelf). z.book.length ≤ 2 ^ 30) x.2 (c.in-Ok-open_desk.ensures.sound.fit.in_order k x.0 x.1).sound)
+    c.requires.range.options.shelves.0
     (c.load-end.ensures.measured t (c.in-Ok-open_desk.ensures.own b.0 b.1)) c.in-Ok-open_desk.ensures.later_open c.close.ensures.later)
     (λ e. let rose = c.load-end.ensures.disk shelf (error_is c.load-end.result shelf why again.Disk is e) in
     let here = c.load-end.ensures.failed shelf (error_is c.load-end.result shelf why again.Disk is e) in
@@ -116,4 +118,4 @@ returns-clause-leaves g c =
     record { all = omega (arith, rose, c.in-Ok-open_desk.ensures.later_open, c.close.ensures.later); here = omega (arith, here, first, last) })
     (λ t place e. c.load-end.ensures.damaged t shelf place (error_is c.load-end.result shelf why (again.Damaged place) is e))
     (λ t place e. c.load-end.ensures.other t shelf place (error_is c.load-end.result shelf why (again.Other place) is e))
-    (subst (λ u. TellsUnopened u c.tell_unopened-in-Err-Reopen.result (sinks_of old new)) (c.unopened_by-in-Err-Reopen.ensures ∙ ap (unopened_by shelf) c.of.ensures) c.tell_unopened-in-Err-Reopen.ensures.tells)
+    (subst (λ w. TellsUnopened shelf w c.tell_unopened-in-Err-Reopen.result (sinks_of old new)) c.of-why.ensures c.tell_unopened-in-Err-Reopen.ensures.tells)

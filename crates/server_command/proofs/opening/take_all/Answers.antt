@@ -11,10 +11,10 @@ taking-preserved g c =
     let told = IsTrue (g.R.Rack.tells && g.D.Disk.tells) in
     let before = g.R.Rack.view c.args.rack.now in
     let after = g.R.Rack.view c.take.new.self in
-    let disk = c.in-Ok.disk in
+    let disk = c.in-Ok-take.disk in
     let next = takes_next told before (g.R.Rack.view l.rack) after l.number (seen_on g.D.Disk.view l.disks.items) (g.D.Disk.view disk).seen l.invariant.taken
-    (record { out = c.in-Ok.ensures.out; others_out = c.in-Ok.ensures.others_out; others = c.in-Ok.ensures.others; later = c.in-Ok.ensures.later; failed = c.in-Ok.ensures.counted; others_failed = c.in-Ok.ensures.others_counted })
-    (λ t. c.in-Ok.ensures.images (both_tell g.R.Rack.tells g.D.Disk.tells t).0 (g.D.Disk.view disk).seen (g.met.D.Disk.reads_image disk (both_tell g.R.Rack.tells g.D.Disk.tells t).1)) in
+    (record { out = c.in-Ok-take.ensures.out; others_out = c.in-Ok-take.ensures.others_out; others = c.in-Ok-take.ensures.others; later = c.in-Ok-take.ensures.later; failed = c.in-Ok-take.ensures.counted; others_failed = c.in-Ok-take.ensures.others_counted })
+    (λ t. c.in-Ok-take.ensures.images (both_tell g.R.Rack.tells g.D.Disk.tells t).0 (g.D.Disk.view disk).seen (g.met.D.Disk.reads_image disk (both_tell g.R.Rack.tells g.D.Disk.tells t).1)) in
     record {
       size = omega (arith, l.invariant.size, c.push_reserved.ensures.len);
       room = omega (arith, l.invariant.room, c.push_reserved.ensures.capacity);
@@ -23,7 +23,7 @@ taking-preserved g c =
       from = λ t. subst (AreFrom g.D.Disk.view before) (sym c.push_reserved.ensures.items)
           (each_more (λ k d. AreAmong (g.D.Disk.view d).images (before.holds k)) l.disks.items disk (l.invariant.from t)
           (λ image left. subst (λ k. before.holds k image) (let size : l.number ≡ length l.disks.items = search (rules, arith) in size)
-          (l.invariant.taken.above l.number (omega arith) image (c.in-Ok.ensures.images t image left))));
+          (l.invariant.taken.above l.number (omega arith) image (c.in-Ok-take.ensures.images t image left))));
     }
 
 -- the disks that were taken so far went back as they were

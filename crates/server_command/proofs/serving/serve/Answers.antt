@@ -1,4 +1,4 @@
-use Rattle.std.proofs.Common.{◌≡◌, ◌≤◌, ◌<◌, ◌∙◌, ℕ, [], length, Some, slice_get, Err, ap, refl, subst, sym, arith, rules}
+use Rattle.std.proofs.Common.{◌≡◌, ◌∙◌, [], length, Err, ap, refl, subst, sym, rules}
 use Rattle.std.specs.Prelude.{IsTrue, ◌&&◌}
 use Rattle.script_nodes.specs.Views.{scripts_of}
 use Rattle.site_serving.specs.Serving.{ComesTo, openings_in, openings_of, pasts_of, views}
@@ -44,7 +44,7 @@ returns-in-Err-clause-served g c =
     let o = outside (views g.D.Disk.view g.D.Disk.tells g.A.Porch.Link.Link.view g.A.Porch.Porch.view g.N.Nonces.nonce (g.C.Clock.shows c.args.clock.now))
     (racks_of (g.R.Rack.tells && g.D.Disk.tells) before last) door door (g.S.Seeds.view c.args.seeds.now) (pasts_of told told) in
     let p = c.in-Err.ensures.refused in
-    (p.images, refuses_of o c.args.service.now (scripts_of c.args.setup) c.in-Err.why (refl, refl) p)
+    (p.images, refuses_of o c.args.service.now (scripts_of c.args.setup) c.in-Err.fault (refl, refl) p)
 
 pub returns-clause-home : goal.returns-clause-home
 returns-clause-home g c =

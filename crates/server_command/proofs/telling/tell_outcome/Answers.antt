@@ -6,6 +6,6 @@ use Rattle.server_command.proofs.telling.tell_outcome.Goals as goal
 
 pub returns-in-Err-Shelf-clause-tells : goal.returns-in-Err-Shelf-clause-tells
 returns-in-Err-Shelf-clause-tells g c =
-    let is : c.args.outcome ≡ Err (fault.Shelf c.in-Err-Shelf.why) = search rules in
+    let is : c.args.outcome ≡ Err (fault.Shelf c.in-Err-Shelf.fault) = search rules in
     subst (λ r. TellsOutcome r c.tell_unopened.result (sinks_of (g.O.Sink.view c.args.output.now) (g.O.Sink.view c.tell_unopened.new.output))) (sym is)
     c.tell_unopened.ensures.tells

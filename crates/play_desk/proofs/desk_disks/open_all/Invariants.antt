@@ -1,6 +1,6 @@
 use Rattle.script_nodes.specs.Views.{scripts_of}
-use Rattle.play_desk.proofs.Beginning.{AreOpened}
-use Rattle.play_desk.proofs.desk_disks.open_desk.Given as goal
+use Rattle.play_desk.specs.Opening.{AreOpened}
+use Rattle.play_desk.proofs.desk_disks.open_all.Given as goal
 
 abbrev pub invariant-loop-number : goal.invariant-loop-number
 invariant-loop-number g l =
