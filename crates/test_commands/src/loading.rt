@@ -21,7 +21,7 @@ const RUNS: &[(&[&str], &str)] = &[
     ),
     (
         &["hovgyelit", "load", "7", "--pages", "5"],
-        "steps 20000 pages 8294 refused 5091 hash 3d824c9f706ded89\n",
+        "steps 20000 pages 8990 refused 5757 hash 5f3cfe37606db9f7\n",
     ),
 ];
 

@@ -1,14 +1,14 @@
 use crate::words::bytes_of;
 use book_recovery::{Found, read_book};
 use instance_book::Book;
-use journal_records::{can_begin, encode_begin};
+use journal_records::{Recorded, can_begin, encode};
 use page_journal::Journal;
 use script_nodes::Setup;
 use script_value::Value;
 use std::alloc::{AllocError, Global};
 use web_disk::MemoryDisk;
 
-const HEADER: &[u8] = &[75, 83, 87, 69, 66, 0, 0, 3];
+const HEADER: &[u8] = &[75, 83, 87, 69, 66, 0, 0, 6];
 
 /// The file of a journal, up to its last gate.
 #[derive(Drop)]
@@ -40,7 +40,7 @@ impl File {
         setup: &Setup,
     ) -> Result<(), AllocError> {
         if can_begin(shelf, setup) {
-            let body = encode_begin(alloc, shelf, setup)?;
+            let body = encode(alloc, &Recorded::Begin { shelf, setup })?;
             self.add(body.as_slice())?;
         }
         Ok(())
@@ -84,7 +84,7 @@ fn told_of_book(alloc: Global, book: &Book) -> Result<String, AllocError> {
 fn told_of(alloc: Global, found: &Found) -> Result<String, AllocError> {
     match found {
         Found::Nothing => String::from_str(alloc, "nothing\n"),
-        Found::Made(book) => told_of_book(alloc, book),
+        Found::Made { book, .. } => told_of_book(alloc, book),
         Found::Damaged { place } => format!(in alloc; "damaged at {place}\n"),
         Found::Other { place } => format!(in alloc; "another journal at {place}\n"),
         Found::Memory => Err(AllocError),
@@ -92,18 +92,18 @@ fn told_of(alloc: Global, found: &Found) -> Result<String, AllocError> {
 }
 
 // What a disk of these bytes makes of shelf 7; none where it holds no journal.
-fn found(alloc: Global, bytes: Vec<u8>, setup: &Setup) -> Result<Option<Found>, AllocError> {
+fn found(alloc: Global, bytes: Vec<u8>) -> Result<Option<Found>, AllocError> {
     let disk = MemoryDisk::new(alloc, bytes, Vec::new(alloc))?;
     let Ok(mut journal) = Journal::begin(alloc, disk) else {
         return Ok(None);
     };
-    Ok(read_book(alloc, &mut journal, setup, 7).ok())
+    Ok(read_book(alloc, &mut journal, 7).ok())
 }
 
 /// What a file makes of shelf 7, in words.
-pub fn told_of_file(alloc: Global, file: File, setup: &Setup) -> Result<String, AllocError> {
+pub fn told_of_file(alloc: Global, file: File) -> Result<String, AllocError> {
     let bytes = file.closed()?;
-    match found(alloc, bytes, setup)? {
+    match found(alloc, bytes)? {
         Some(found) => told_of(alloc, &found),
         None => String::from_str(alloc, "no journal\n"),
     }

@@ -1,32 +1,13 @@
 use crate::journals::{File, told_of_file};
 use crate::records::told_of_body;
-use core_syntax::expand;
-use page_names::ScriptName;
-use script_nodes::{NamedScript, Script, Setup};
-use script_value::Bytes;
-use sexp_reader::read_all;
+use script_nodes::Setup;
+use setup_reader::script_of;
 use std::alloc::{AllocError, Global};
 
 /// The scripts of the rows so far.
 #[derive(Drop)]
 pub struct Rows {
     setup: Setup,
-}
-
-// The script of a text, and none where it is no script's.
-fn script_of(alloc: Global, text: &str) -> Option<Script> {
-    let data = read_all(alloc, text.as_bytes()).ok()?;
-    expand(alloc, &data).ok()
-}
-
-// The script of this name and text.
-fn named(alloc: Global, name: &str, text: &str) -> Result<Option<NamedScript>, AllocError> {
-    let (Some(name), Some(script)) = (ScriptName::new(name.as_bytes()), script_of(alloc, text))
-    else {
-        return Ok(None);
-    };
-    let text = Bytes::new(text.as_bytes().to_vec(alloc)?);
-    Ok(Some(NamedScript { name, text, script }))
 }
 
 // Records between bars.
@@ -50,7 +31,7 @@ impl Rows {
     // One more script: its name and its text.
     fn add_script(&mut self, alloc: Global, rest: &str) -> Result<(), AllocError> {
         let (name, text) = rest.split_once(' ').unwrap_or((rest, ""));
-        match named(alloc, name, text)? {
+        match script_of(alloc, name.as_bytes(), text.as_bytes())? {
             Some(script) => self.setup.push(script),
             None => Ok(()),
         }
@@ -74,7 +55,7 @@ impl Rows {
         match word {
             "setup" => self.setup = Setup::new(Vec::new(alloc)),
             "script" => self.add_script(alloc, rest)?,
-            "journal" => return told_of_file(alloc, self.file(alloc, rest)?, &self.setup),
+            "journal" => return told_of_file(alloc, self.file(alloc, rest)?),
             "body" => return told_of_body(alloc, rest),
             _ => {}
         }

@@ -1,5 +1,5 @@
 //! A counter, as a value that may lie behind the lock.
-ghost use Rattle.std.specs.Prelude.{◌≡◌, ◌≤◌, ◌^◌, [], ◌∷◌, ◌++◌, IfSome, IfNone};
+ghost use Rattle.std.specs.Prelude.{◌≡◌, [], ◌∷◌, ◌++◌, IfSome, IfNone};
 
 use shelf_lock::Kept;
 use std::alloc::Global;

@@ -24,16 +24,27 @@ fn reply_length(written: &[u8]) -> usize {
     line.saturating_add(1).saturating_add(behind)
 }
 
-// How many replies a step has, one for each shelf where it is a tick.
+// How many replies a step has, one for each shelf where it is a tick or an edit.
 fn replies_to(step: &str, shelves: usize) -> usize {
-    if step.starts_with("tick ") {
+    if step.starts_with("tick ") || step.starts_with("edit ") {
         shelves
     } else {
         1
     }
 }
 
-/// Each step behind `> `, with its replies below it, and then what else was written.
+// How many bytes of a text stand behind a step, with the newline behind them: those of an edit.
+fn text_behind(step: &str) -> usize {
+    if !step.starts_with("edit ") {
+        return 0;
+    }
+    match step.rsplit_once(' ') {
+        Some((_, length)) => length.parse().unwrap_or(0usize).saturating_add(1),
+        None => 0,
+    }
+}
+
+/// Each step behind `> `, and so the lines of its text, with its replies below it, and then what else was written.
 pub fn transcript(
     alloc: Global,
     steps: &str,
@@ -42,12 +53,22 @@ pub fn transcript(
 ) -> Result<Vec<u8>, AllocError> {
     let mut told = Told::new(alloc);
     let mut rest = written;
-    for step in steps.lines() {
-        told.put(format!(in alloc; "> {step}\n"));
-        for _ in 0..replies_to(step, shelves) {
-            let (reply, behind) = rest.split_at(reply_length(rest).min(rest.len()));
-            told.add(reply);
-            rest = behind;
+    let mut text = 0usize;
+    let mut replies = 0;
+    for line in steps.lines() {
+        told.put(format!(in alloc; "> {line}\n"));
+        if text == 0 {
+            text = text_behind(line);
+            replies = replies_to(line, shelves);
+        } else {
+            text = text.saturating_sub(line.len().saturating_add(1));
+        }
+        if text == 0 {
+            for _ in 0..replies {
+                let (reply, behind) = rest.split_at(reply_length(rest).min(rest.len()));
+                told.add(reply);
+                rest = behind;
+            }
         }
     }
     told.add(rest);

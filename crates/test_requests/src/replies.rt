@@ -56,6 +56,7 @@ fn words() -> [(Reply, &'static str, &'static str); 20] {
             "410 Gone",
             "closed",
         ),
+        (Reply::Refused(Refusal::Evicted(3)), "410 Gone", "evicted"),
         (Reply::Refused(Refusal::Expired(7)), "410 Gone", "expired"),
         (
             Reply::Fault(Fault::WrongType),
@@ -94,11 +95,6 @@ fn words() -> [(Reply, &'static str, &'static str); 20] {
         ),
         (Reply::Fuel(100_001), "503 Service Unavailable", "fuel"),
         (Reply::ShelfFull(1), "503 Service Unavailable", "shelf-full"),
-        (
-            Reply::InstanceFull(1),
-            "503 Service Unavailable",
-            "instance-full",
-        ),
         (Reply::Oversize(1), "500 Internal Server Error", "oversize"),
         (
             Reply::JournalFull(1),

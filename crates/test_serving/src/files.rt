@@ -28,6 +28,30 @@ const AN_ANSWER: Street = Street {
     ..QUIET
 };
 
+const CHANGED: &str = "kept-over-two-texts";
+
+const KEPT_CHANGED: &[&str] = &[
+    "hovgyelit",
+    "serve",
+    "--port",
+    "0",
+    "--workers",
+    "1",
+    "--journal",
+    CHANGED,
+];
+
+// A script of the same name with another text.
+const OTHER: (&str, &str) = ("all", "'(p \"v2\")");
+
+const AN_ANSWER_AND_A_START: Street = Street {
+    links: &[
+        "GET /servlets/all;0*0*0*0000000000000000?n=1 HTTP/1.0\r\n\r\n",
+        "GET /servlets/all HTTP/1.0\r\n\r\n",
+    ],
+    ..QUIET
+};
+
 #[test]
 fn a_page_is_answered_by_the_next_server(rt: HostRuntime) -> Result<(), Fail> {
     if fs::exists(&rt, FOLDER)? {
@@ -38,5 +62,19 @@ fn a_page_is_answered_by_the_next_server(rt: HostRuntime) -> Result<(), Fail> {
     assert_eq!(rt; outcome.text.as_str(), "pages 1 refused 0\n");
     assert!(rt; told_on(&outcome, 0).ends_with("\r\n\r\n<p>1</p>"));
     fs::remove_dir_all(&rt, FOLDER)?;
+    Ok(())
+}
+
+#[test]
+fn a_server_of_another_text_goes_on(rt: HostRuntime) -> Result<(), Fail> {
+    if fs::exists(&rt, CHANGED)? {
+        fs::remove_dir_all(&rt, CHANGED)?;
+    }
+    served(&rt, KEPT_CHANGED, ALL, &A_START)?;
+    let outcome = served(&rt, KEPT_CHANGED, OTHER, &AN_ANSWER_AND_A_START)?;
+    assert_eq!(rt; outcome.text.as_str(), "pages 2 refused 0\n");
+    assert!(rt; told_on(&outcome, 0).ends_with("\r\n\r\n<p>1</p>"));
+    assert!(rt; told_on(&outcome, 1).ends_with("\r\n\r\n<p>v2</p>"));
+    fs::remove_dir_all(&rt, CHANGED)?;
     Ok(())
 }

@@ -4,8 +4,10 @@ use Rattle.std.proofs.lemmas.List.Elements.{Contains-push}
 use Rattle.replay_spec.specs.Book as spec
 use Rattle.replay_spec.specs.Next as next
 use Rattle.instance_book.specs.Makes.{Makes}
-use Rattle.instance_book.specs.Views.{ticket_of, ticket_for}
+use Rattle.instance_book.specs.Views.{ticket_of, ticket_for, no_journal}
+use Rattle.page_names.specs.declared.names.ScriptName.{ScriptName}
 use Rattle.page_names.specs.declared.names.Target.{Target}
+use Rattle.page_names.specs.declared.names.Target.TheVariants.{Start}
 use Rattle.script_value.specs.declared.value.Value.{Value}
 use Rattle.script_value.specs.Val.{Val}
 use Rattle.instance_cells.specs.Cells.{AreOn}
@@ -13,7 +15,7 @@ use Rattle.instance_cells.specs.Views.{effect_of}
 use Rattle.instance_cells.specs.declared.effect.Effect.{Effect}
 use Rattle.page_names.specs.Names.{Destination, start, page}
 use Rattle.page_names.specs.Views.{target_of}
-use Rattle.instance_book.specs.Prepares.{AreOnBy, AreOnCells}
+use Rattle.instance_book.specs.Prepares.{AreOnBy, AreOnCells, IsNew, IsNewBy}
 use Rattle.instance_book.specs.Swept.{cells_at}
 use Rattle.instance_book.specs.declared.book.Book.{Book}
 use Rattle.instance_book.specs.declared.ticket.Ticket.{Ticket}
@@ -32,9 +34,13 @@ none_on b t effects e = subst (λ es. AreOnCells b t (map effect_of es)) (sym e)
 -- a number that was drawn is out
 drawn_out : (old new : Book) → Makes spec.draw old new → Contains new.out.items old.drawn
 drawn_out old new made =
-    subst (λ (ns : List ℕ). Contains ns old.drawn) (sym (ap (λ (b : spec.Book). b.out) (made [] 0 None))) (Contains-push old.out.items old.drawn)
+    subst (λ (ns : List ℕ). Contains ns old.drawn) (sym (ap (λ (b : spec.Book). b.out) (made (record { all = []; setup = [] }) no_journal))) (Contains-push old.out.items old.drawn)
 
 pub ticket_out : (old new : Book) (t : Ticket) (target : Target) (answer : Value) (nonce : ℕ) → Makes spec.draw old new
     → ticket_of t ≡ ticket_for target answer old.drawn nonce → Contains new.out.items t.number
 ticket_out old new t target answer nonce made is =
     subst (λ (n : ℕ). Contains new.out.items n) (sym (ap (λ (x : next.Ticket). x.number) is)) (drawn_out old new made)
+
+-- a start answers no page
+pub new_start : (b : Book) (t : Ticket) (name : ScriptName) → t.target ≡ Start name → IsNew b t
+new_start b t name is = subst (λ (x : Target). IsNewBy b t (target_of x)) (sym is) tt

@@ -1,7 +1,7 @@
 //! Copies of a ticket, of what is prepared and of a book.
 ghost use Rattle.std.specs.Prelude.{◌≡◌, ◌<◌, ◌^◌, [], None, IfOk, Contains};
-ghost use Rattle.script_nodes.specs.Views.{scripts_of};
-ghost use Rattle.instance_book.specs.Admissions.{refusal_for};
+ghost use Rattle.script_nodes.specs.Views.{library_of};
+ghost use Rattle.instance_book.specs.Admissions.{HasFew, refusal_for};
 ghost use Rattle.instance_book.specs.Changes.{HasRoomFor};
 ghost use Rattle.instance_book.specs.Makes.{HasPlaces, HasSomeStates};
 
@@ -9,49 +9,53 @@ use crate::texts::{SUM, datum, is_datum, setup, target, text_of};
 use instance_book::{Book, Prepared, Ticket};
 use machine_states::{Outcome, Segment, Suspended};
 use page_names::Target;
-use script_nodes::{SendKind, Setup};
+use script_nodes::{Library, SendKind};
 use script_value::{Bytes, Items, Reply};
 use std::alloc::Global;
 use std::test::Fail;
 use web_cells::Shades;
 
-// A book of the shelf 7 with nothing in it, for the scripts of a setup.
-fn empty_book(alloc: Global, setup: &Setup) -> Book
-    ensures placed { HasPlaces (scripts_of setup.now) result }
-    ensures kept { HasSomeStates (scripts_of setup.now) result }
+// A book of the shelf 7 with nothing in it, for the scripts of a library.
+fn empty_book(alloc: Global, library: &Library) -> Book
+    ensures placed { HasPlaces (library_of library.now).all result }
+    ensures kept { HasSomeStates (library_of library.now).all result }
 {
-    let _ = setup;
+    let _ = library;
     Book::empty(alloc, 7)
 }
 
 // A ticket for a target that is admitted, whose answer is the number 3.
 #[tactic(auto, using(crate::proofs::Books::ticket_out))]
-fn take(alloc: Global, book: &mut Book, setup: &Setup, target: &Target) -> Result<Ticket, Fail>
-    requires admitted { refusal_for setup.now book.old target.now ≡ None }
+fn take(alloc: Global, book: &mut Book, library: &Library, target: &Target) -> Result<Ticket, Fail>
+    requires few { HasFew (library_of library.now) }
+    requires admitted { refusal_for (library_of library.now) book.old target.now ≡ None }
     requires numbers { book.old.drawn < 2 ^ 62 }
-    requires placed { HasPlaces (scripts_of setup.now) book.old }
-    requires kept { HasSomeStates (scripts_of setup.now) book.old }
+    requires placed { HasPlaces (library_of library.now).all book.old }
+    requires kept { HasSomeStates (library_of library.now).all book.old }
     ensures { IfOk result (λ t. Contains book.new.out.items t.number) }
 {
     let answer = datum(alloc, "3")?;
-    let ticket = book.ticket(alloc, setup, target, answer, 10)?;
+    let ticket = book.ticket(alloc, library, target, answer, 10)?;
     Ok(ticket)
 }
 
 // A ticket for a start.
-fn started(alloc: Global, book: &mut Book, setup: &Setup) -> Result<Ticket, Fail>
-    requires placed { HasPlaces (scripts_of setup.now) book.old }
-    requires kept { HasSomeStates (scripts_of setup.now) book.old }
+fn started(alloc: Global, book: &mut Book, library: &Library) -> Result<Ticket, Fail>
+    requires placed { HasPlaces (library_of library.now).all book.old }
+    requires kept { HasSomeStates (library_of library.now).all book.old }
     ensures { IfOk result (λ t. Contains book.new.out.items t.number) }
 {
     if book.drawn() >= 1_000 {
         return Err(Fail::from("too many tickets"));
     }
+    if library.present() >= 256 {
+        return Err(Fail::from("too many scripts"));
+    }
     let target = target("/servlets/s")?;
-    if let Err(_refusal) = book.admit(setup, &target) {
+    if let Err(_refusal) = book.admit(library, &target) {
         return Err(Fail::from("not admitted"));
     }
-    take(alloc, book, setup, &target)
+    take(alloc, book, library, &target)
 }
 
 // Refuses a ticket whose copy is another than that of a start.
@@ -90,11 +94,14 @@ fn segment(alloc: Global, page: Bytes) -> Segment
 }
 
 // What is prepared for a start that showed a page.
-#[tactic(auto, using(crate::proofs::Books::none_on))]
+#[tactic(auto, using(crate::proofs::Books::none_on, crate::proofs::Books::new_start))]
 fn prepared(alloc: Global, book: &mut Book, ticket: &Ticket) -> Result<Prepared, Fail>
     requires { Contains book.old.out.items ticket.now.number }
     ensures { IfOk result (λ p. HasRoomFor p.change book.new) }
 {
+    let Target::Start(_) = &ticket.target else {
+        return Err(Fail::from("not for a start"));
+    };
     let page = Bytes::new("a".as_bytes().to_vec(alloc)?);
     let segment = segment(alloc, page);
     match book.prepare(alloc, ticket, segment, 256, 64, 3_600) {
@@ -123,11 +130,11 @@ fn copied_for(alloc: Global, book: &mut Book, ticket: &Ticket) -> Result<Prepare
 }
 
 // A copy of what is prepared for a start is installed.
-fn installed(alloc: Global, book: &mut Book, setup: &Setup) -> Result<Reply, Fail>
-    requires placed { HasPlaces (scripts_of setup.now) book.old }
-    requires kept { HasSomeStates (scripts_of setup.now) book.old }
+fn installed(alloc: Global, book: &mut Book, library: &Library) -> Result<Reply, Fail>
+    requires placed { HasPlaces (library_of library.now).all book.old }
+    requires kept { HasSomeStates (library_of library.now).all book.old }
 {
-    let ticket = started(alloc, book, setup)?;
+    let ticket = started(alloc, book, library)?;
     expect_copy(alloc, &ticket)?;
     let copy = copied_for(alloc, book, &ticket)?;
     Ok(book.install(copy))
@@ -157,9 +164,9 @@ fn left_behind_a_copy(alloc: Global, book: &Book) -> Result<(u32, u32), Fail> {
 #[test]
 fn copies_of_a_book_and_of_what_it_gives_are_alike(rt: HostRuntime) -> Result<(), Fail> {
     let alloc = rt.alloc();
-    let setup = setup(alloc, &[("s", SUM)])?;
-    let mut book = empty_book(alloc, &setup);
-    let reply = installed(alloc, &mut book, &setup)?;
+    let library = Library::of(setup(alloc, &[("s", SUM)])?);
+    let mut book = empty_book(alloc, &library);
+    let reply = installed(alloc, &mut book, &library)?;
     assert!(rt; has_page(&book, &reply)?);
     assert_eq!(rt; left_behind_a_copy(alloc, &book)?, (0, 1));
     Ok(())

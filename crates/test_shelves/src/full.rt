@@ -1,8 +1,9 @@
 //! The greatest length of a shelf's journal.
 ghost use Rattle.std.specs.Prelude.{◌≡◌, ◌^◌, false, length, IfOk};
 ghost use Rattle.script_nodes.specs.Views.{scripts_of};
+ghost use Rattle.setup_reader.specs.Texts.{IsReadSetup};
 ghost use Rattle.web_disk.specs.Repeated.{repeat_view};
-ghost use Rattle.shelf.specs.Views.{IsInOrder, IsInSomeOrder};
+ghost use Rattle.shelf.specs.Views.{IsInOrder};
 
 use crate::openings::{LongShelf, answered, bytes_of, created, tried};
 use crate::texts::setup;
@@ -34,7 +35,9 @@ fn long_record(alloc: Global) -> Result<Vec<u8>, Fail>
 }
 
 // A disk of a new shelf, with 1,023 such records: it lacks 1,048,473 bytes of 2^30.
-fn long_disk(alloc: Global, setup: &Setup) -> Result<RepeatDisk, Fail> {
+fn long_disk(alloc: Global, setup: &Setup) -> Result<RepeatDisk, Fail>
+    requires { IsReadSetup (scripts_of setup.now) }
+{
     let mut first = bytes_of(alloc, created(alloc, setup)?)?;
     let gate = first.pop().ok_or("no gate")?;
     if first.len() != 102 {
@@ -46,7 +49,8 @@ fn long_disk(alloc: Global, setup: &Setup) -> Result<RepeatDisk, Fail> {
 
 // Its shelf.
 fn long_shelf(alloc: Global, setup: &Setup) -> Result<LongShelf, Fail>
-    ensures { IfOk result (IsInOrder repeat_view false (scripts_of setup.now)) }
+    requires { IsReadSetup (scripts_of setup.now) }
+    ensures { IfOk result (IsInOrder repeat_view false) }
 {
     match tried(alloc, long_disk(alloc, setup)?, setup)? {
         Ok(shelf) => Ok(shelf),
@@ -58,15 +62,14 @@ fn long_shelf(alloc: Global, setup: &Setup) -> Result<LongShelf, Fail>
 fn too_long(
     alloc: Global,
     shelf: &mut LongShelf,
-    setup: &Setup,
     path: &str,
     count: usize,
 ) -> Result<Option<u64>, Fail>
-    requires { IsInOrder repeat_view false (scripts_of setup.now) shelf.old }
-    ensures { IsInOrder repeat_view false (scripts_of setup.now) shelf.new }
+    requires { IsInOrder repeat_view false shelf.old }
+    ensures { IsInOrder repeat_view false shelf.new }
 {
     let zeros = String::from_utf8(vec![in alloc; b'0'; count]?)?;
-    match answered(alloc, shelf, setup, path, Value::Text(Str::new(zeros)))? {
+    match answered(alloc, shelf, path, Value::Text(Str::new(zeros)))? {
         Reply::Page { .. } => Ok(None),
         Reply::JournalFull(length) => Ok(Some(length)),
         _ => Err(Fail::from("another reply")),
@@ -75,7 +78,7 @@ fn too_long(
 
 // What a sweep is told: none where it is one, and else the length that the journal would have.
 fn too_late(alloc: Global, shelf: &mut LongShelf) -> Result<Option<u64>, Fail>
-    requires { IsInSomeOrder repeat_view false shelf.old }
+    requires { IsInOrder repeat_view false shelf.old }
 {
     match shelf.sweep(alloc, 1) {
         Ok(_) => Ok(None),
@@ -85,25 +88,27 @@ fn too_late(alloc: Global, shelf: &mut LongShelf) -> Result<Option<u64>, Fail>
 }
 
 // What a start is told, its page for three texts, and a sweep.
-fn five_told(alloc: Global, shelf: &mut LongShelf, setup: &Setup) -> Result<[Option<u64>; 5], Fail>
-    requires { IsInOrder repeat_view false (scripts_of setup.now) shelf.old }
+fn five_told(alloc: Global, shelf: &mut LongShelf) -> Result<[Option<u64>; 5], Fail>
+    requires { IsInOrder repeat_view false shelf.old }
 {
     Ok([
-        too_long(alloc, shelf, setup, START, 0)?,
-        too_long(alloc, shelf, setup, FIRST, 1_048_307)?,
-        too_long(alloc, shelf, setup, FIRST, 1_048_306)?,
-        too_long(alloc, shelf, setup, FIRST, 1)?,
+        too_long(alloc, shelf, START, 0)?,
+        too_long(alloc, shelf, FIRST, 1_048_299)?,
+        too_long(alloc, shelf, FIRST, 1_048_298)?,
+        too_long(alloc, shelf, FIRST, 1)?,
         too_late(alloc, shelf)?,
     ])
 }
 
 // The same on a new shelf of that disk.
-fn five_told_at_the_end(alloc: Global, setup: &Setup) -> Result<[Option<u64>; 5], Fail> {
+fn five_told_at_the_end(alloc: Global, setup: &Setup) -> Result<[Option<u64>; 5], Fail>
+    requires { IsReadSetup (scripts_of setup.now) }
+{
     let mut shelf = long_shelf(alloc, setup)?;
-    five_told(alloc, &mut shelf, setup)
+    five_told(alloc, &mut shelf)
 }
 
-// A start adds 72 bytes, an answer 95 besides its zeros, and a sweep 14; 26 and 35 of the first two are the state of its page.
+// A start adds 76 bytes, an answer 99 besides its zeros, and a sweep 14; 26 and 35 of the first two are the state of its page.
 #[test]
 fn a_shelf_writes_up_to_1073741824_bytes(rt: HostRuntime) -> Result<(), Fail> {
     let alloc = rt.alloc();
@@ -115,7 +120,7 @@ fn a_shelf_writes_up_to_1073741824_bytes(rt: HostRuntime) -> Result<(), Fail> {
             None,
             Some(1_073_741_825),
             None,
-            Some(1_073_741_920),
+            Some(1_073_741_924),
             Some(1_073_741_838)
         ]
     );

@@ -6,7 +6,7 @@ use std::alloc::Global;
 use std::test::Fail;
 use web_disk::RepeatDisk;
 
-const HEADER: &[u8] = &[75, 83, 87, 69, 66, 0, 0, 3];
+const HEADER: &[u8] = &[75, 83, 87, 69, 66, 0, 0, 6];
 
 // A disk with 1,023 records of so many bytes, the gate and the length of each included. The length is written for 2^20.
 fn long_disk(alloc: Global, size: usize) -> Result<RepeatDisk, Fail>

@@ -1,4 +1,4 @@
-//! Tests of shelves on disks in memory that stop, fail or are full, of copies, and of the last number of a visit.
+//! Tests of shelves on disks in memory that stop, fail or are full, of other setups, of copies, and of the last number of a visit.
 #![tactic(auto)]
 
 #[cfg(test)]
@@ -11,6 +11,8 @@ mod journal;
 mod numbers;
 #[cfg(test)]
 mod openings;
+#[cfg(test)]
+mod setups;
 #[cfg(test)]
 mod stops;
 #[cfg(test)]

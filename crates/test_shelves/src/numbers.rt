@@ -1,4 +1,6 @@
 //! The last number of a shelf.
+ghost use Rattle.script_nodes.specs.Views.{scripts_of};
+ghost use Rattle.setup_reader.specs.Texts.{IsReadSetup};
 
 use crate::openings::{bytes_of, created, next_number, put_away, reopened};
 use crate::texts::{SUM, setup};
@@ -19,7 +21,9 @@ const LAST: &[u8] = &[
 ];
 
 // The disk of a new shelf, with this record and a gate in the place of its gate.
-fn disk_with(alloc: Global, setup: &Setup, record: &[u8]) -> Result<Vec<u8>, Fail> {
+fn disk_with(alloc: Global, setup: &Setup, record: &[u8]) -> Result<Vec<u8>, Fail>
+    requires { IsReadSetup (scripts_of setup.now) }
+{
     let mut bytes = bytes_of(alloc, created(alloc, setup)?)?;
     let _gate = bytes.pop();
     bytes.extend_from_slice(record)?;
@@ -27,10 +31,12 @@ fn disk_with(alloc: Global, setup: &Setup, record: &[u8]) -> Result<Vec<u8>, Fai
 }
 
 // The number of the next start of a shelf whose journal has this record; none where the numbers are used up.
-fn next_behind(alloc: Global, setup: &Setup, record: &[u8]) -> Result<Option<u64>, Fail> {
+fn next_behind(alloc: Global, setup: &Setup, record: &[u8]) -> Result<Option<u64>, Fail>
+    requires { IsReadSetup (scripts_of setup.now) }
+{
     let bytes = disk_with(alloc, setup, record)?;
     let mut shelf = reopened(alloc, bytes, setup)?;
-    let number = next_number(alloc, &mut shelf, setup);
+    let number = next_number(alloc, &mut shelf);
     put_away(shelf);
     number
 }

@@ -1,6 +1,7 @@
 ghost use Rattle.std.specs.Prelude.{true, IfOk};
 ghost use Rattle.script_nodes.specs.Views.{scripts_of};
 ghost use Rattle.web_disk.specs.Disks.{memory_view};
+ghost use Rattle.setup_reader.specs.Texts.{IsReadSetup};
 ghost use Rattle.shelf.specs.Views.{IsInOrder};
 
 use crate::texts::{datum, target};
@@ -34,9 +35,10 @@ pub fn tried<D: Disk + Drop>(
     disk: D,
     setup: &Setup,
 ) -> Result<Result<Shelf<D, Counting>, (BeginFault, D)>, Fail>
-    ensures { IfOk result (λ r. IfOk r (IsInOrder D.view D.tells (scripts_of setup.now))) }
+    requires { IsReadSetup (scripts_of setup.now) }
+    ensures { IfOk result (λ r. IfOk r (IsInOrder D.view D.tells)) }
 {
-    if setup.len() > 256 || !can_begin(RULES.number, setup) {
+    if !can_begin(RULES.number, setup) {
         return Err(Fail::from("no setup of a shelf"));
     }
     match Shelf::begin(alloc, disk, Counting::new(), setup, RULES) {
@@ -47,7 +49,8 @@ pub fn tried<D: Disk + Drop>(
 
 /// The shelf of a disk of these bytes, which has to be opened.
 pub fn reopened(alloc: Global, bytes: Vec<u8>, setup: &Setup) -> Result<MemoryShelf, Fail>
-    ensures { IfOk result (IsInOrder memory_view true (scripts_of setup.now)) }
+    requires { IsReadSetup (scripts_of setup.now) }
+    ensures { IfOk result (IsInOrder memory_view true) }
 {
     let disk = MemoryDisk::new(alloc, bytes, Vec::new(alloc))?;
     match tried(alloc, disk, setup)? {
@@ -58,7 +61,8 @@ pub fn reopened(alloc: Global, bytes: Vec<u8>, setup: &Setup) -> Result<MemorySh
 
 /// The shelf of an empty disk.
 pub fn created(alloc: Global, setup: &Setup) -> Result<MemoryShelf, Fail>
-    ensures { IfOk result (IsInOrder memory_view true (scripts_of setup.now)) }
+    requires { IsReadSetup (scripts_of setup.now) }
+    ensures { IfOk result (IsInOrder memory_view true) }
 {
     reopened(alloc, Vec::new(alloc), setup)
 }
@@ -78,34 +82,29 @@ pub fn put_away(shelf: MemoryShelf) {
 pub fn answered<D: Disk>(
     alloc: Global,
     shelf: &mut Shelf<D, Counting>,
-    setup: &Setup,
     path: &str,
     answer: Value,
 ) -> Result<Reply, Fail>
-    requires { IsInOrder D.view D.tells (scripts_of setup.now) shelf.old }
-    ensures { IsInOrder D.view D.tells (scripts_of setup.now) shelf.new }
+    requires { IsInOrder D.view D.tells shelf.old }
+    ensures { IsInOrder D.view D.tells shelf.new }
 {
     let target = target(path)?;
-    let ticket = match shelf.take(alloc, setup, &target, answer) {
+    let ticket = match shelf.take(alloc, &target, answer) {
         Ok(ticket) => ticket,
         Err(reply) => return Ok(reply),
     };
     let fuel = shelf.rules().fuel;
-    let segment = run_ticket(alloc, setup, &ticket, &ticket.cells, fuel)?;
-    Ok(shelf.publish(alloc, setup, ticket, Some(segment)))
+    let segment = run_ticket(alloc, shelf.library(), &ticket, &ticket.cells, fuel)?;
+    Ok(shelf.publish(alloc, ticket, Some(segment)))
 }
 
 /// The number that a start takes; none where the numbers are used up.
-pub fn next_number(
-    alloc: Global,
-    shelf: &mut MemoryShelf,
-    setup: &Setup,
-) -> Result<Option<u64>, Fail>
-    requires { IsInOrder memory_view true (scripts_of setup.now) shelf.old }
+pub fn next_number(alloc: Global, shelf: &mut MemoryShelf) -> Result<Option<u64>, Fail>
+    requires { IsInOrder memory_view true shelf.old }
 {
     let target = target("/servlets/s")?;
     let answer = datum(alloc, "()")?;
-    match shelf.take(alloc, setup, &target, answer) {
+    match shelf.take(alloc, &target, answer) {
         Ok(ticket) => Ok(Some(ticket.number)),
         Err(Reply::Worn) => Ok(None),
         Err(_) => Err(Fail::from("no ticket")),

@@ -1,6 +1,7 @@
 //! Shelves whose disk stops, or fails once, at each of its calls, and which are opened again behind a crash.
 ghost use Rattle.std.specs.Prelude.{true, IfOk};
 ghost use Rattle.script_nodes.specs.Views.{scripts_of};
+ghost use Rattle.setup_reader.specs.Texts.{IsReadSetup};
 ghost use Rattle.web_disk.specs.Disks.{memory_view};
 ghost use Rattle.shelf.specs.Views.{IsInOrder};
 
@@ -154,11 +155,11 @@ impl Trouble {
 }
 
 // Refuses a shelf that is not down.
-fn expect_down(alloc: Global, shelf: &mut MemoryShelf, setup: &Setup) -> Result<(), Fail>
-    requires { IsInOrder memory_view true (scripts_of setup.now) shelf.old }
+fn expect_down(alloc: Global, shelf: &mut MemoryShelf) -> Result<(), Fail>
+    requires { IsInOrder memory_view true shelf.old }
 {
     'visits: for visit in VISITS {
-        match answered(alloc, shelf, setup, visit.path, datum(alloc, visit.answer)?)? {
+        match answered(alloc, shelf, visit.path, datum(alloc, visit.answer)?)? {
             Reply::Down(1) => {}
             _ => return Err(Fail::from("a visit of a shelf that is down")),
         }
@@ -190,13 +191,13 @@ fn is_told(reply: &Reply, page: &str) -> Result<bool, Fail> {
 }
 
 // How many of the visits are told, up to one at which the disk fails: from then on the shelf is down.
-fn visits_told(alloc: Global, shelf: &mut MemoryShelf, setup: &Setup) -> Result<usize, Fail>
-    requires { IsInOrder memory_view true (scripts_of setup.now) shelf.old }
+fn visits_told(alloc: Global, shelf: &mut MemoryShelf) -> Result<usize, Fail>
+    requires { IsInOrder memory_view true shelf.old }
 {
     'visits: for (place, visit) in VISITS.iter().enumerate() {
-        let reply = answered(alloc, shelf, setup, visit.path, datum(alloc, visit.answer)?)?;
+        let reply = answered(alloc, shelf, visit.path, datum(alloc, visit.answer)?)?;
         if !is_told(&reply, visit.page)? {
-            expect_down(alloc, shelf, setup)?;
+            expect_down(alloc, shelf)?;
             return Ok(place);
         }
     }
@@ -228,7 +229,8 @@ fn opened_despite(
     setup: &Setup,
     disk: MemoryDisk,
 ) -> Result<Result<MemoryShelf, MemoryDisk>, Fail>
-    ensures { IfOk result (λ r. IfOk r (IsInOrder memory_view true (scripts_of setup.now))) }
+    requires { IsReadSetup (scripts_of setup.now) }
+    ensures { IfOk result (λ r. IfOk r (IsInOrder memory_view true)) }
 {
     match tried(alloc, disk, setup)? {
         Ok(shelf) => Ok(Ok(shelf)),
@@ -243,10 +245,12 @@ fn ran(
     setup: &Setup,
     bytes: &[u8],
     trouble: Trouble,
-) -> Result<(MemoryDisk, usize), Fail> {
+) -> Result<(MemoryDisk, usize), Fail>
+    requires { IsReadSetup (scripts_of setup.now) }
+{
     match opened_despite(alloc, setup, troubled(alloc, bytes, trouble)?)? {
         Ok(mut shelf) => {
-            let told = visits_told(alloc, &mut shelf, setup)?;
+            let told = visits_told(alloc, &mut shelf)?;
             let (disk, _nonces) = shelf.close();
             Ok((disk, told))
         }
@@ -261,7 +265,9 @@ fn left_by_opening(
     bytes: &[u8],
     stop: u64,
     wreck: Wreck,
-) -> Result<Vec<u8>, Fail> {
+) -> Result<Vec<u8>, Fail>
+    requires { IsReadSetup (scripts_of setup.now) }
+{
     match opened_despite(alloc, setup, troubled(alloc, bytes, Trouble::Stop(stop))?)? {
         Ok(shelf) => {
             let (disk, _nonces) = shelf.close();
@@ -272,30 +278,25 @@ fn left_by_opening(
 }
 
 // What comes of a page in the end that is answered with 1 until then.
-fn end_of(alloc: Global, shelf: &mut MemoryShelf, setup: &Setup, path: &str) -> Result<Reply, Fail>
-    requires { IsInOrder memory_view true (scripts_of setup.now) shelf.old }
-    ensures { IsInOrder memory_view true (scripts_of setup.now) shelf.new }
+fn end_of(alloc: Global, shelf: &mut MemoryShelf, path: &str) -> Result<Reply, Fail>
+    requires { IsInOrder memory_view true shelf.old }
+    ensures { IsInOrder memory_view true shelf.new }
 {
-    match answered(alloc, shelf, setup, path, datum(alloc, "((n \"1\"))")?)? {
+    match answered(alloc, shelf, path, datum(alloc, "((n \"1\"))")?)? {
         Reply::Page { url, .. } => {
             let path = text_of(&url)?;
-            answered(alloc, shelf, setup, path, datum(alloc, "((n \"1\"))")?)
+            answered(alloc, shelf, path, datum(alloc, "((n \"1\"))")?)
         }
         reply => Ok(reply),
     }
 }
 
 // Whether a page goes on to its end; else it is unknown.
-fn goes_on(
-    alloc: Global,
-    shelf: &mut MemoryShelf,
-    setup: &Setup,
-    page: &Shown,
-) -> Result<bool, Fail>
-    requires { IsInOrder memory_view true (scripts_of setup.now) shelf.old }
-    ensures { IsInOrder memory_view true (scripts_of setup.now) shelf.new }
+fn goes_on(alloc: Global, shelf: &mut MemoryShelf, page: &Shown) -> Result<bool, Fail>
+    requires { IsInOrder memory_view true shelf.old }
+    ensures { IsInOrder memory_view true shelf.new }
 {
-    match end_of(alloc, shelf, setup, page.path)? {
+    match end_of(alloc, shelf, page.path)? {
         Reply::Ended(told) => {
             expect_page(&told, page.end)?;
             Ok(true)
@@ -306,16 +307,11 @@ fn goes_on(
 }
 
 // Refuses a shelf on which other pages go on than those that so many visits showed.
-fn expect_pages(
-    alloc: Global,
-    shelf: &mut MemoryShelf,
-    setup: &Setup,
-    visits: u64,
-) -> Result<(), Fail>
-    requires { IsInOrder memory_view true (scripts_of setup.now) shelf.old }
+fn expect_pages(alloc: Global, shelf: &mut MemoryShelf, visits: u64) -> Result<(), Fail>
+    requires { IsInOrder memory_view true shelf.old }
 {
     'pages: for page in SHOWN {
-        if goes_on(alloc, shelf, setup, page)? != (page.visit < visits) {
+        if goes_on(alloc, shelf, page)? != (page.visit < visits) {
             return Err(Fail::from("a visit is there in part"));
         }
     }
@@ -323,21 +319,23 @@ fn expect_pages(
 }
 
 // How many visits a shelf tells of: the pages that these showed go on, and no others.
-fn visits_in(alloc: Global, shelf: &mut MemoryShelf, setup: &Setup) -> Result<u64, Fail>
-    requires { IsInOrder memory_view true (scripts_of setup.now) shelf.old }
+fn visits_in(alloc: Global, shelf: &mut MemoryShelf) -> Result<u64, Fail>
+    requires { IsInOrder memory_view true shelf.old }
 {
     let visits = shelf.book().drawn();
     if (shelf.live() == 1) != (visits > 0) {
         return Err(Fail::from("another count of instances"));
     }
-    expect_pages(alloc, shelf, setup, visits)?;
+    expect_pages(alloc, shelf, visits)?;
     Ok(visits)
 }
 
 // The same of a disk of these bytes.
-fn visits_of(alloc: Global, setup: &Setup, bytes: &[u8]) -> Result<u64, Fail> {
+fn visits_of(alloc: Global, setup: &Setup, bytes: &[u8]) -> Result<u64, Fail>
+    requires { IsReadSetup (scripts_of setup.now) }
+{
     let mut shelf = reopened(alloc, bytes.to_vec(alloc)?, setup)?;
-    let visits = visits_in(alloc, &mut shelf, setup);
+    let visits = visits_in(alloc, &mut shelf);
     put_away(shelf);
     visits
 }
@@ -350,7 +348,9 @@ fn more_than_told(
     bytes: &[u8],
     trouble: Trouble,
     wreck: Wreck,
-) -> Result<u64, Fail> {
+) -> Result<u64, Fail>
+    requires { IsReadSetup (scripts_of setup.now) }
+{
     let (disk, told) = ran(alloc, setup, bytes, trouble)?;
     let left = disk.crash(wreck);
     let kept = visits_of(alloc, setup, &left)?;
@@ -368,7 +368,9 @@ fn more_than_told(
 }
 
 // How many visits more than were told these crashes behind such a run leave, all together: one each at most.
-fn in_doubt(alloc: Global, setup: &Setup, bytes: &[u8], trouble: Trouble) -> Result<u64, Fail> {
+fn in_doubt(alloc: Global, setup: &Setup, bytes: &[u8], trouble: Trouble) -> Result<u64, Fail>
+    requires { IsReadSetup (scripts_of setup.now) }
+{
     let mut visits: u64 = 0;
     for wreck in WRECKS {
         match more_than_told(alloc, setup, bytes, trouble, *wreck)? {
@@ -381,7 +383,9 @@ fn in_doubt(alloc: Global, setup: &Setup, bytes: &[u8], trouble: Trouble) -> Res
 }
 
 // What stands on the disk of a new shelf of this setup.
-fn new_disk(alloc: Global, setup: &Setup) -> Result<Vec<u8>, Fail> {
+fn new_disk(alloc: Global, setup: &Setup) -> Result<Vec<u8>, Fail>
+    requires { IsReadSetup (scripts_of setup.now) }
+{
     let shelf = created(alloc, setup)?;
     bytes_of(alloc, shelf)
 }

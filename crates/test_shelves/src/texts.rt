@@ -1,7 +1,11 @@
-use core_syntax::expand;
-use page_names::{ScriptName, Target, parse_target};
-use script_nodes::{NamedScript, Script, Setup};
+ghost use Rattle.std.specs.Prelude.{IfOk};
+ghost use Rattle.script_nodes.specs.Views.{scripts_of};
+ghost use Rattle.setup_reader.specs.Texts.{IsReadSetup};
+
+use page_names::{Target, parse_target};
+use script_nodes::{ScriptText, Setup};
 use script_value::{Bytes, Value, equal};
+use setup_reader::setup_of;
 use sexp_reader::read_all;
 use std::alloc::Global;
 use std::test::Fail;
@@ -28,22 +32,27 @@ pub fn is_datum(alloc: Global, value: &Value, text: &str) -> Result<bool, Fail> 
     })
 }
 
-// The script of a text.
-fn script(alloc: Global, text: &str) -> Result<Script, Fail> {
-    Ok(expand(alloc, data(alloc, text)?.as_slice())?)
+// The names and texts of these scripts, as a journal tells them.
+fn told(alloc: Global, scripts: &[(&str, &str)]) -> Result<Vec<ScriptText>, Fail> {
+    let mut texts = Vec::new(alloc);
+    for (name, text) in scripts {
+        texts.push(ScriptText {
+            name: Bytes::new(name.as_bytes().to_vec(alloc)?),
+            text: Bytes::new(text.as_bytes().to_vec(alloc)?),
+        })?;
+    }
+    Ok(texts)
 }
 
 /// The setup of these names and texts of scripts.
-pub fn setup(alloc: Global, scripts: &[(&str, &str)]) -> Result<Setup, Fail> {
-    let mut setup = Setup::new(Vec::new(alloc));
-    for (name, text) in scripts {
-        setup.push(NamedScript {
-            name: ScriptName::new(name.as_bytes()).ok_or("no name")?,
-            text: Bytes::new(text.as_bytes().to_vec(alloc)?),
-            script: script(alloc, text)?,
-        })?;
+pub fn setup(alloc: Global, scripts: &[(&str, &str)]) -> Result<Setup, Fail>
+    ensures { IfOk result (λ s. IsReadSetup (scripts_of s)) }
+{
+    let texts = told(alloc, scripts)?;
+    match setup_of(alloc, texts.as_slice())? {
+        Some(setup) => Ok(setup),
+        None => Err(Fail::from("no setup")),
     }
-    Ok(setup)
 }
 
 /// The text of some bytes.

@@ -17,7 +17,7 @@ use Rattle.web_outside.specs.contracts.nonces.Counting as Counting
 use Rattle.web_outside.specs.contracts.nonces.CountingNonces.TheImpl as nonces
 use Rattle.site.specs.contracts.kept.KeptShelf as KeptShelf
 use Rattle.site.specs.contracts.site.Site as Site
-use Rattle.site_serving.proofs.Crossings.{kept, row_pass, site_sync}
+use Rattle.site.proofs.Crossings.{kept, row_pass, site_sync}
 
 pub shelf : (D N : RattleType) → IsSend D → IsSend N → IsSend (KeptShelf.the_row D N)
 shelf D N d n = recorded_send (KeptShelf.the_field D N).row _ _ (KeptShelf.the_type D N).to_one (kept D N d n)

@@ -1,10 +1,13 @@
 //! What a site hands back at its end, and a site that goes on with it.
+ghost use Rattle.script_nodes.specs.Views.{scripts_of};
+ghost use Rattle.setup_reader.specs.Texts.{IsReadSetup};
 ghost use Rattle.site.specs.Sites.{IsOwn};
-ghost use Rattle.site.specs.Beginnings.{IsReady, IsWhole};
+ghost use Rattle.site.specs.Beginnings.{CanBegin, IsReady, IsWhole};
 
-use crate::passes::{MemoryPass, end_of, shown, two_passes, visited};
-use crate::sites::{MemorySite, begun, opened, written};
+use crate::passes::{MemoryPass, end_of, shown, target, two_passes, visited};
+use crate::sites::{MemorySite, begun, opened, rewritten, written};
 use page_names::Target;
+use script_nodes::Setup;
 use script_value::Reply;
 use std::alloc::Global;
 use std::sync::Wait;
@@ -51,21 +54,32 @@ fn shown_and_closed<R: Wait>(rt: &R, alloc: Global) -> Result<Handed, Fail> {
     })
 }
 
-// What the first pass of a site is told that answers a page.
+// What the first pass of a site is told that answers a page, and then starts a shop.
 fn answered<R: Wait>(
     rt: &R,
     alloc: Global,
     site: &mut MemorySite,
     page: &Target,
-) -> Result<Reply, Fail>
+) -> Result<(Reply, Reply), Fail>
     requires { IsReady site.old }
 {
     let (mut first, _second) = two_passes(alloc, site)?;
-    visited(rt, alloc, site, &mut first, page, "")
+    let old = visited(rt, alloc, site, &mut first, page, "")?;
+    let start = target("/servlets/shop")?;
+    let new = visited(rt, alloc, site, &mut first, &start, "")?;
+    Ok((old, new))
 }
 
-// What a site is told that is begun where another was closed, and answers its page.
-fn gone_on<R: Wait>(rt: &R, alloc: Global, handed: Handed) -> Result<Reply, Fail> {
+// What a site of this setup is told that is begun where another was closed, answers its page, and starts a shop.
+fn gone_on<R: Wait>(
+    rt: &R,
+    alloc: Global,
+    setup: Setup,
+    handed: Handed,
+) -> Result<(Reply, Reply), Fail>
+    requires read { IsReadSetup (scripts_of setup) }
+    requires begins { CanBegin (scripts_of setup) 2 }
+{
     let Handed {
         page,
         disks,
@@ -74,7 +88,7 @@ fn gone_on<R: Wait>(rt: &R, alloc: Global, handed: Handed) -> Result<Reply, Fail
     if disks.len() != 2 || sources.len() != 2 {
         return Err(Fail::from("not two shelves"));
     }
-    match opened(rt, alloc, written(alloc)?, disks, sources) {
+    match opened(rt, alloc, setup, disks, sources) {
         Ok(mut site) => answered(rt, alloc, &mut site, &page),
         Err(_) => Err(Fail::from("not begun again")),
     }
@@ -85,7 +99,18 @@ fn gone_on<R: Wait>(rt: &R, alloc: Global, handed: Handed) -> Result<Reply, Fail
 fn a_site_goes_on_where_another_ended(rt: HostRuntime) -> Result<(), Fail> {
     let alloc = rt.alloc();
     let handed = shown_and_closed(&rt, alloc)?;
-    let sold = gone_on(&rt, alloc, handed)?;
+    let (sold, _again) = gone_on(&rt, alloc, written(alloc)?, handed)?;
     assert_eq!(rt; end_of(&sold), b"<p>bought</p>".as_slice());
+    Ok(())
+}
+
+// A page of before goes on with the text of its start, and a new start has the new one.
+#[test]
+fn a_site_goes_on_with_another_setup(rt: HostRuntime) -> Result<(), Fail> {
+    let alloc = rt.alloc();
+    let handed = shown_and_closed(&rt, alloc)?;
+    let (sold, started) = gone_on(&rt, alloc, rewritten(alloc)?, handed)?;
+    assert_eq!(rt; end_of(&sold), b"<p>bought</p>".as_slice());
+    assert_eq!(rt; end_of(&started), b"<p>closed</p>".as_slice());
     Ok(())
 }

@@ -1,8 +1,10 @@
-use core_syntax::expand;
-use page_names::ScriptName;
-use script_nodes::{NamedScript, Setup};
+ghost use Rattle.std.specs.Prelude.{IfOk};
+ghost use Rattle.script_nodes.specs.Views.{scripts_of};
+ghost use Rattle.setup_reader.specs.Texts.{IsReadSetup};
+
+use script_nodes::{ScriptText, Setup};
 use script_value::Bytes;
-use sexp_reader::read_all;
+use setup_reader::setup_of;
 use std::alloc::Global;
 use std::test::Fail;
 
@@ -13,6 +15,9 @@ const SHOP: &str = r#"(define stock (make-instance-cell 1))
   (if (< (instance-cell-ref stock) 1)
       '(p "sold out")
       (begin (instance-cell-add! stock -1) '(p "bought"))))"#;
+
+// The shop when all is sold.
+const EMPTY_SHOP: &str = r#"'(p "closed")"#;
 
 // What was said to its page last.
 const NOTE: &str = r#"(define said (make-instance-cell "none"))
@@ -42,24 +47,31 @@ const PATH: &str = r#"(let* ((first (send/suspend (lambda (u) `(a ((href ,u)) "f
 /// A script whose item is sold once, and one that keeps what was said.
 pub const SHOP_AND_NOTE: &[(&str, &str)] = &[("shop", SHOP), ("note", NOTE)];
 
+/// The same, when all is sold.
+pub const EMPTY_SHOP_AND_NOTE: &[(&str, &str)] = &[("shop", EMPTY_SHOP), ("note", NOTE)];
+
 /// A script that counts, and one with three pages in a row.
 pub const TALLY_AND_PATH: &[(&str, &str)] = &[("tally", TALLY), ("path", PATH)];
 
-// The script of this name and text.
-fn named(alloc: Global, name: &str, text: &str) -> Result<NamedScript, Fail> {
-    let data = read_all(alloc, text.as_bytes())?;
-    Ok(NamedScript {
-        name: ScriptName::new(name.as_bytes()).ok_or("no name")?,
-        text: Bytes::new(text.as_bytes().to_vec(alloc)?),
-        script: expand(alloc, data.as_slice())?,
-    })
+// The names and texts of these scripts, as a journal tells them.
+fn told(alloc: Global, scripts: &[(&str, &str)]) -> Result<Vec<ScriptText>, Fail> {
+    let mut texts = Vec::new(alloc);
+    for (name, text) in scripts {
+        texts.push(ScriptText {
+            name: Bytes::new(name.as_bytes().to_vec(alloc)?),
+            text: Bytes::new(text.as_bytes().to_vec(alloc)?),
+        })?;
+    }
+    Ok(texts)
 }
 
 /// The scripts of these names and texts.
-pub fn setup(alloc: Global, scripts: &[(&str, &str)]) -> Result<Setup, Fail> {
-    let mut setup = Setup::new(Vec::new(alloc));
-    for (name, text) in scripts {
-        setup.push(named(alloc, name, text)?)?;
+pub fn setup(alloc: Global, scripts: &[(&str, &str)]) -> Result<Setup, Fail>
+    ensures { IfOk result (λ setup. IsReadSetup (scripts_of setup)) }
+{
+    let texts = told(alloc, scripts)?;
+    match setup_of(alloc, texts.as_slice())? {
+        Some(setup) => Ok(setup),
+        None => Err(Fail::from("no setup")),
     }
-    Ok(setup)
 }

@@ -1,8 +1,9 @@
-ghost use Rattle.std.specs.Prelude.{◌≡◌, ◌≤◌, length, IfOk};
+ghost use Rattle.std.specs.Prelude.{◌≡◌, length, IfOk};
 ghost use Rattle.script_nodes.specs.Views.{scripts_of};
+ghost use Rattle.setup_reader.specs.Texts.{IsReadSetup};
 ghost use Rattle.site.specs.Beginnings.{CanBegin, IsReady};
 
-use crate::setups::{SHOP_AND_NOTE, setup};
+use crate::setups::{EMPTY_SHOP_AND_NOTE, SHOP_AND_NOTE, setup};
 use journal_records::can_begin;
 use script_nodes::Setup;
 use shelf::Rules;
@@ -56,17 +57,33 @@ pub fn sources(alloc: Global) -> Result<Vec<Counting>, Fail>
     Ok(sources)
 }
 
-/// A setup of scripts that two journals can begin with.
+// A setup of these scripts, with which two journals can begin.
 #[tactic(auto, using(crate::proofs::Written::all_begin))]
-pub fn written(alloc: Global) -> Result<Setup, Fail>
-    ensures few { IfOk result (λ setup. length (scripts_of setup) ≤ 256) }
+fn read(alloc: Global, scripts: &[(&str, &str)]) -> Result<Setup, Fail>
+    ensures read { IfOk result (λ setup. IsReadSetup (scripts_of setup)) }
     ensures begins { IfOk result (λ setup. CanBegin (scripts_of setup) 2) }
 {
-    let setup = setup(alloc, SHOP_AND_NOTE)?;
-    if setup.len() > 256 || !can_begin(0, &setup) {
+    let setup = setup(alloc, scripts)?;
+    if !can_begin(0, &setup) {
         return Err(Fail::from("no setup of two shelves"));
     }
     Ok(setup)
+}
+
+/// A setup with which two journals can begin.
+pub fn written(alloc: Global) -> Result<Setup, Fail>
+    ensures read { IfOk result (λ setup. IsReadSetup (scripts_of setup)) }
+    ensures begins { IfOk result (λ setup. CanBegin (scripts_of setup) 2) }
+{
+    read(alloc, SHOP_AND_NOTE)
+}
+
+/// One whose shop was changed.
+pub fn rewritten(alloc: Global) -> Result<Setup, Fail>
+    ensures read { IfOk result (λ setup. IsReadSetup (scripts_of setup)) }
+    ensures begins { IfOk result (λ setup. CanBegin (scripts_of setup) 2) }
+{
+    read(alloc, EMPTY_SHOP_AND_NOTE)
 }
 
 /// The site of two shelves of this setup, on these disks and with these sources.
@@ -79,7 +96,7 @@ pub fn opened<R: Wait>(
 ) -> Result<MemorySite, MemoryFault>
     requires disks { length disks.items ≡ 2 }
     requires sources { length sources.items ≡ 2 }
-    requires few { length (scripts_of setup) ≤ 256 }
+    requires read { IsReadSetup (scripts_of setup) }
     requires begins { CanBegin (scripts_of setup) 2 }
     ensures { IfOk result IsReady }
 {

@@ -51,7 +51,7 @@ pub fn begun<R: Wait>(rt: &R, alloc: Global, shelves: u32) -> Result<MemorySite,
     ensures { IfOk result IsReady }
 {
     let setup = setup(alloc, TALLY_AND_PATH)?;
-    if setup.len() > 256 || !can_begin(0, &setup) {
+    if !can_begin(0, &setup) {
         return Err(Fail::from("no journal can begin"));
     }
     let (disks, sources) = outside(alloc, shelves)?;

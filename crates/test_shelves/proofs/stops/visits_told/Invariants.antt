@@ -1,8 +1,7 @@
 use Rattle.std.proofs.Common.{true}
-use Rattle.script_nodes.specs.Views.{scripts_of}
 use Rattle.web_disk.specs.Disks.{memory_view}
 use Rattle.shelf.specs.Views.{IsInOrder}
 use Rattle.test_shelves.proofs.stops.visits_told.Given as goal
 
 abbrev pub invariant-visits : goal.invariant-visits
-invariant-visits l = IsInOrder memory_view true (scripts_of l.setup) l.shelf
+invariant-visits l = IsInOrder memory_view true l.shelf

@@ -1,5 +1,4 @@
 use Rattle.std.proofs.Common.{rules, ◌≡◌, ◌∷◌, [], Some, slice_get, subst}
-use Rattle.site.specs.Sites.{IsOwn}
 use Rattle.test_sites.proofs.Popped.{own_both}
 use Rattle.test_sites.proofs.ends.closed.Goals as goal
 
