@@ -1,7 +1,7 @@
 #!/bin/sh
 # Starts `serve` through the launcher on a free port of this machine, and lets a headless Chromium walk through the shop
 # and, in two windows, through the hotel: on, back, and on again. It prints how many replies came over each of the browser's
-# links. No part of the gate. Needs python3 and chromium, as Debian packs them.
+# connections. No part of the gate. Needs python3 and chromium, as Debian packs them.
 
 here=$(CDPATH='' cd -- "$(dirname -- "$0")/.." && pwd) || exit 1
 work=$(mktemp -d "${TMPDIR:-/tmp}/hovgyelit-browser.XXXXXX") || exit 1

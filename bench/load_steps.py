@@ -105,7 +105,7 @@ class Model:
         entry = found and found["pages"].get(int(page))
         if not entry or entry["nonce"] != int(nonce, 16) or found["name"] != name:
             return None
-        if entry["inside"] in found["closed"] or shelf.clock >= entry["deadline"]:
+        if entry["inside"] in found["closed"] or entry["evicted"] or shelf.clock >= entry["deadline"]:
             return None
         return shelf, (name, int(instance), int(page))
 
@@ -133,20 +133,30 @@ class Model:
             found = shelf.instances[instance]
             entry = found["pages"][page]
             kind, inside = NEXT.get(entry["kind"]), entry["inside"]
+            entry["used"] = max(entry["used"], number)
             if kind is None:
                 shelf.logged = max(shelf.logged, number + 1)
                 return None
             if kind == "card":
                 inside = number
-        if len(found["pages"]) >= self.options["pages"]:
-            return None
+        self.evict(found["pages"])
         if kind == "number":
             found["closed"].add(inside)
             inside = None
         shelf.instances[instance] = found
-        found["pages"][number] = {"nonce": nonce, "kind": kind, "inside": inside, "deadline": shelf.clock + self.options["life"]}
+        found["pages"][number] = self.page(shelf, number, nonce, kind, inside)
         shelf.logged = max(shelf.logged, number + 1)
         return f"/servlets/{name};{self.shelves.index(shelf)}*{instance}*{number}*{nonce:016x}"
+
+    def page(self, shelf, number, nonce, kind, inside):
+        deadline = shelf.clock + self.options["life"]
+        return {"nonce": nonce, "kind": kind, "inside": inside, "deadline": deadline, "used": number, "evicted": False}
+
+    def evict(self, pages):
+        """Makes room for one page more: those that were used longest ago go."""
+        left = sorted((page["used"], number) for number, page in pages.items() if not page["evicted"])
+        for _, number in left[: max(0, len(left) + 1 - self.options["pages"])]:
+            pages[number]["evicted"] = True
 
     def perform(self, step, known):
         """What the step comes to: whether a ticket is held, or the URL that is shown. What is known stands."""
@@ -162,7 +172,9 @@ class Model:
             for shelf in self.shelves:
                 shelf.clock = max(shelf.clock, worker)
                 shelf.instances = {
-                    i: x for i, x in shelf.instances.items() if any(p["deadline"] > shelf.clock for p in x["pages"].values())
+                    i: x
+                    for i, x in shelf.instances.items()
+                    if any(p["deadline"] > shelf.clock and not p["evicted"] for p in x["pages"].values())
                 }
             return None
         if word == "take":
@@ -202,9 +214,7 @@ class Model:
             shelf = self.shelves[int(s)]
             shelf.number, shelf.nonce, shelf.logged = int(k) + 1, int(n, 16) + 1, int(k) + 1
             found = shelf.instances.setdefault(int(i), {"name": name, "pages": {}, "closed": set()})
-            found["pages"][int(k)] = {
-                "nonce": int(n, 16), "kind": FIRST[name], "inside": None, "deadline": shelf.clock + self.options["life"]
-            }
+            found["pages"][int(k)] = self.page(shelf, int(k), int(n, 16), FIRST[name], None)
         return known
 
 
