@@ -411,8 +411,8 @@ pub again_leaves : (rack : Racks) (l : LoadOptions) (shelf : ℕ) (why : Reopen)
 again_leaves rack l shelf why s old new before after lost_so failed damaged other (untold is line) =
     memory_leaves rack l s old new before after is line
     (λ t.
-        let q = lost_so t in
-        let x = remains_lost rack l shelf why q in (chances_of l.options x.0.0, (lost shelf why x.0.1 tt x.0.2 x.0.3 q.begins.empty, x.1.0)))
+    let q = lost_so t in
+    let x = remains_lost rack l shelf why q in (chances_of l.options x.0.0, (lost shelf why x.0.1 tt x.0.2 x.0.3 q.begins.empty, x.1.0)))
 again_leaves rack l shelf reopen.Disk s old new before after lost_so failed damaged other (told line is same p) =
     subst (λ x. HasLeft rack l x (sinks old new before after)) (sym same) (x.0, (shelf, failed refl, shown, x.1))
   where
