@@ -4,6 +4,7 @@
 ghost use Rattle.history_spec.specs.Laws.{HistoriesGoOn, OneEntryIsAStep, EachEventIsAnEntry, HistoriesAreRuns, NoncesComeInTurn, NoNumberTakenTwice, EachPublishHasItsTake, WhatIsOwedIsOut, WhatIsOwedWasTaken, BooksBehindAreSound, ACrashOpens, TheClockNeverFalls, ClosedIsClosed};
 ghost use Rattle.history_spec.specs.Passes.{ATurnGoes, CallsCompose, SeenStays, ATakeIsOwed, TwoCallsVisit};
 ghost use Rattle.history_spec.specs.Kept.{KeptGoesOn, WhatIsKeptIsSound, WhatIsLeftOpens};
+ghost use Rattle.history_spec.specs.Room.{NoneGoesTooSoon};
 
 /// A legal history goes on by each entry that comes next; a front of it is legal; and it stays so while the disk's count of
 /// faults rises.
@@ -111,4 +112,9 @@ pub fn what_is_kept_is_sound()
 /// With what a crash may have left, at whatever moment, the shelf may be opened again.
 pub fn what_is_left_opens()
     ensures { WhatIsLeftOpens }
+{}
+
+/// No page goes for a new one while there is room for it: no more go than are too many with it.
+pub fn none_goes_too_soon()
+    ensures { NoneGoesTooSoon }
 {}
