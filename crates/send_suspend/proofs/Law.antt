@@ -1,10 +1,14 @@
 -- What a machine came to is what its script comes to.
-use Rattle.std.proofs.Common.{◌≡◌, ◌∙◌, ℕ, zero, suc, ◌+◌, ◌*◌, ◌^◌, ◌<◌, ◌≤◌, List, map, refl, sym, ap, subst, arith}
+use Rattle.std.proofs.Common.{◌≡◌, ◌∙◌, ℕ, zero, suc, ◌+◌, ◌*◌, ◌^◌, ◌<◌, ◌≤◌, ◌==◌, nat_lt, Bool, true, false, cond, List, [], ◌∷◌, length, map, refl, sym, ap, subst, arith}
+use Rattle.std.specs.List.{AllByRecursion}
 use Rattle.std.proofs.lemmas.List.{length-reverse, length-map}
 use Rattle.script_value.specs.Val.{Val}
 use Rattle.script_value.specs.declared.outcome.TxName.{TxName}
-use Rattle.instance_cells.specs.Cells.{Effect, reads_of}
+use Rattle.instance_cells.specs.Cells.{Effect, reads_of, AreOn, Holds}
 use Rattle.instance_cells.specs.Views.{effect_of}
+use Rattle.web_cells.specs.Shadows.{bound_to}
+use Rattle.web_cells.specs.Own.{BindsAllOf}
+use Rattle.web_cells.proofs.Shadowed.{rise}
 use Rattle.script_nodes.specs.Arena.{Arena, IsScript, script_of}
 use Rattle.replay_spec.specs.Tape.{Answer, Reads, recorded, present, State, Tape}
 use Rattle.replay_spec.specs.Tape as spec
@@ -18,6 +22,8 @@ use Rattle.machine_states.specs.Laws.{started, resumed, alone, Stops, ComesTo, I
 use Rattle.machine_states.proofs.Law.{resume_is, start_is}
 use Rattle.machine_states.proofs.Replay.{first_stop, same_machine}
 use Rattle.machine_states.proofs.Bound.{halts}
+use Rattle.machine_states.proofs.Inside.{stop_within}
+use Rattle.machine_states.proofs.Unbound.{stop_binds}
 use Rattle.machine_states.proofs.Stepping.{fits_on, fits_kept}
 use Rattle.segments.specs.declared.ends.PlainEnd.{PlainEnd}
 use Rattle.segments.specs.Views as plain
@@ -28,7 +34,8 @@ use Rattle.machine_states.specs.declared.segment.Origin.TheVariants.{Start, Page
 use Rattle.machine_states.specs.declared.segment.Outcome.{Outcome}
 use Rattle.machine_states.specs.declared.segment.Outcome.TheVariants.{Shown, Finished, Ended, Faulted, Fuel}
 use Rattle.machine_states.specs.declared.segment.Segment.{Segment}
-use Rattle.send_suspend.specs.Segments.{Ends, newest, frames_in, begun, IsLastOver, Replays}
+use Rattle.send_suspend.specs.Segments.{Ends, newest, frames_in, bindings_in, begun, AreBindings, IsConsistent, IsLastOver, Replays}
+use Rattle.send_suspend.proofs.Held.{IsWell, stop_well}
 
 -- the segment of a machine over present cells is within its fuel
 pub within_begun : (from : Origin) (a : Arena) (value : Val) (number : ℕ) (url : List ℕ) (cells : List Val) (fuel : ℕ) → InSegment fuel (begun from a (newest value number url cells fuel)).state
@@ -107,6 +114,22 @@ last_over a fuel m tape now c r is =
       ),
     )
 
+-- ---- one binding more
+
+by_cond : (n : ℕ) (b : Bool) (x y : List (ℕ × Val)) → AllByRecursion (λ s. s.0 < n) x → AllByRecursion (λ s. s.0 < n) y → AllByRecursion (λ s. s.0 < n) (cond b x y)
+by_cond n true x y p q = p
+by_cond n false x y p q = q
+
+bound_named : (n c : ℕ) (v : Val) (ss : List (ℕ × Val)) → c < n → AllByRecursion (λ s. s.0 < n) ss → AllByRecursion (λ s. s.0 < n) (bound_to c v ss)
+bound_named n c v [] k h = (k, tt)
+bound_named n c v (s ∷ ss) k h =
+    by_cond n (nat_lt c s.0) _ _ (k, h) (by_cond n (c == s.0) _ _ (k, h.1) (h.0, bound_named n c v ss k h.1))
+
+bound_more : (a : Arena) (c : ℕ) (v : Val) (ss : List (ℕ × Val)) → c < length a.web → AreBindings a ss → AreBindings a (bound_to c v ss)
+bound_more a c v ss k h = record { rise = rise c v ss h.rise; named = bound_named (length a.web) c v ss k h.named }
+
+-- ---- the law
+
 -- the law of a segment
 replays : (from : Origin) (a : Arena) → IsScript a → (value : Val) (number : ℕ) (url : List ℕ) (cells : List Val) (fuel : ℕ) → fuel < 2 ^ 63
     → (m mid : Machine) → m ≡ begun from a (newest value number url cells fuel) → (k : ℕ) (o : spec.Outcome) (names : List TxName) (d : Suspended) (t : State) (r : Segment)
@@ -144,16 +167,47 @@ abbrev pub Ran : Arena → Machine → spec.Outcome → List TxName → Suspende
 Ran a m o names d s before count =
     (k : ℕ) × ((count ≡ before + k + 1) × ((mid : Machine) × ((steps a k m ≡ goes mid) × (step a mid ≡ stopped o names d s))))
 
+-- the bindings that a segment begins with are those of the state that it goes on from
+well_begun : (from : Origin) (a : Arena) (i : IsScript a) (value : Val) (number : ℕ) (url : List ℕ) (cells : List Val) (fuel : ℕ) (B : List (ℕ × Val) → Type 0)
+    (binds : (c : ℕ) (v : Val) (ss : List (ℕ × Val)) → c < length a.web → B ss → B (bound_to c v ss))
+    → B (bindings_in from) → IsWell a i cells fuel B binds (begun from a (newest value number url cells fuel)).state
+well_begun Start a i value number url cells fuel B binds h = (refl, (refl, ((tt, tt), h)))
+well_begun (Page d) a i value number url cells fuel B binds h = (refl, (refl, ((tt, tt), h)))
+
+bound_begun : (from : Origin) (a : Arena) (x : Answer) → BindsAllOf (bindings_in from) (begun from a x).state.shadows
+bound_begun Start a x c none = none
+bound_begun (Page d) a x c none = none
+
+-- whatever state a machine goes on from, its segment is consistent
+consistent : (from : Origin) (a : Arena) → IsScript a → (value : Val) (number : ℕ) (url : List ℕ) (cells : List Val) (fuel k : ℕ) (o : spec.Outcome) (names : List TxName) (d : Suspended) (s : State)
+    (r : Segment) → steps a k (begun from a (newest value number url cells fuel)) ≡ stopped o names d s → IsStop r o names d s → IsConsistent from a cells r
+consistent from a i value number url cells fuel k o names d s r e is =
+    let m = begun from a (newest value number url cells fuel) in
+    let any = λ (ss : List (ℕ × Val)). Unit {0} in
+    let well = stop_well a i cells fuel any (λ c v ss there h. tt) k m o names d s (well_begun from a i value number url cells fuel any (λ c v ss there h. tt) tt) e in
+    let held = well.0.1.1.0 in
+    record {
+      on = subst (AreOn (length a.cells)) (sym is.effects) held.1;
+      hold = subst (λ (es : List Effect). Holds es cells) (sym is.effects) held.0;
+      inside = keeps r.outcome d (λ x. inside_of x.frames ≡ r.entered.items) is.kept (λ w. sym (is.entered ∙ (stop_within a k m o names d s e).0));
+      binds = keeps r.outcome d (λ x. BindsAllOf (bindings_in from) x.shadows) is.kept (λ w. stop_binds (bindings_in from) a k m o names d s (bound_begun from a (newest value number url cells fuel)) e);
+      names_cells = λ fits.
+          let kept = stop_well a i cells fuel (AreBindings a) (λ c v ss there h. bound_more a c v ss there h) k m o names d s
+          (well_begun from a i value number url cells fuel (AreBindings a) (λ c v ss there h. bound_more a c v ss there h) fits) e in
+          keeps r.outcome d (λ x. AreBindings a x.shadows) is.kept (λ w. kept.1);
+    }
+
 -- what a call of a segment promises
-pub record Came (from : Origin) (a : Arena) (x : Answer) (r : Segment) (before count : ℕ) : Type 0 where
-  pub replays : Replays from a x r
+pub record Came (from : Origin) (a : Arena) (value : Val) (number : ℕ) (url : List ℕ) (cells : List Val) (fuel : ℕ) (r : Segment) (before count : ℕ) : Type 0 where
+  pub replays : Replays from a (newest value number url cells fuel) r
+  pub consistent : IsConsistent from a cells r
   pub fits : Keeps r.outcome (λ d. Fits a d)
   pub few : count ≤ before + (2 * r.cost + frames_in from + 2)
 
 came_there : (from : Origin) (a : Arena) → IsScript a → (value : Val) (number : ℕ) (url : List ℕ) (cells : List Val) (fuel : ℕ) → fuel < 2 ^ 63
     → (m : Machine) → FitsAt a m.point.control m.point.env m.point.frames → m ≡ begun from a (newest value number url cells fuel)
     → (o : spec.Outcome) (names : List TxName) (d : Suspended) (s : State) (r : Segment) (before count : ℕ) → Ran a m o names d s before count → IsStop r o names d s
-    → Came from a (newest value number url cells fuel) r before count
+    → Came from a value number url cells fuel r before count
 came_there from a i value number url cells fuel h m w e o names d s r before count ran is =
     let x = newest value number url cells fuel in
     let n = begun from a x in
@@ -171,6 +225,7 @@ came_there from a i value number url cells fuel h m w e o names d s r before cou
     let few = stop.few in
     record {
       replays = replays from a i value number url cells fuel h m mid e k o names d s r p q is;
+      consistent = consistent from a i value number url cells fuel stop.stops.count o names d s r (stop.stops.are ∙ sym first.1) is;
       fits = keeps r.outcome d (λ y. Fits a y) is.kept (λ y. fits_kept a mid o names d s (steps_fit a k m mid w p) q (subst Waits is.outcome y));
       few = omega arith;
     }
@@ -178,10 +233,10 @@ came_there from a i value number url cells fuel h m w e o names d s r before cou
 pub came : (from : Origin) (a b : Arena) → b ≡ a → IsScript b → (value : Val) (number : ℕ) (url : List ℕ) (cells : List Val) (fuel : ℕ) → fuel < 2 ^ 63
     → (m : Machine) → FitsAt b m.point.control m.point.env m.point.frames → m ≡ begun from a (newest value number url cells fuel)
     → (o : spec.Outcome) (names : List TxName) (d : Suspended) (s : State) (r : Segment) (before count : ℕ) → Ran b m o names d s before count → IsStop r o names d s
-    → Came from a (newest value number url cells fuel) r before count
+    → Came from a value number url cells fuel r before count
 came from a b same i value number url cells fuel h m w e o names d s r before count ran is =
     let x = newest value number url cells fuel in
-    subst (λ (y : Arena). m ≡ begun from y x → Came from y x r before count) same
+    subst (λ (y : Arena). m ≡ begun from y x → Came from y value number url cells fuel r before count) same
     (λ f. came_there from b i value number url cells fuel h m w f o names d s r before count ran is) e
 
 -- the parts of a machine at its stop

@@ -1,8 +1,11 @@
 -- What a segment that goes on from a stored state comes to.
-use Rattle.std.specs.Prelude.{◌≡◌, ℕ, List, length, map, ⊤}
+use Rattle.std.specs.Prelude.{◌≡◌, ◌<◌, ℕ, List, [], length, map, ⊤}
+use Rattle.std.specs.List.{AllByRecursion}
 use Rattle.script_value.specs.Val.{Val}
 use Rattle.script_nodes.specs.Arena.{Arena, script_of}
-use Rattle.instance_cells.specs.Cells.{reads_of}
+use Rattle.web_cells.specs.Shadows.{Rise}
+use Rattle.web_cells.specs.Own.{BindsAllOf}
+use Rattle.instance_cells.specs.Cells.{AreOn, Holds, reads_of}
 use Rattle.instance_cells.specs.Views.{effect_of}
 use Rattle.segments.specs.declared.ends.PlainEnd.{PlainEnd}
 use Rattle.segments.specs.Views as plain
@@ -41,6 +44,26 @@ frames_in (Page d) = length d.frames.items
 abbrev pub begun : Origin → Arena → Answer → machine.Machine
 begun Start a x = started a (alone x.segment x.segment.reads)
 begun (Page d) a x = resumed a (suspended_of d) x
+
+-- the bindings of web cells that a segment begins with
+abbrev pub bindings_in : Origin → List (ℕ × Val)
+bindings_in Start = []
+bindings_in (Page d) = d.shades
+
+-- the bindings name web cells of the script, the cells rising, each once
+pub record AreBindings (a : Arena) (bindings : List (ℕ × Val)) : Type 0 where
+  pub rise : Rise bindings
+  pub named : AllByRecursion (λ s. s.0 < length a.web) bindings
+
+-- What holds of a segment whatever state it goes on from, of a tape or of none: its effects are on the cells of its script, and hold over those
+-- that it ran over; a page that it shows is inside the transactions of its state's frames, and its state binds what was bound before; and
+-- where web cells of the script were bound, such are bound in it.
+pub record IsConsistent (from : Origin) (a : Arena) (cells : List Val) (r : Segment) : Type 0 where
+  pub on : AreOn (length a.cells) (map effect_of r.effects.items)
+  pub hold : Holds (map effect_of r.effects.items) cells
+  pub inside : Keeps r.outcome (λ d. inside_of d.frames ≡ r.entered.items)
+  pub binds : Keeps r.outcome (λ d. BindsAllOf (bindings_in from) d.shadows)
+  pub names_cells : AreBindings a (bindings_in from) → Keeps r.outcome (λ d. AreBindings a d.shadows)
 
 -- A segment is what the last segment of a run comes to; a page that it shows is inside the transactions of its state's frames.
 abbrev pub IsLast : Segment → eval.Segment → Type 0

@@ -4,7 +4,7 @@ ghost use Rattle.segments.specs.Views.{now_of};
 ghost use Rattle.machine_states.specs.Fits.{Fits};
 ghost use Rattle.cek_machine.specs.Machines.{IsReady, machine_of};
 ghost use Rattle.machine_states.specs.Views.{Keeps};
-ghost use Rattle.send_suspend.specs.Segments.{newest, FitsFrom, frames_in, begun, Ends, Replays};
+ghost use Rattle.send_suspend.specs.Segments.{newest, FitsFrom, frames_in, begun, Ends, IsConsistent, Replays};
 
 use cek_machine::{Machine, Steps};
 use instance_cells::Cells;
@@ -69,6 +69,7 @@ pub fn run_segment<L: Ledger>(
     requires fits { FitsFrom script.now from }
     requires fuel { fuel < 2 ^ 63 }
     ensures replays { IfOk result (λ r. Replays from script.now (newest (meaning answer.now) number url.now cells.now fuel) r) }
+    ensures consistent { IfOk result (IsConsistent from script.now cells.now) }
     ensures fits { IfOk result (λ r. Keeps r.outcome (λ d. Fits script.now d)) }
     ensures few { IfOk result (λ r. steps.new ≤ steps.old + (2 * r.cost + frames_in from + 2)) }
 {

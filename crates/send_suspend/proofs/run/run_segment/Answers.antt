@@ -6,13 +6,12 @@ use Rattle.machine_states.specs.Machine.{inside_of, Suspended}
 use Rattle.cek_machine.specs.Spots.{frames_of}
 use Rattle.cek_machine.specs.Machines.{machine_of, kept_of}
 use Rattle.machine_states.specs.declared.segment.Segment.{Segment}
-use Rattle.send_suspend.specs.Segments.{newest}
 use Rattle.send_suspend.proofs.Law.{Came, came, is_stop}
 use Rattle.send_suspend.proofs.run.run_segment.Given as given
 use Rattle.send_suspend.proofs.run.run_segment.Goals as goal
 
 came_here : (g : given.Over) (c : goal.After-drop-rerun-2 g)
-    → Came c.args.from c.args.script.now (newest (meaning c.args.answer.now) c.args.number c.args.url.now c.args.cells.now c.args.fuel)
+    → Came c.args.from c.args.script.now (meaning c.args.answer.now) c.args.number c.args.url.now c.args.cells.now c.args.fuel
     (record { outcome = c.outcome_with.result; effects = c.into_parts-rerun.result.0.effects; entered = c.in_ok-entered.entered; left = c.into_parts-rerun.result.0.left; cost = c.into_parts-rerun.result.0.cost })
     c.args.steps.now c.run.new.steps
 came_here g c =
@@ -29,6 +28,9 @@ came_here g c =
 
 pub returns-clause-replays : goal.returns-clause-replays
 returns-clause-replays g c = (came_here g c).replays
+
+pub returns-clause-consistent : goal.returns-clause-consistent
+returns-clause-consistent g c = (came_here g c).consistent
 
 pub returns-clause-fits : goal.returns-clause-fits
 returns-clause-fits g c = (came_here g c).fits
