@@ -2,6 +2,7 @@
 use Rattle.std.specs.Prelude.{◌≡◌, ◌≢◌, ℕ, Bool, true, ◌==◌, Result}
 use Rattle.std.specs.List.{list_any}
 use Rattle.web_disk.specs.View.{RackView}
+use Rattle.web_disk.specs.Asked.{asked_in}
 use Rattle.web_disk.specs.Failures.{failed_in}
 use Rattle.web_disk.specs.Racks.{faults_after_take}
 use Rattle.web_disk.specs.Takes.{failed_after}
@@ -12,10 +13,15 @@ use Rattle.file_disk.specs.declared.lending.Lending.{Lending}
 abbrev pub is_out : Lending → ℕ → Bool
 is_out lending number = list_any (λ n. n == number) lending.out.items
 
--- which disks are out, and the counts of faults
+-- which disks are out, which were asked for, and the counts of faults
 abbrev pub lending_view : Lending → RackView
-lending_view lending =
-    record { holds = λ number image. ⊥; out = is_out lending; faults = lending.faults; failed = failed_in lending.failed }
+lending_view lending = record {
+  holds = λ number image. ⊥;
+  out = is_out lending;
+  faults = lending.faults;
+  failed = failed_in lending.failed;
+  asked = asked_in lending.asked;
+}
 
 -- the disks that are out are as they were, but for this one, which is out
 pub record Lends (old new : Lending) (number : ℕ) : Type 0 where

@@ -1,5 +1,6 @@
-ghost use Rattle.std.specs.Prelude.{◌≡◌, ◌≤◌, ℕ, false, IfOk, OnOk, OnErr, IsErrOf};
+ghost use Rattle.std.specs.Prelude.{◌≡◌, ◌≤◌, ℕ, [], false, IfOk, OnOk, OnErr, IsErrOf};
 ghost use Rattle.web_outside.specs.Causes.{Rose};
+ghost use Rattle.web_disk.specs.Asked.{asked_in};
 ghost use Rattle.web_disk.specs.Failures.{failed_in};
 ghost use Rattle.file_disk.specs.Lendings.{is_out, CountsTake, Lends, SameOut, lending_view};
 
@@ -18,11 +19,12 @@ pub struct FileRack<'r, R> {
 }
 
 impl<'r, R> FileRack<'r, R> {
-    /// A rack of which no disk is out.
+    /// A rack of which no disk is out or was asked for.
     pub fn new(rt: &'r R, alloc: Global) -> FileRack<'r, R>
         ensures out { (number : ℕ) → is_out result.lending number ≡ false }
         ensures faults { result.lending.faults ≡ 0 }
         ensures failed { (number : ℕ) → failed_in result.lending.failed number ≡ 0 }
+        ensures asked { asked_in result.lending.asked ≡ [] }
     {
         FileRack {
             rt,
@@ -45,6 +47,7 @@ pub fn take_file<R: Files<File = File> + Eprint>(
     ensures counted { CountsTake lending.old lending.new number result }
     ensures failed { IsErrOf result RackFault.Failed → Rose lending.old.faults lending.new.faults }
     ensures later { lending.old.faults ≤ lending.new.faults }
+    ensures asked { lending.new.asked ≡ lending.old.asked }
 {
     lending.reserve()?;
     let path = format!(in alloc; "{directory}/shelf-{number}")?;
@@ -79,6 +82,7 @@ impl<'r, R: Files<File = File> + Eprint> Rack<FileDisk<File>> for FileRack<'r, R
         directory: &str,
         number: u32,
     ) -> Result<FileDisk<File>, RackFault> {
+        self.lending.ask(number);
         take_file(self.rt, alloc, &mut self.lending, directory, number)
     }
 

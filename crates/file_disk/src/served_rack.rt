@@ -1,5 +1,6 @@
-ghost use Rattle.std.specs.Prelude.{◌≡◌, ◌≤◌, ℕ, false, IfOk, OnOk, OnErr, IsErrOf};
+ghost use Rattle.std.specs.Prelude.{◌≡◌, ◌≤◌, ℕ, [], false, IfOk, OnOk, OnErr, IsErrOf};
 ghost use Rattle.web_outside.specs.Causes.{Rose};
+ghost use Rattle.web_disk.specs.Asked.{asked_in};
 ghost use Rattle.web_disk.specs.Failures.{failed_in};
 ghost use Rattle.file_disk.specs.Lendings.{is_out, CountsTake, Lends, SameOut, lending_view};
 ghost use Rattle.file_disk.specs.MemoryFiles.{memory_file_view};
@@ -27,11 +28,12 @@ pub struct ServedRack<'r, R> {
 }
 
 impl<'r, R> ServedRack<'r, R> {
-    /// A rack of which no disk is out.
+    /// A rack of which no disk is out or was asked for.
     pub fn new(rt: &'r R, alloc: Global) -> ServedRack<'r, R>
         ensures out { (number : ℕ) → is_out result.lending number ≡ false }
         ensures faults { result.lending.faults ≡ 0 }
         ensures failed { (number : ℕ) → failed_in result.lending.failed number ≡ 0 }
+        ensures asked { asked_in result.lending.asked ≡ [] }
     {
         ServedRack {
             rt,
@@ -54,6 +56,7 @@ fn take_memory(
     ensures counted { CountsTake lending.old lending.new number result }
     ensures failed { IsErrOf result RackFault.Failed → Rose lending.old.faults lending.new.faults }
     ensures later { lending.old.faults ≤ lending.new.faults }
+    ensures asked { lending.new.asked ≡ lending.old.asked }
 {
     lending.reserve()?;
     match shelves.take(alloc, number) {
@@ -82,6 +85,7 @@ impl<'r, R: Files<File = File> + Clock + Eprint> Rack<ServedDisk<'r, R>> for Ser
         number: u32,
     ) -> Result<ServedDisk<'r, R>, RackFault> {
         let lending = &mut self.lending;
+        lending.ask(number);
         if directory == MEMORY {
             let disk = take_memory(alloc, lending, &mut self.shelves, number)?;
             Ok(ServedDisk::Memory(disk))

@@ -2,7 +2,7 @@ ghost use Rattle.std.specs.Prelude.{◌≡◌, ◌<◌, ◌≤◌, ◌+◌, ◌^
 ghost use Rattle.web_outside.specs.Causes.{Rose};
 ghost use Rattle.measured_run.specs.Fnv.{goes_on};
 ghost use Rattle.play_steps.specs.Played.{spot};
-ghost use Rattle.play_steps.specs.Rules.{KeepsShelves, StaysUp};
+ghost use Rattle.play_steps.specs.Rules.{KeepsShelves, StaysFirst, StaysUp};
 ghost use Rattle.play_steps.specs.Texts.{print};
 ghost use Rattle.measured_run.specs.Generator.{source_of};
 ghost use Rattle.measured_run.specs.Counting.{line_of};
@@ -103,6 +103,7 @@ fn go_on<T: Stage>(
     ensures failed { (shelf : ℕ) → IsErrOf result (Halt.Reopen shelf Reopen.Disk) →
         Rose (T.failed devices.old shelf) (T.failed devices.new shelf) }
     ensures failed_later { StaysUp (T.failed devices.old) (T.failed devices.new) }
+    ensures asked { StaysFirst (T.asked devices.old) (T.asked devices.new) }
     ensures why { (shelf : ℕ) → IsErrOf result (Halt.Reopen shelf Reopen.Memory) → ⊥ }
     ensures damaged { IsTrue T.tells → (shelf place : ℕ) →
         IsErrOf result (Halt.Reopen shelf (Reopen.Damaged place)) → ⊥ }
@@ -170,6 +171,7 @@ pub fn load<T: Stage>(
     ensures failed { (shelf : ℕ) → IsErrOf result (Halt.Reopen shelf Reopen.Disk) →
         Rose (T.failed devices.old shelf) (T.failed devices.new shelf) }
     ensures failed_later { StaysUp (T.failed devices.old) (T.failed devices.new) }
+    ensures asked { StaysFirst (T.asked devices.old) (T.asked devices.new) }
     ensures why { (shelf : ℕ) → IsErrOf result (Halt.Reopen shelf Reopen.Memory) → ⊥ }
     ensures damaged { IsTrue T.tells → (shelf place : ℕ) →
         IsErrOf result (Halt.Reopen shelf (Reopen.Damaged place)) → ⊥ }

@@ -69,6 +69,10 @@ StaysAt {Devices = Devices} before now = (devices : Devices) → now devices ≡
 abbrev pub StaysHome : {Devices : Type 0} → (before now : Devices → Type 0) → Type 0
 StaysHome {Devices = Devices} before now = (devices : Devices) → before devices → now devices
 
+-- what was asked of devices first stays first
+abbrev pub StaysFirst : (before now : (front : List ℕ) → Type 0) → Type 0
+StaysFirst before now = (front : List ℕ) → before front → now front
+
 -- there are as many shelves as before
 abbrev pub KeepsShelves : (r : StageRules) → (old new : r.State) → Type 0
 KeepsShelves r old new = r.shelves new ≡ r.shelves old

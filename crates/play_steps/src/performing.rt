@@ -1,7 +1,7 @@
 ghost use Rattle.std.specs.Prelude.{◌≡◌, ◌≤◌, ◌<◌, ◌^◌, ◌∷◌, [], ℕ, IsTrue, IsErrOf, OnOk, true, false};
 ghost use Rattle.web_outside.specs.Causes.{Rose};
 ghost use Rattle.play_steps.specs.Step.{IsTold, IsWithin, is_edit, tick};
-ghost use Rattle.play_steps.specs.Rules.{KeepsShelves, StaysHome, StaysUp};
+ghost use Rattle.play_steps.specs.Rules.{KeepsShelves, StaysFirst, StaysHome, StaysUp};
 ghost use Rattle.play_steps.specs.Transcript.{fits};
 ghost use Rattle.play_steps.specs.Views.{meaning};
 ghost use Rattle.play_steps.specs.Played.{Lengthens, Performs, SweepsAll, TellsCrash, TellsOne, spot};
@@ -137,6 +137,7 @@ pub fn perform<T: Stage>(
     ensures failed { (shelf : ℕ) → IsErrOf result (Halt.Reopen shelf Reopen.Disk) →
         Rose (T.failed devices.old shelf) (T.failed devices.new shelf) }
     ensures failed_later { StaysUp (T.failed devices.old) (T.failed devices.new) }
+    ensures asked { StaysFirst (T.asked devices.old) (T.asked devices.new) }
     ensures why { (shelf : ℕ) → IsErrOf result (Halt.Reopen shelf Reopen.Memory) → ⊥ }
     ensures damaged { IsTrue T.tells → (shelf place : ℕ) →
         IsErrOf result (Halt.Reopen shelf (Reopen.Damaged place)) → ⊥ }

@@ -2,7 +2,7 @@ ghost use Rattle.std.specs.Prelude.{◌≡◌, ◌≤◌, ℕ, IsTrue, true, fal
 ghost use Rattle.web_outside.specs.Causes.{Rose};
 ghost use Rattle.play_steps.specs.Step.{IsTold, IsWithin, is_told, steps_of};
 ghost use Rattle.play_steps.specs.Played.{end_of, played, scene, spot, Leaves, Turns, TurnsEdit};
-ghost use Rattle.play_steps.specs.Rules.{StaysAt, StaysHome, StaysUp};
+ghost use Rattle.play_steps.specs.Rules.{StaysAt, StaysFirst, StaysHome, StaysUp};
 ghost use Rattle.play_steps.specs.Views.{meaning};
 
 use crate::course::{Course, Next};
@@ -94,6 +94,7 @@ fn play_step<T: Stage, O: Sink>(
     ensures failed { (shelf : ℕ) → result ≡ Turn.Halted (Halt.Reopen shelf Reopen.Disk) →
         Rose (T.failed devices.old shelf) (T.failed devices.new shelf) }
     ensures failed_later { StaysUp (T.failed devices.old) (T.failed devices.new) }
+    ensures asked { StaysFirst (T.asked devices.old) (T.asked devices.new) }
     ensures why { (shelf : ℕ) → result ≡ Turn.Halted (Halt.Reopen shelf Reopen.Memory) → ⊥ }
     ensures damaged { IsTrue T.tells → (shelf place : ℕ) →
         result ≡ Turn.Halted (Halt.Reopen shelf (Reopen.Damaged place)) → ⊥ }
@@ -156,6 +157,7 @@ pub fn play<T: Stage, O: Sink>(
     ensures failed { (shelf : ℕ) → result ≡ PlayEnd.Reopen shelf Reopen.Disk →
         Rose (T.failed devices.old shelf) (T.failed devices.new shelf) }
     ensures failed_later { StaysUp (T.failed devices.old) (T.failed devices.new) }
+    ensures asked { StaysFirst (T.asked devices.old) (T.asked devices.new) }
     ensures why { (shelf : ℕ) → result ≡ PlayEnd.Reopen shelf Reopen.Memory → ⊥ }
     ensures damaged { IsTrue T.tells → (shelf place : ℕ) →
         result ≡ PlayEnd.Reopen shelf (Reopen.Damaged place) → ⊥ }

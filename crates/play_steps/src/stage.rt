@@ -1,6 +1,6 @@
-ghost use Rattle.std.specs.Prelude.{◌≡◌, ◌≤◌, ℕ, ◌<◌, ◌^◌, Bool, true, false, IsTrue, IfOk, IfErr, OnOk, OnErr, IsErrOf};
+ghost use Rattle.std.specs.Prelude.{◌≡◌, ◌≤◌, ℕ, ◌<◌, ◌^◌, List, Bool, true, false, IsTrue, IfOk, IfErr, OnOk, OnErr, IsErrOf};
 ghost use Rattle.web_outside.specs.Causes.{Rose};
-ghost use Rattle.play_steps.specs.Rules.{StageRules, Takes, Publishes, Sweeps, Crashes, Edits, KeepsShelves, RoseOver, StaysAt, StaysUp, StaysHome};
+ghost use Rattle.play_steps.specs.Rules.{StageRules, Takes, Publishes, Sweeps, Crashes, Edits, KeepsShelves, RoseOver, StaysAt, StaysFirst, StaysUp, StaysHome};
 ghost use Rattle.play_steps.specs.Step.{workers};
 ghost use Rattle.play_steps.specs.declared.stage.Reopen.{Reopen};
 
@@ -50,6 +50,9 @@ pub trait Stage {
 
     /// How often its devices have failed for the disk of each shelf.
     ghost failed: { Self.Devices → ℕ → ℕ };
+
+    /// That its devices were asked for the disks of these numbers first, in this order.
+    ghost asked: { Self.Devices → (front : List ℕ) → Type 0 };
 
     /// What its devices hold where this shelf of a state crashed and was not opened again for this
     /// cause.
@@ -129,6 +132,7 @@ pub trait Stage {
         ensures failed { IsErrOf result Reopen.Disk →
             Rose (failed devices.old shelf) (failed devices.new shelf) }
         ensures failed_later { StaysUp (failed devices.old) (failed devices.new) }
+        ensures asked { StaysFirst (asked devices.old) (asked devices.new) }
         ensures damaged { IsTrue tells → (place : ℕ) → IsErrOf result (Reopen.Damaged place) → ⊥ }
         ensures other { IsTrue tells → (place : ℕ) → IsErrOf result (Reopen.Other place) → ⊥ };
 

@@ -1,3 +1,4 @@
+pub mod Asked
 pub mod Change
 pub mod Disks
 pub mod Failures

@@ -2,6 +2,7 @@
 use Rattle.std.specs.Prelude.{◌≡◌, ℕ, ◌+◌, ◌-◌, ◌^◌, min, Bool, true, false, ◌||◌, not, List, slice_get, option_map, Option, Some, None, Result, Ok, Err}
 use Rattle.web_outside.specs.Views.{is_listed}
 use Rattle.web_disk.specs.View.{RackView}
+use Rattle.web_disk.specs.Asked.{asked_in}
 use Rattle.web_disk.specs.Failures.{failed_in}
 use Rattle.web_disk.specs.Disks.{memory_view, IsAnew, LeftBy}
 use Rattle.web_disk.specs.declared.wreck.Wreck.{Wreck}
@@ -52,7 +53,13 @@ is_lent rack number = is_empty (place_of rack number)
 
 -- a rack in memory tells its disks
 abbrev pub rack_view : MemoryRack → RackView
-rack_view rack = record { holds = may_hold rack; out = is_lent rack; faults = rack.faults; failed = failed_in rack.failed }
+rack_view rack = record {
+  holds = may_hold rack;
+  out = is_lent rack;
+  faults = rack.faults;
+  failed = failed_in rack.failed;
+  asked = asked_in rack.asked;
+}
 
 -- what is read of the disk of this number, if it is there
 abbrev pub bytes_at : MemoryRack → ℕ → Option (List ℕ)

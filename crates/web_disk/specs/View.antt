@@ -29,6 +29,8 @@ pub record RackView : Type 1 where
   pub faults : ℕ
   -- how often a take of the disk of a number failed, or a call of that disk, which counts once it was given back
   pub failed : ℕ → ℕ
+  -- the numbers of the disks that were asked for by a take, whatever it answered, in order
+  pub asked : List ℕ
 
 -- each image has this byte at this place
 abbrev pub IsSure : (List ℕ → Type 0) → ℕ → ℕ → Type 0

@@ -1,6 +1,7 @@
 //! A disk, what a crash may leave of it, and racks of disks, all of them in memory too: for the journal.
 #![tactic(auto)]
 
+mod asked;
 mod disk;
 mod failures;
 mod memory;
@@ -11,6 +12,7 @@ mod repeated;
 mod trace;
 mod wreck;
 
+pub use asked::Asked;
 pub use disk::Disk;
 pub use failures::Failures;
 pub use memory::MemoryDisk;

@@ -2,12 +2,13 @@ ghost use Rattle.std.specs.Prelude.{◌≡◌, ◌≢◌, ◌≤◌, ◌<◌, �
 ghost use Rattle.web_outside.specs.Causes.{Rose};
 ghost use Rattle.web_disk.specs.View.{AreAmong};
 ghost use Rattle.web_disk.specs.Disks.{memory_view};
+ghost use Rattle.web_disk.specs.Asked.{asked_in};
 ghost use Rattle.web_disk.specs.Failures.{failed_in};
 ghost use Rattle.web_disk.specs.Takes.{failed_after};
 ghost use Rattle.web_disk.specs.declared.rack.RackFault.TheVariants.{Failed as RackFailed};
 ghost use Rattle.web_disk.specs.Racks.{place_of, disk_in, emptied, may_hold, is_lent, rack_view, bytes_at, take_fails, faults_after_take, IsTakenFrom, SameRules};
 
-use crate::{Disk, Failures, MemoryDisk, Rack, RackFault, Wreck};
+use crate::{Asked, Disk, Failures, MemoryDisk, Rack, RackFault, Wreck};
 use std::alloc::{AllocError, Global};
 use std::mem;
 
@@ -21,6 +22,7 @@ pub struct MemoryRack {
     takes: u64,
     faults: u64,
     failed: Failures,
+    asked: Asked,
 }
 
 impl MemoryRack {
@@ -32,6 +34,7 @@ impl MemoryRack {
         ensures takes { result.takes ≡ 0 }
         ensures faults { result.faults ≡ 0 }
         ensures failed { (n : ℕ) → failed_in result.failed n ≡ 0 }
+        ensures asked { asked_in result.asked ≡ [] }
     {
         MemoryRack {
             disks: Vec::new(alloc),
@@ -40,6 +43,7 @@ impl MemoryRack {
             takes: 0,
             faults: 0,
             failed: Failures::new(),
+            asked: Asked::new(),
         }
     }
 
@@ -52,6 +56,7 @@ impl MemoryRack {
         ensures takes { self.new.takes ≡ self.old.takes }
         ensures faults { self.new.faults ≡ self.old.faults }
         ensures failed { self.new.failed ≡ self.old.failed }
+        ensures asked { self.new.asked ≡ self.old.asked }
     {
         self.disks.push(Some(disk))?;
         Ok(())
@@ -77,6 +82,7 @@ impl MemoryRack {
         ensures takes { self.new.takes ≡ self.old.takes }
         ensures faults { self.new.faults ≡ self.old.faults }
         ensures failed { self.new.failed ≡ self.old.failed }
+        ensures asked { self.new.asked ≡ self.old.asked }
     {
         let index = number as usize;
         if index >= self.disks.len() {
@@ -96,6 +102,7 @@ impl MemoryRack {
         ensures takes { self.new.takes ≡ self.old.takes }
         ensures faults { self.new.faults ≡ self.old.faults }
         ensures failed { self.new.failed ≡ self.old.failed }
+        ensures asked { self.new.asked ≡ self.old.asked }
     {
         let index = number as usize;
         if index < self.disks.len() {
@@ -115,6 +122,7 @@ impl MemoryRack {
         ensures counted { failed_in self.new.failed number ≡ failed_in self.old.failed number + 1 }
         ensures others { (n : ℕ) → n ≢ number →
             failed_in self.new.failed n ≡ failed_in self.old.failed n }
+        ensures asked { self.new.asked ≡ self.old.asked }
     {
         self.faults = self.faults.saturating_add(1);
         self.failed.count(number, 1);
@@ -155,9 +163,11 @@ impl Rack<MemoryDisk> for MemoryRack {
         ensures fails_only { IsErrOf result RackFault.Failed → take_fails self.old number ≡ true }
         ensures faults { self.new.faults ≡ faults_after_take result self.old.faults }
         ensures takes { self.new.takes ≡ min (self.old.takes + 1) (2 ^ 64 - 1) }
+        ensures asked { asked_in self.new.asked ≡ asked_in self.old.asked ++ number ∷ [] }
         ensures rules { SameRules self.old self.new }
     {
         let _ = directory;
+        self.asked.note(number);
         let take = self.takes;
         self.takes = take.saturating_add(1);
         if self.failing.contains(&take) {
@@ -191,6 +201,7 @@ impl Rack<MemoryDisk> for MemoryRack {
         ensures others_counted { (n : ℕ) → n ≢ number →
             failed_in self.new.failed n ≡ failed_in self.old.failed n }
         ensures takes { self.new.takes ≡ self.old.takes }
+        ensures asked { asked_in self.new.asked ≡ asked_in self.old.asked }
         ensures rules { SameRules self.old self.new }
     {
         let faults = disk.faults();

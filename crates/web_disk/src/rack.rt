@@ -1,4 +1,4 @@
-ghost use Rattle.std.specs.Prelude.{◌≡◌, ◌≢◌, ◌≤◌, ◌+◌, ◌-◌, ◌^◌, Bool, true, false, IsTrue, ℕ, min, IfOk, OnOk, OnErr, IsErrOf};
+ghost use Rattle.std.specs.Prelude.{◌≡◌, ◌≢◌, ◌≤◌, ◌+◌, ◌-◌, ◌^◌, ◌++◌, ◌∷◌, [], Bool, true, false, IsTrue, ℕ, min, IfOk, OnOk, OnErr, IsErrOf};
 ghost use Rattle.web_outside.specs.Causes.{Rose};
 ghost use Rattle.web_disk.specs.View.{RackView, AreAmong};
 ghost use Rattle.web_disk.specs.Takes.{failed_after};
@@ -63,6 +63,7 @@ pub trait Rack<D: Disk> {
         ensures failed { IsErrOf result RackFault.Failed →
             Rose (view self.old).faults (view self.new).faults }
         ensures later { (view self.old).faults ≤ (view self.new).faults }
+        ensures asked { (view self.new).asked ≡ (view self.old).asked ++ number ∷ [] }
         ensures counted { (view self.new).failed number
             ≡ failed_after result ((view self.old).failed number) }
         ensures others_counted { (n : ℕ) → n ≢ number →
@@ -78,6 +79,7 @@ pub trait Rack<D: Disk> {
         ensures others_out { (n : ℕ) → n ≢ number → (view self.new).out n ≡ (view self.old).out n }
         ensures faults { (view self.new).faults ≡ min
             ((view self.old).faults + (D.view disk).faults) (2 ^ 64 - 1) }
+        ensures asked { (view self.new).asked ≡ (view self.old).asked }
         ensures counted { (view self.new).failed number
             ≡ (view self.old).failed number + (D.view disk).faults }
         ensures others_counted { (n : ℕ) → n ≢ number →

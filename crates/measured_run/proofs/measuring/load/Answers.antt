@@ -20,6 +20,7 @@ loop-done-init g c =
       home = c.requires.home;
       later = omega arith;
       failed_later = λ n. omega arith;
+      asked = λ front first. first;
     }
 
 pub returns-in-Err-clause-measured : goal.returns-in-Err-clause-measured
@@ -49,6 +50,7 @@ loop-done-preserved g c =
       home = went.home;
       later = omega (arith, went.later, c.loop-done.invariant.later);
       failed_later = λ n. (let a = c.loop-done.invariant.failed_later n in let b = went.failed_later n in omega (arith, a, b));
+      asked = λ front first. went.asked front (c.loop-done.invariant.asked front first);
     }
 
 pub returns-clause-measured : goal.returns-clause-measured

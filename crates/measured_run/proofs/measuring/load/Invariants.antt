@@ -1,5 +1,5 @@
 use Rattle.std.proofs.Common.{◌≤◌, ◌<◌, ◌*◌, IsTrue}
-use Rattle.play_steps.specs.Rules.{StaysUp}
+use Rattle.play_steps.specs.Rules.{StaysFirst, StaysUp}
 use Rattle.play_steps.specs.Played.{spot}
 use Rattle.measured_run.specs.Generator.{source_of}
 use Rattle.measured_run.specs.Course.{shelves_of}
@@ -20,4 +20,5 @@ invariant-loop-done g l =
       home : stage.at_home l.stage l.devices;
       later : stage.faults l.initial.stage l.initial.devices ≤ stage.faults l.stage l.devices;
       failed_later : StaysUp (stage.failed l.initial.devices) (stage.failed l.devices);
+      asked : StaysFirst (stage.asked l.initial.devices) (stage.asked l.devices);
     }

@@ -36,6 +36,7 @@ steps-init g c =
       home = c.requires.home;
       devices_later = omega arith;
       failed_later = λ n. omega arith;
+      asked = λ front first. first;
     }
 
 pub returns-in-Over-clause-ended : goal.returns-in-Over-clause-ended
@@ -100,6 +101,7 @@ steps-preserved g c =
       home = went.home;
       devices_later = omega (arith, went.devices_later);
       failed_later = λ n. (let a = c.steps.invariant.failed_later n in let b = went.failed_later n in omega (arith, a, b));
+      asked = λ front first. went.asked front (c.steps.invariant.asked front first);
     }
 
 pub steps-smaller : goal.steps-smaller

@@ -1,6 +1,6 @@
 use Rattle.std.proofs.Common.{◌≡◌, ◌≤◌, ◌+◌, length, true}
 use Rattle.play_steps.specs.Step.{steps_of, is_told}
-use Rattle.play_steps.specs.Rules.{StaysUp}
+use Rattle.play_steps.specs.Rules.{StaysFirst, StaysUp}
 use Rattle.play_steps.specs.Played.{played, scene}
 use Rattle.play_steps.specs.Courses.{left_in}
 use Rattle.play_steps.proofs.Runs.{Reached}
@@ -21,6 +21,7 @@ invariant-steps g l =
       home : stage.at_home l.stage l.devices;
       devices_later : stage.faults l.initial.stage l.initial.devices ≤ stage.faults l.stage l.devices;
       failed_later : StaysUp (stage.failed l.initial.devices) (stage.failed l.devices);
+      asked : StaysFirst (stage.asked l.initial.devices) (stage.asked l.devices);
     }
 
 abbrev pub decreases-steps : goal.decreases-steps
