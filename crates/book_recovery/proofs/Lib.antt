@@ -1,4 +1,5 @@
 pub mod Longer
 pub mod Made
 pub mod Way
+pub mod Counted
 pub mod Took

@@ -1,5 +1,5 @@
 -- What a reader of records has made so far.
-use Rattle.std.specs.Prelude.{◌≡◌, ℕ, ◌+◌, Bool, true, false, List, [], ◌++◌, length, Option, Some, None, if◌then◌else◌, ⊤}
+use Rattle.std.specs.Prelude.{◌≡◌, ◌≤◌, ℕ, ◌+◌, ◌*◌, Bool, true, false, List, [], ◌++◌, length, Option, Some, None, if◌then◌else◌, ⊤}
 use Rattle.script_nodes.specs.Setup.{Named, Library}
 use Rattle.script_nodes.specs.Views.{scripts_of, library_of}
 use Rattle.script_nodes.specs.declared.setup.Setup.{Setup}
@@ -11,7 +11,7 @@ use Rattle.replay_spec.specs.Remade.{IsOrderlyMade}
 use Rattle.instance_book.specs.declared.in_order.InOrder.{InOrder}
 use Rattle.instance_book.specs.declared.book.Book.{Book}
 use Rattle.instance_book.specs.Orders.{numbers_of}
-use Rattle.instance_book.specs.Makes.{HasPlaces, HasItsStates, HasWhatIsGiven}
+use Rattle.instance_book.specs.Makes.{count_of, HasPlaces, HasItsStates, HasWhatIsGiven}
 use Rattle.instance_book.specs.Swept.{IsEmpty}
 use Rattle.instance_book.specs.Views.{book_of}
 use Rattle.instance_book.specs.Admissions.{book_under}
@@ -75,6 +75,16 @@ may_stand alone n (begins shelf named) = false
 may_stand alone n (changes c state) = has_script n c
 may_stand alone n (renews named) = false
 may_stand alone n (draws number) = alone
+
+-- a book has at most one instance for each five bytes up to a place
+abbrev pub HasFew : (place : ℕ) → Found → Type 0
+HasFew place (found.Made b library) = 5 * count_of b ≤ place
+HasFew place _ = ⊤
+
+-- the new book, if there is one, has at most one instance more
+abbrev pub CountsOneMore : (old : Book) → Option Book → Type 0
+CountsOneMore old None = ⊤
+CountsOneMore old (Some new) = count_of new ≤ count_of old + 1
 
 -- a record makes the new book of the old one, where its state can be read; where it can't be, there is no book
 abbrev pub IsMadeOf : Library → InOrder (Unit {0}) → Record → (old : Book) → Option Book → Type 0

@@ -1,12 +1,12 @@
-ghost use Rattle.std.specs.Prelude.{◌≡◌, ◌<◌, ◌≤◌, ◌+◌, ◌^◌, [], length, false, true, map, IfOk, IfSome, OnOk};
+ghost use Rattle.std.specs.Prelude.{◌≡◌, ◌<◌, ◌≤◌, ◌+◌, ◌*◌, ◌^◌, [], length, false, true, map, IfOk, IfSome, OnOk};
 ghost use Rattle.script_nodes.specs.Views.{library_of};
 ghost use Rattle.replay_spec.specs.Recovery.{is_repeated};
-ghost use Rattle.instance_book.specs.Makes.{HasPlaces};
+ghost use Rattle.instance_book.specs.Makes.{count_of, HasPlaces};
 ghost use Rattle.instance_book.specs.Redo.{number_by};
 ghost use Rattle.journal_records.specs.Records.{IsInGrammar};
 ghost use Rattle.journal_records.specs.Views.{logged_of, script_of};
 ghost use Rattle.book_recovery.specs.Found.{HasStates};
-ghost use Rattle.book_recovery.specs.Reading.{may_stand, SeesNumber, Sees, IsUnderWay, IsMadeOf, GivesWith, KeepsOwnWith, IsKept, IsSoundReader, IsSameReader, IsTaken, seen_by, Renews, Begins};
+ghost use Rattle.book_recovery.specs.Reading.{may_stand, HasFew, CountsOneMore, SeesNumber, Sees, IsUnderWay, IsMadeOf, GivesWith, KeepsOwnWith, IsKept, IsSoundReader, IsSameReader, IsTaken, seen_by, Renews, Begins};
 ghost use Rattle.book_recovery.specs.declared.found.Found.TheVariants as found;
 
 use crate::found::Found;
@@ -95,10 +95,12 @@ impl Reader {
         requires fits { IsInGrammar (logged_of logged) }
         requires kept { IsUnderWay
             self.old.shelf self.old.alone self.old.seen book (library_of library.now) }
+        requires few { count_of book + 1 < 2 ^ 32 }
         ensures made { IfOk result
             (IsMadeOf (library_of library.now) self.old.seen (logged_of logged) book) }
         ensures placed { IfOk result
             (λ found. IfSome found (HasPlaces (library_of library.now).all)) }
+        ensures count { IfOk result (CountsOneMore book) }
         ensures sees { OnOk result (Sees (logged_of logged) self.old.seen self.new.seen) }
         ensures same { IsSameReader self.old self.new }
     {
@@ -132,6 +134,8 @@ impl Reader {
         requires kept { IsUnderWay
             self.old.shelf self.old.alone self.old.seen book (library_of library) }
         requires room { place + 6 + length body.now ≤ 2 ^ 30 }
+        requires few { 5 * count_of book ≤ place }
+        ensures few { HasFew (place + 5 + length body.now) result }
         ensures gives { GivesWith self.old.shelf place body.now self.old.alone
             (found.Made book library) false result self.old.seen self.new.seen }
         ensures owns { KeepsOwnWith self.old.seen (found.Made book library) body.now result }
@@ -177,6 +181,7 @@ impl Reader {
 
     // What the first record makes.
     fn first(&self, place: u64, body: &[u8]) -> Found
+        ensures few { HasFew (place + 5 + length body.now) result }
         ensures gives { GivesWith self.now.shelf place body.now self.now.alone found.Nothing true
             result self.now.seen self.now.seen }
         ensures owns { HasStates result }
@@ -194,10 +199,13 @@ impl Reader {
         Found::Damaged { place }
     }
 
-    /// Takes the body of the record whose gate is at this place.
+    /// Takes the body of the record whose gate is at this place. The book so far has at most one instance for each five bytes up to
+    /// there, as each was told by a record.
     pub fn take(&mut self, place: u64, body: &[u8])
         requires sound { IsSoundReader self.old }
         requires room { place + 6 + length body.now ≤ 2 ^ 30 }
+        requires few { HasFew place self.old.found }
+        ensures few { HasFew (place + 5 + length body.now) self.new.found }
         ensures taken { IsTaken self.old place body.now self.new }
         ensures sound { IsSoundReader self.new }
     {

@@ -67,9 +67,11 @@ impl SoundReader {
 }
 
 impl Take for SoundReader {
-    ghost use Rattle.book_recovery.specs.Reading.{IsTaken};
+    ghost use Rattle.book_recovery.specs.Reading.{HasFew, IsTaken};
 
     ghost takes = { IsTaken };
+
+    ghost ready = { λ r place. HasFew place r.found };
 
     fn body(&mut self, place: u64, body: &[u8]) {
         self.reader.take(place, body);

@@ -85,11 +85,12 @@ abbrev pub GoesOnBySource : Source ⊤ → List Named → spec.Book → Place �
 GoesOnBySource (own every) all b at t = IsFor all t (page_visit b (ticket_of t) at)
 GoesOnBySource (given states) all b at t = GoesOnGiven states at t
 
--- the ticket's script is one of these, and what it goes on from fits it, so its segment can be run
+-- the ticket's script is one of these, and what it goes on from fits it and can be written, so its segment can be run
 pub record IsRunnable (all : List Named) (t : Ticket) : Type 0 where
   pub named : Named
   pub script : slice_get all t.script ≡ Some named
   pub from : IsOriginOf named t.from
+  pub stored : IsStoredOrigin named t.from
 
 -- where the target is admitted as a start, the ticket is for the visit
 abbrev pub FitsIfStart : List Named → spec.Book → Ticket → Admission → Type 0

@@ -2,7 +2,7 @@ ghost use Rattle.std.specs.Prelude.{◌≡◌, ◌<◌, ◌^◌, List, Some, Non
 ghost use Rattle.script_nodes.specs.Setup.{Named};
 ghost use Rattle.script_nodes.specs.Views.{named_of, library_of};
 ghost use Rattle.replay_spec.specs.Book as spec;
-ghost use Rattle.instance_book.specs.Views.{IsTicketFor};
+ghost use Rattle.instance_book.specs.Views.{IsTicketFor, script_in};
 ghost use Rattle.instance_book.specs.Fits.{IsRunnable};
 ghost use Rattle.instance_book.specs.Makes.{count_of, Makes, StaysSame, HasPlaces, KeepsPlaces, HasItsStates, HasSomeStates, HasWhatIsGiven, KeepsStates};
 ghost use Rattle.instance_book.specs.Admissions.{IsPlacedAt, IsKeptSome, named_if, script_at, HasCellsBy, FitsStartIn, FitsWhereKept, GoesOnAsGiven, GoesOnStored, admission_for, refusal_for, IsRefusalFor, FitsInKept, StartsIn, BeginsAt, HasFew};
@@ -84,6 +84,15 @@ impl Book {
     {
         let instance = self.instances.instance(instance)?;
         script_of(library, instance)
+    }
+
+    /// The place of an instance's script among all, where there is a live one of this number. It takes no memory.
+    pub fn script_place(&self, instance: u64) -> Option<usize>
+        ensures { (all : List Named)
+            → option_map (script_in all) result ≡ script_at all instance self.now }
+    {
+        let instance = self.instances.instance(instance)?;
+        Some(instance.item.script)
     }
 
     /// Whether a target is admitted, and else why not. It takes no memory.

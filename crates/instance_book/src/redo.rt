@@ -1,4 +1,4 @@
-ghost use Rattle.std.specs.Prelude.{◌≡◌, ◌<◌, ◌≤◌, ◌^◌, false, true, Some, None, map, option_map, IfOk, IfSome, IfNone, OnOk};
+ghost use Rattle.std.specs.Prelude.{◌≡◌, ◌<◌, ◌≤◌, ◌+◌, ◌^◌, false, true, Some, None, map, option_map, IfOk, IfSome, IfNone, OnOk};
 ghost use Rattle.script_nodes.specs.Arena.{script_of};
 ghost use Rattle.script_nodes.specs.Setup.{Library as Scripts};
 ghost use Rattle.script_nodes.specs.Views.{library_of, named_of};
@@ -14,7 +14,7 @@ ghost use Rattle.journal_records.specs.Records.{IsInGrammar, EndingFits, FinishF
 ghost use Rattle.journal_records.specs.Views.{origin_of, page_change, ending_of, finish_of, logged_of};
 ghost use Rattle.instance_book.specs.Views.{used_of};
 ghost use Rattle.instance_book.specs.Places.{arena_of, AreStatesOf};
-ghost use Rattle.instance_book.specs.Makes.{Makes, HasPlaces, HasSomeStates, KeepsPlaces, KeepsStates};
+ghost use Rattle.instance_book.specs.Makes.{count_of, Makes, HasPlaces, HasSomeStates, KeepsPlaces, KeepsStates};
 ghost use Rattle.instance_book.specs.Changes.{HasRoomFor, KeepsPlacesBy, KeepsStatesBy};
 ghost use Rattle.instance_book.specs.Redo.{Counts, LandsAs, are_held, IsStateTold, IsBeforeIn, IsAnswerTold, HasNoAnswer, EndsIn, IsFree, IsLanded, Reopens, number_by, IsRedoneBy, StaysLow, IsBeginning, OpensAt, KeepsPlacesAt, KeepsStatesOpened, takes_record, IsAnswered, IsLandedRecord, opens_on};
 
@@ -227,7 +227,8 @@ impl Book {
         told: PageRecord,
         page: ShownState,
     ) -> Result<(), AllocError>
-        requires { told.ticket < 2 ^ 62 }
+        requires number { told.ticket < 2 ^ 62 }
+        requires few { count_of self.old + 1 < 2 ^ 32 }
         ensures opens { OnOk result
             (OpensAt begins.entry.place (named_of begins.entry.script.now) told page
             self.old self.new) }
@@ -243,9 +244,6 @@ impl Book {
         if !can_open(&cells, &told) {
             self.pass_over(number);
             return Ok(());
-        }
-        if self.instances.len() >= u32::MAX as usize {
-            return Err(AllocError);
         }
         let opening = self.opened(alloc, begins.place, &cells, told, page)?;
         self.land(Change::Opens(opening), number);
@@ -266,6 +264,7 @@ impl Book {
     ) -> Result<bool, AllocError>
         requires number { told.ticket < 2 ^ 62 }
         requires start { origin_of told.origin ≡ start script }
+        requires few { count_of self.old + 1 < 2 ^ 32 }
         requires placed { HasPlaces (library_of library.now).all self.old }
         ensures landed { IfOk result (λ read. IsLanded (library_of library.now)
             (page_change told) (Some state) again read self.old self.new) }
@@ -375,6 +374,7 @@ impl Book {
         again: bool,
     ) -> Result<bool, AllocError>
         requires number { told.ticket < 2 ^ 62 }
+        requires few { count_of self.old + 1 < 2 ^ 32 }
         requires placed { HasPlaces (library_of library.now).all self.old }
         requires kept { HasSomeStates (library_of library.now).all self.old }
         requires free { again ≡ false
@@ -513,6 +513,7 @@ impl Book {
     ) -> Result<bool, AllocError>
         requires fits { IsInGrammar (logged_of logged) }
         requires unnumbered { number_by (logged_of logged) ≡ None → again ≡ false }
+        requires few { count_of self.old + 1 < 2 ^ 32 }
         requires placed { HasPlaces (library_of library.now).all self.old }
         requires kept { HasSomeStates (library_of library.now).all self.old }
         requires free { again ≡ false
@@ -550,6 +551,7 @@ impl Book {
 
     /// Makes what a record tells again, or passes it over, as recovery decides; one of a number that was seen before is passed over. The
     /// book is then as after a crash. A start is of the script of its place in the present setup. A record of a setup makes no change.
+    /// It asks for a book that one instance more leaves countable in 32 bits.
     ///
     /// Whether its state could be read: false where its bytes are no state of the page's script, and the book is then as it was.
     /// Where memory runs out, the book is to be given up.
@@ -563,6 +565,7 @@ impl Book {
         requires fits { IsInGrammar (logged_of logged) }
         requires unnumbered { number_by (logged_of logged) ≡ None → again ≡ false }
         requires low { self.old.logged ≤ 2 ^ 62 }
+        requires few { count_of self.old + 1 < 2 ^ 32 }
         requires placed { HasPlaces (library_of library.now).all self.old }
         requires kept { HasSomeStates (library_of library.now).all self.old }
         requires free { again ≡ false

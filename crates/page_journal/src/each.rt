@@ -30,10 +30,15 @@ pub trait Take {
     /// What one record makes of the taker.
     ghost takes: { Self → ℕ → List ℕ → Self → Type 0 };
 
+    /// What holds of the taker where the next gate is at this place.
+    ghost ready: { Self → ℕ → Type 0 };
+
     /// Takes the body of the record whose gate is at this place. A closed gate has room behind it.
     fn body(&mut self, place: u64, body: &[u8])
-        requires { place + 6 + length body.now ≤ 2 ^ 30 }
-        ensures { takes self.old place body.now self.new };
+        requires room { place + 6 + length body.now ≤ 2 ^ 30 }
+        requires ready { ready self.old place }
+        ensures takes { takes self.old place body.now self.new }
+        ensures ready { ready self.new (place + 5 + length body.now) };
 }
 
 // Reads this many bytes into the buffer.
@@ -60,10 +65,11 @@ fn read_body<D: Disk>(
 }
 
 impl<D: Disk> Journal<D> {
-    /// Hands on each record, in order. It takes no memory.
+    /// Hands on each record, in order, to a taker that is ready for the first gate. It takes no memory.
     pub fn for_each<T: Take>(&mut self, taker: &mut T) -> Result<(), DiskFault>
         requires sound { IsSound self.old }
         requires settled { IsTrue D.tells → IsSettled D.view self.old }
+        requires ready { T.ready taker.old 8 }
         ensures taken { IsTrue D.tells →
             OnOk result (TakesAll T.takes taker.old 8 (bodies_in D.view self.old) taker.new) }
         ensures front { IsTrue D.tells →

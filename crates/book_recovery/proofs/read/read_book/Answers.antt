@@ -5,9 +5,12 @@ use Rattle.setup_reader.specs.Texts.{setup_of_texts}
 use Rattle.journal_spec.specs.Making.{book_of}
 use Rattle.book_recovery.specs.declared.found.Found.{Found}
 use Rattle.book_recovery.specs.Found.{Finds, IsFoundInOrder, HasStates}
-use Rattle.book_recovery.specs.Reading.{Gives}
+use Rattle.book_recovery.specs.Reading.{Gives, HasFew}
 use Rattle.book_recovery.proofs.Took.{all_bytes, owned_of_all, taken_all, finds, in_order}
 use Rattle.book_recovery.proofs.read.read_book.Goals as goal
+
+pub for_each-requires-clause-ready : goal.for_each-requires-clause-ready
+for_each-requires-clause-ready g c = subst (λ (f : Found). HasFew 8 f) (sym c.new-reader.ensures.found) tt
 
 pub returns-clause-found : goal.returns-clause-found
 returns-clause-found g c told =

@@ -1,4 +1,4 @@
-use Rattle.std.proofs.Common.{◌≡◌, ◌∙◌, ap, sym, subst, map, List, Some, option_map}
+use Rattle.std.proofs.Common.{◌≡◌, ◌+◌, ◌∙◌, ap, sym, subst, map, List, length, Some, option_map}
 use Rattle.script_nodes.specs.declared.library.ScriptText.{ScriptText}
 use Rattle.setup_reader.proofs.Retold.{setup_kept}
 use Rattle.journal_records.specs.Records.{begins}
@@ -7,6 +7,7 @@ use Rattle.journal_records.specs.Views.{logged_of, script_of}
 use Rattle.journal_records.specs.declared.records.Logged.{Logged}
 use Rattle.book_recovery.specs.Reading.{Begins}
 use Rattle.book_recovery.proofs.Way.{first_gives, first_kept, first_states}
+use Rattle.book_recovery.proofs.Counted.{begun_few}
 use Rattle.book_recovery.proofs.reader.Reader.first.Goals as goal
 
 pub returns-in-Begin-clause-gives : goal.returns-in-Begin-clause-gives
@@ -28,3 +29,8 @@ returns-in-Begin-clause-owns c =
 pub returns-in-Begin-clause-kept : goal.returns-in-Begin-clause-kept
 returns-in-Begin-clause-kept c none =
     first_kept c.args.self.now.shelf c.args.place c.in-Begin.shelf (map script_of c.deref.result.now) c.args.self.now.seen c.begun.result setup_kept c.begun.ensures none
+
+pub returns-in-Begin-clause-few : goal.returns-in-Begin-clause-few
+returns-in-Begin-clause-few c =
+    begun_few c.args.self.now.shelf c.args.place c.in-Begin.shelf (map script_of c.deref.result.now) c.begun.result c.begun.ensures
+    (c.args.place + 5 + length c.args.body.now)

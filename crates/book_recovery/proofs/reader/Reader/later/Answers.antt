@@ -1,18 +1,19 @@
-use Rattle.std.proofs.Common.{◌≡◌, ◌∙◌, ap, sym, subst, ℕ, true, map, List, length, Option, Some, None, IfSome, option_map}
+use Rattle.std.proofs.Common.{◌≡◌, ◌≤◌, ◌+◌, ◌∙◌, ap, sym, subst, arith, ℕ, true, map, List, length, Option, Some, None, IfSome, option_map}
 use Rattle.script_nodes.specs.Views.{library_of}
 use Rattle.script_nodes.specs.declared.library.ScriptText.{ScriptText}
 use Rattle.setup_reader.proofs.Retold.{setup_kept}
 use Rattle.instance_book.specs.declared.book.Book.{Book}
-use Rattle.instance_book.specs.Makes.{HasPlaces}
+use Rattle.instance_book.specs.Makes.{count_of, HasPlaces}
 use Rattle.instance_book.proofs.Redone.{of_some}
 use Rattle.journal_records.specs.Laws.{IsBodyOf}
 use Rattle.journal_records.specs.Records.{renews}
 use Rattle.journal_records.specs.Reading.{read_record}
 use Rattle.journal_records.specs.Views.{logged_of, script_of}
 use Rattle.journal_records.specs.declared.records.Logged.{Logged}
-use Rattle.book_recovery.specs.Reading.{may_stand, IsMadeOf, IsOwnBehind, Renews}
+use Rattle.book_recovery.specs.Reading.{may_stand, CountsOneMore, IsMadeOf, IsOwnBehind, Renews}
 use Rattle.book_recovery.proofs.Made.{later_made, later_damaged}
 use Rattle.book_recovery.proofs.Way.{is_nine, later_way, later_owns, renewed_gives, renewed_kept, renewed_states}
+use Rattle.book_recovery.proofs.Counted.{renewed_few}
 use Rattle.book_recovery.proofs.reader.Reader.later.Goals as goal
 
 pub returns-in-Texts-clause-gives : goal.returns-in-Texts-clause-gives
@@ -89,3 +90,17 @@ returns-in-Ok-None-redo-clause-gives c m is =
     let v = c.in-Ok-None-redo in
     let made : IsMadeOf l old.seen r c.args.book None = subst (λ (o : Option Book). IsMadeOf l old.seen r c.args.book o) v.field-0-is v.ensures.made in
     later_damaged old.shelf c.args.place c.args.body.now l old.alone old.seen c.args.book r reads stands made m is
+
+pub redo-requires-clause-few : goal.redo-requires-clause-few
+redo-requires-clause-few c = omega (arith, c.requires.few, c.requires.room)
+
+pub returns-in-Texts-clause-few : goal.returns-in-Texts-clause-few
+returns-in-Texts-clause-few c =
+    renewed_few c.args.place c.args.book (library_of c.args.library) (map script_of c.deref.result.now) c.renewed.result c.renewed.ensures c.args.place (c.args.place + 5 + length c.args.body.now)
+    (omega arith) c.requires.few
+
+pub returns-in-Ok-Some-redo-clause-few : goal.returns-in-Ok-Some-redo-clause-few
+returns-in-Ok-Some-redo-clause-few c =
+    let v = c.in-Ok-Some-redo in
+    let more : count_of v.book ≤ count_of c.args.book + 1 = subst (CountsOneMore c.args.book) v.field-0-is v.ensures.count in
+    omega (arith, more, c.requires.few)

@@ -46,4 +46,4 @@ returns-clause-told c states kept =
     }
 
 pub returns-clause-runs : goal.returns-clause-runs
-returns-clause-runs c = record { named = named_of c.args.place.script.now; script = c.requires.placed; from = c.in_ok-origin_at.ensures.fits }
+returns-clause-runs c = record { named = named_of c.args.place.script.now; script = c.requires.placed; from = c.in_ok-origin_at.ensures.fits; stored = c.in_ok-origin_at.ensures.stored }

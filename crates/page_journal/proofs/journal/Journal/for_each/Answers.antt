@@ -11,6 +11,7 @@ gates-init g c = record {
       let settled = c.requires.settled told in
       takes_none g.T.Take.takes c.args.taker.now _ settled.file (omega (arith, settled.end, settled.fits));
   handing = record { done = []; here = refl {A = ℕ}; fits = omega arith; taken = refl };
+  ready = c.requires.ready;
   quiet = quiet_none _ (g.met.D.Disk.only_now c.args.self.now.disk);
   end = refl {A = ℕ};
   broken = refl;
@@ -37,9 +38,13 @@ gates-preserved g c = record {
       let found = subst (λ f. IsFound (g.D.Disk.view c.gates.self.disk).seen c.gates.place f) c.in-Next.is (c.in_ok-look.ensures.found told) in
       let bytes = c.deref.ensures.value ∙ c.in_ok-read_body-in-Next.ensures.bytes told ∙ ap (λ (l : List ℕ). take c.in-Next.size (drop (c.gates.place + 5) l)) (c.look.ensures.quiet.seen ∙ same) in
       takes_one g.T.Take.takes c.args.taker.now _ c.gates.place c.in-Next.size _ c.gates.taker c.body.new.self c.deref.result.now (c.gates.invariant.taking told)
-      (subst (λ (l : List ℕ). HasRecord l c.gates.place c.in-Next.size) same found) bytes c.body.ensures (omega arith);
+      (subst (λ (l : List ℕ). HasRecord l c.gates.place c.in-Next.size) same found) bytes c.body.ensures.takes (omega arith);
   handing = handed_one g.T.Take.takes c.args.taker.now c.gates.place c.in-Next.size _ c.gates.taker c.body.new.self (c.gates.invariant.handing) (ap length c.deref.ensures.value ∙ c.in_ok-read_body-in-Next.ensures.size)
-      (subst (λ f. IsWithin c.gates.place (c.args.self.now.end + 1) f) c.in-Next.is c.in_ok-look.ensures.within).0 c.body.ensures;
+      (subst (λ f. IsWithin c.gates.place (c.args.self.now.end + 1) f) c.in-Next.is c.in_ok-look.ensures.within).0 c.body.ensures.takes;
+  ready =
+      let long : length c.deref.result.now ≡ c.in-Next.size = ap length c.deref.ensures.value ∙ c.in_ok-read_body-in-Next.ensures.size in
+      let next : c.gates.place + 5 + length c.deref.result.now ≡ c.gates.place + (5 + c.in-Next.size) = omega (arith, long) in
+      subst (λ (n : ℕ). g.T.Take.ready c.body.new.self n) next c.body.ensures.ready;
   quiet = quiet_then _ _ _ c.gates.invariant.quiet (quiet_then _ _ _ c.look.ensures.quiet c.read_body.ensures.quiet);
   end = c.gates.invariant.end;
   broken = c.gates.invariant.broken;
