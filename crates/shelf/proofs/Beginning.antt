@@ -99,6 +99,7 @@ module _ {D : Type 0} (view : D → View) (tells : Bool) (scripts : List Named) 
             opened = ap (opened_on shelf scripts) (none told);
             is = omega (arith, at_first told);
             long = long;
+            another = λ y is. absurd (let no : None ≡ Some y = sym (ap made_in (none told)) ∙ is in let never : ⊥ = cc in never);
           };
           quiet = λ told some. some_not told some;
           keeps = λ told no. inl (refl, (refl, λ image left. left));

@@ -121,6 +121,7 @@ landed_at l old new t p same h =
       deadline = h.deadline;
       state = h.state;
       held = held_same old new t (target_of t.target) (segment_of h.segment).effects same h.held;
+      whole = h.whole;
       own = subst (λ (b : Book). FitsAs l.all b t (admit b (target_of t.target)) → KeepsStateAs b t (admit b (target_of t.target)) h.segment) there h.own;
     }
 

@@ -58,14 +58,14 @@ use Rattle.instance_book.specs.Prepares.{rules_with, KeepsStateOf, IsChangeBy, I
 use Rattle.shelf.specs.declared.shelf.Shelf.{Shelf}
 use Rattle.shelf.specs.declared.doubt.Doubt as doubt_type
 use Rattle.shelf.specs.Views.{unmeasured, rules_of, doubt_of, doubt_by, library_in, beside_of, book_in, fate_by, IsInOrder}
-use Rattle.shelf.specs.Holding.{IsWhole, IsWholeIn}
+use Rattle.shelf.specs.Holding.{IsWhole, IsWholeFrom, IsWholeIn}
 use Rattle.shelf.specs.Preparing.{CanBeLanded}
 use Rattle.shelf.specs.Recording.{refusal_of_size, CanBeWritten, IsBody, IsWritten, state_in, behind_in, told_in, IsKeptIn, BindsIn}
 use Rattle.shelf.proofs.Beside.{admit_same, fits_at}
 use Rattle.shelf.proofs.Landed as landed
 use Rattle.shelf.proofs.Publishing.{told, unwritten, replies_is, records_is}
 use Rattle.shelf.proofs.Sizes.{not_refused, size_is}
-use Rattle.shelf.proofs.Shown.{kept_in, GoesHere, behind_told, shown_given}
+use Rattle.shelf.proofs.Shown.{kept_in, whole_from, GoesHere, behind_told, shown_given}
 use Rattle.shelf.proofs.Stated.{start_shows, answer_shows, state_left, state_beside, before_left, before_beside}
 use Rattle.shelf.proofs.Steps as steps
 use Rattle.shelf.proofs.Steps.{Comes, short_enough}
@@ -253,6 +253,9 @@ module _ {D N : Type 0} (view : D → View) (tells : Bool) (s : Shelf D N) (orde
 
     pub kept_there : IsKeptIn t c
     kept_there = kept_in t can.segment target c (subst (KeepsStateOf t can.segment target) some can.state)
+
+    pub whole_there : IsWholeFrom l.all t c
+    whole_there = whole_from l.all t can.segment target c (subst (KeepsStateOf t can.segment target) some can.state) can.whole
 
     -- it would be taken in again, with the state that is told
     abbrev pub its_told : Told

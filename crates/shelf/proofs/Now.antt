@@ -41,26 +41,11 @@ same_run : EffectsHoldRunSame → (v : Visit) (fuel : ℕ) (before now : List Va
 same_run law v fuel before now holds =
     law v.script.script (map (answered (home_of v)) v.pages) (next.newest v (recorded [])) (pages_past (home_of v) v.pages) fuel before now holds
 
--- a run's effects hold over the cells that it ran over
-run_holds : EffectsHold → (v : Visit) (fuel : ℕ) (over : List Val) → Holds (comes_to v (present over fuel)).effects over
-run_holds law v fuel over = law v.script.script (map (answered (home_of v)) v.pages) (next.newest v (recorded [])) (pages_past (home_of v) v.pages) fuel over
-
--- a run's effects are on the cells of its script
-on_cells : EffectsAreOnCells → (v : Visit) (reads : Reads) (n : ℕ) → AllOnCells (length v.script.script.web) (length v.script.script.cells) (trees_of v.script.script)
-    → n ≡ length v.script.script.cells → AreOn n (comes_to v reads).effects
-on_cells law v reads n whole e =
-    subst (λ m. AreOn m (comes_to v reads).effects) (sym e) (law v.script.script (tape_for v reads) (length v.script.script.web) (length v.script.script.cells) whole)
-
 module _ (all : List Named) (b : Book) (t : Ticket) (name : List ℕ) (a : Arena) (i : IsScript a) (named : Named) (its : named.script ≡ script_of a) (found : slice_get all t.script ≡ Some named) (fuel : ℕ) (over : List Val) (r : Segment)
     (is : IsRunOver all fuel t over r) where
   -- the run of the visit that the ticket is for
   run_as : (v : Visit) → v.ticket ≡ ticket_of t → IsFor all t v → IsLike v over fuel r
   run_as v e fits = run_like all t a i named its found fuel over r is v e fits
-
-  whole_of : (v : Visit) → IsFor all t v → AllOnCells (length named.script.web) (length named.script.cells) (trees_of named.script)
-      → AllOnCells (length v.script.script.web) (length v.script.script.cells) (trees_of v.script.script)
-  whole_of v fits whole =
-      subst (λ (s : Named). AllOnCells (length s.script.web) (length s.script.cells) (trees_of s.script)) (same_Some named v.script (sym found ∙ fits.script)) whole
 
   -- its state, where the target is admitted
   pub keeps_state : (adm : Admission) → FitsAs all b t adm → KeepsStateAs b t adm r
@@ -75,25 +60,6 @@ module _ (all : List Named) (b : Book) (t : Ticket) (name : List ℕ) (a : Arena
       (run_as v refl fits.run).comes ∙ ap (λ (vs : List Val). comes_to v (present vs fuel)) (own ∙ fits.cells)
   start_segment (resumes at) e fits own = absurd (start_is_no_page b name at e)
   start_segment (refused why) e fits own = tt
-
-  -- the effects of its run are on its cells
-  pub start_on : EffectsAreOnCells → (adm : Admission) → AllOnCells (length named.script.web) (length named.script.cells) (trees_of named.script)
-      → admit b (start name) ≡ adm → refusal_of adm ≡ None → FitsAs all b t adm → AreOn (length t.cells) (segment_of r).effects
-  start_on law (begins k x) whole e ok fits =
-      let v = start_visit b (ticket_of t) k x in
-      subst (λ (s : eval.Segment). AreOn (length t.cells) s.effects) (sym (run_as v refl fits.run).comes)
-      (on_cells law v (present over fuel) (length t.cells) (whole_of v fits.run whole) (ap (λ (vs : List Val). length vs) fits.cells))
-  start_on law (resumes at) whole e ok fits = absurd (start_is_no_page b name at e)
-  start_on law (refused why) whole e ok fits = absurd (cc)
-
-  -- and hold over them
-  pub start_holds : EffectsHold → (adm : Admission) → admit b (start name) ≡ adm → refusal_of adm ≡ None → FitsAs all b t adm → over ≡ t.cells → Holds (segment_of r).effects t.cells
-  start_holds law (begins k x) e ok fits own =
-      let v = start_visit b (ticket_of t) k x in
-      subst (λ (s : eval.Segment). Holds s.effects t.cells) (sym (run_as v refl fits.run).comes)
-      (subst (λ (vs : List Val). Holds (comes_to v (present over fuel)).effects vs) own (run_holds law v fuel over))
-  start_holds law (resumes at) e ok fits own = absurd (start_is_no_page b name at e)
-  start_holds law (refused why) e ok fits own = absurd (cc)
 
   module _ (n : PageName) (cells : List Val) (here : cells_in n.instance b ≡ Some cells) where
     its_cells : (at : Place) → admit b (page name n) ≡ resumes at → cells ≡ at.instance.cells
@@ -116,26 +82,13 @@ module _ (all : List Named) (b : Book) (t : Ticket) (name : List ℕ) (a : Arena
         first ∙ (sym again ∙ ap (λ (vs : List Val). comes_to v (present vs fuel)) (its_cells at e))
     held_segment law (refused why) e fits holds = tt
 
-    -- the effects of its run are on the cells of its instance
-    pub page_on : EffectsAreOnCells → (adm : Admission) → AllOnCells (length named.script.web) (length named.script.cells) (trees_of named.script) → HaveTheirCells b
-        → admit b (page name n) ≡ adm → refusal_of adm ≡ None → FitsAs all b t adm → AreOn (length cells) (segment_of r).effects
-    page_on law (begins k x) whole theirs e ok fits = absurd (page_is_no_start b name n k x e)
-    page_on law (resumes at) whole theirs e ok fits =
-        let v = page_visit b (ticket_of t) at in
-        let many : length cells ≡ length at.instance.script.script.cells =
-        ap (λ (vs : List Val). length vs) (its_cells at e) ∙ theirs n.instance at.instance (page_stands b name n at e).here in
-        subst (λ (s : eval.Segment). AreOn (length cells) s.effects) (sym (run_as v refl fits).comes) (on_cells law v (present over fuel) (length cells) (whole_of v fits whole) many)
-    page_on law (refused why) whole theirs e ok fits = absurd (cc)
-
-    -- so they are held by these where they hold over them
-    pub page_held : EffectsAreOnCells → (d : Destination) → d ≡ page name n → AllOnCells (length named.script.web) (length named.script.cells) (trees_of named.script) → HaveTheirCells b
-        → refusal_of (admit b d) ≡ None → FitsAs all b t (admit b d) → HoldIn b d (segment_of r).effects → AreHeld (segment_of r).effects cells
-    page_held law d e whole theirs ok fits hold =
-        let over : HoldIn b (page name n) (segment_of r).effects = subst (λ (x : Destination). HoldIn b x (segment_of r).effects) e hold in
-        record {
-          on = page_on law (admit b d) whole theirs (ap (admit b) (sym e)) ok fits;
-          hold = of_some (cells_in n.instance b) cells (λ vs. Holds (segment_of r).effects vs) here over;
-        }
+    -- the instance has as many cells as the script of a ticket that fits
+    pub same_count : HaveTheirCells b → (adm : Admission) → admit b (page name n) ≡ adm → refusal_of adm ≡ None → FitsAs all b t adm → length named.script.cells ≡ length cells
+    same_count theirs (begins k x) e ok fits = absurd (page_is_no_start b name n k x e)
+    same_count theirs (resumes at) e ok fits =
+        let mine : named ≡ at.instance.script = same_Some named at.instance.script (sym found ∙ fits.script) in
+        ap (λ (x : Named). length x.script.cells) mine ∙ (sym (theirs n.instance at.instance (page_stands b name n at e).here) ∙ ap (λ (vs : List Val). length vs) (sym (its_cells at e)))
+    same_count theirs (refused why) e ok fits = absurd (cc)
 
 -- where the instance is gone, nothing is admitted
 pub gone_segment : (b : Book) (t : Ticket) (name : List ℕ) (n : PageName) (fuel : ℕ) (s : eval.Segment) (a : Admission) → cells_in n.instance b ≡ None → admit b (page name n) ≡ a → IsSegmentOf fuel b t a s

@@ -1,26 +1,32 @@
 -- A shelf that was opened on a disk.
-use Rattle.std.proofs.Common.{◌≡◌, ◌≢◌, inl, inr, ⊎_elim, ℕ, Bool, false, List, ◌++◌, Option, None, option_map, IsTrue, sym, ◌∙◌, ap, subst, append-nil}
+use Rattle.std.proofs.Common.{◌≡◌, ◌≢◌, inl, inr, ⊎_elim, ℕ, Bool, false, List, [], ◌++◌, Option, None, option_map, IsTrue, sym, ◌∙◌, ap, subst, arith, append-nil}
 use Rattle.setup_reader.specs.Texts.{setup_of_texts as texts}
 use Rattle.script_nodes.specs.Setup.{Named}
 use Rattle.web_disk.specs.View.{View, LeavesOnly}
-use Rattle.page_journal.specs.Records.{at_rest, stored}
+use Rattle.page_journal.specs.Records.{at_rest, records, stored}
 use Rattle.page_journal.specs.Opened.{IsIntactOrEmpty}
 use Rattle.page_journal.specs.Scanned.{IsQuiet}
 use Rattle.page_journal.specs.Settled.{IsSettled, view_of, bodies_in, length_of, is_broken}
 use Rattle.page_journal.specs.Settled as journal
 use Rattle.page_journal.specs.declared.journal.Journal.{Journal}
+use Rattle.page_journal.specs.declared.repair.JournalFault.{JournalFault}
+use Rattle.page_journal.specs.declared.repair.JournalFault.TheVariants as journal_fault
+use Rattle.page_journal.proofs.Frames.{closed_end}
 use Rattle.page_journal.proofs.Mending.{leaves_then}
 use Rattle.replay_spec.specs.Book.{Book, File, reopened}
 use Rattle.replay_spec.specs.Invariant.{IsOrderly}
-use Rattle.journal_spec.specs.Making.{nothing, made_in}
+use Rattle.journal_spec.specs.Making.{Making, nothing, made_in, book_in_bytes, book_of}
 use Rattle.journal_spec.specs.Standing.{Between, Held, HoldIn, MakesIn, StaysThroughout, OpensThroughout}
 use Rattle.journal_spec.specs.Disks.{IsFit, OpeningsStay, RecoveriesFindOne}
 use Rattle.journal_spec.specs.Spelling.{IsInRange}
 use Rattle.journal_spec.specs.Whole.{HasWholeScripts}
-use Rattle.journal_spec.proofs.Between.{make_books}
+use Rattle.journal_spec.proofs.Between.{make_books, read_as}
 use Rattle.instance_book.specs.Views as views
 use Rattle.book_recovery.specs.Found.{IsBookInOrder}
+use Rattle.shelf.specs.declared.begin.BeginFault.{BeginFault}
+use Rattle.shelf.specs.declared.begin.BeginFault.TheVariants as fault
 use Rattle.shelf.specs.declared.shelf.Shelf.{Shelf}
+use Rattle.shelf.specs.Faults.{IsReadFaultOf, IsTooLong, begin_fault}
 use Rattle.shelf.specs.Files.{file_of, read_file}
 use Rattle.shelf.specs.Views.{doubt_of, library_in, beside_of, book_in, IsInOrder, IsOwnShelf}
 use Rattle.shelf.specs.Ranges.{AreInRange}
@@ -117,3 +123,33 @@ keeps_read view more old j0 j1 settled is intact (inl (none, (seen, images))) =
     inr (intact, (seen ∙ (settled.file ∙ ap at_rest (is ∙ bodies)), λ image left. settled.durable image (images image left) ∙ sym seen))
 keeps_read view more old j0 j1 settled is intact (inr (ends, bodies)) =
     inr (intact, (ends.file ∙ ap at_rest (bodies ∙ ap (λ (bs : List (List ℕ)). bs ++ more) is), ends.durable))
+
+-- ---- what is left of a disk to whose records nothing was added
+
+settled_makes : {D : Type 0} (view : D → View) (shelf : ℕ) (j : Journal D) → IsSettled view j
+    → book_in_bytes texts shelf (view_of view j).seen ≡ making_of view shelf j
+settled_makes view shelf j s =
+    read_as texts shelf (bodies_in view j) (view_of view j).seen
+    (ap records s.file ∙ closed_end (bodies_in view j) 0 [] (omega (arith, s.fits, s.end)) (omega arith))
+
+left_makes : {D : Type 0} (view : D → View) (shelf : ℕ) (j0 j1 : Journal D) → IsSettled view j0 → HasAdded view [] j0 j1
+    → (image : List ℕ) → (view_of view j1).images image → book_in_bytes texts shelf image ≡ making_of view shelf j0
+left_makes view shelf j0 j1 settled (inl (none, (seen, images))) image left =
+    ap (book_in_bytes texts shelf) (settled.durable image (images image left)) ∙ settled_makes view shelf j0 settled
+left_makes view shelf j0 j1 settled (inr (ends, bodies)) image left =
+    ap (book_in_bytes texts shelf) (ends.durable image left) ∙ settled_makes view shelf j1 ends
+    ∙ ap (book_of texts shelf) (bodies ∙ append-nil (bodies_in view j0))
+
+-- where there is no room for the setup, there is none on what is left
+pub full_still : {D : Type 0} (view : D → View) (scripts : List Named) (shelf : ℕ) (j0 j1 : Journal D) (e : BeginFault) (len : ℕ) → e ≡ fault.Full len
+    → IsSettled view j0 → HasAdded view [] j0 j1 → IsReadFaultOf scripts shelf (making_of view shelf j0) e
+    → (image : List ℕ) → (view_of view j1).images image → IsTooLong scripts shelf (book_in_bytes texts shelf image) len
+full_still view scripts shelf j0 j1 e len is settled added told image left =
+    subst (λ (m : Making). IsTooLong scripts shelf m len) (sym (left_makes view shelf j0 j1 settled added image left))
+    (subst (IsReadFaultOf scripts shelf (making_of view shelf j0)) is told)
+
+-- no fault of a journal's opening tells this
+pub never_full : (why : JournalFault) (len : ℕ) → begin_fault why ≡ fault.Full len → ⊥
+never_full (journal_fault.Damaged place) len is = let no : ⊥ = cc is in no
+never_full journal_fault.DiskFault len is = let no : ⊥ = cc is in no
+never_full journal_fault.Memory len is = let no : ⊥ = cc is in no

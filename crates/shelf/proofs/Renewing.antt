@@ -321,6 +321,10 @@ module _ {D : Type 0} (view : D → View) (tells : Bool) (scripts : List Named) 
               opened = opened_by scripts shelf (making_of view shelf j) f.whole f.is;
               is = ap (λ (y : Book). (opened_book shelf scripts y).length) (found_is view shelf j b lib f) ∙ long_is;
               long = long;
+              another = λ y is.
+                  let same : f.whole ≡ y = same_Some f.whole y (sym f.is ∙ is) in
+                  ap (λ (z : Made). are_same scripts z.book.scripts) (sym same)
+                  ∙ (ap (λ (z : Book). are_same scripts z.scripts) (found_is view shelf j b lib f) ∙ differs);
             };
         quiet = λ told some. inl (quiet_none (view_of view j) only_now);
         keeps = λ told no. inl (refl, (refl, λ image left. left));

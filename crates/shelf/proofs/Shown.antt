@@ -1,7 +1,9 @@
 -- The page that a change shows has the state that its record tells, behind what records told of the page that is answered.
 use Rattle.std.proofs.Common.{◌≡◌, ◌∙◌, ap, sym, subst, refl, ℕ, zero, suc, List, slice_get, Option, Some, None, option_map, Contains, inl, inr}
 use Rattle.std.specs.Prelude.{IfSome}
-use Rattle.script_nodes.specs.Setup.{Library}
+use Rattle.std.proofs.lemmas.Option.{same_Some}
+use Rattle.script_value.specs.declared.outcome.TxName.{TxName}
+use Rattle.script_nodes.specs.Setup.{Named, Library}
 use Rattle.web_cells.specs.Shadows.{Rise}
 use Rattle.page_names.specs.Names.{Destination, start, page}
 use Rattle.page_names.specs.declared.names.PageName.{PageName}
@@ -14,7 +16,9 @@ use Rattle.replay_spec.specs.Invariant.{IsOrderly}
 use Rattle.replay_spec.proofs.Stand.{among_of}
 use Rattle.replay_spec.proofs.Admitted.{StandsAt}
 use Rattle.machine_states.specs.Machine.{Suspended}
-use Rattle.machine_states.specs.Views.{segment_of, origin_of, suspended_of}
+use Rattle.machine_states.specs.Views.{segment_of, origin_of, suspended_of, state_of, Keeps}
+use Rattle.machine_states.specs.declared.segment.Outcome.{Outcome}
+use Rattle.machine_states.specs.declared.segment.Outcome.TheVariants.{Shown, Finished, Ended, Faulted, Fuel}
 use Rattle.machine_states.specs.declared.segment.Segment.{Segment}
 use Rattle.frame_codec.specs.Spelling.{StateHasBytes}
 use Rattle.frame_codec.specs.Forms.{RisesBefore}
@@ -38,12 +42,46 @@ use Rattle.instance_book.specs.Makes.{HasStatesFrom}
 use Rattle.instance_book.specs.Places.{IsNextAt}
 use Rattle.instance_book.specs.Prepares.{OpensAs, ExtendsAs, OpensFrom, ExtendsFrom, extension_by, IsStartBy, IsAnswerBy, IsChangeBy, HasItsScript, KeepsStateOf, IsKeptOfTicket}
 use Rattle.instance_book.proofs.States.{first_kept, next_kept}
-use Rattle.shelf.specs.Holding.{IsWhole, IsWholeIn}
+use Rattle.shelf.specs.Holding.{IsWhole, IsWholeIn, IsWholeFrom, ShowsWhole, ShowsWholeFrom}
 use Rattle.shelf.specs.Recording.{state_in, behind_in, answered_in, IsKeptIn, GoesOnFromBook, GoesOnAsGiven}
 use Rattle.instance_book.specs.Changes.{IsSpelledIn}
 use Rattle.shelf.proofs.Now.{of_some}
 use Rattle.shelf.proofs.Stated.{place_found, start_shows, answer_shows}
 use Rattle.shelf.proofs.Taken.{page_there}
+
+-- what holds of the state of a segment's page holds of this one
+keeps_there : (o : Outcome) (d : Suspended) (P : Suspended → Type 0) → state_of o ≡ Some d → Keeps o P → P d
+keeps_there (Shown bytes kind state) d P e h = subst P (same_Some (suspended_of state) d e) h
+keeps_there (Finished bytes) d P e h = absurd (let no : ⊥ = cc in no)
+keeps_there (Ended bytes) d P e h = absurd (let no : ⊥ = cc in no)
+keeps_there (Faulted k) d P e h = absurd (let no : ⊥ = cc in no)
+keeps_there (Fuel cost) d P e h = absurd (let no : ⊥ = cc in no)
+
+which_whole : (o : Option Named) (r : Segment) (d e : Suspended) (inside : List TxName) → ((s : Named) → o ≡ Some s → ShowsWhole (arena_of s.script) r) → state_of r.outcome ≡ Some d → e ≡ d → inside ≡ r.entered.items
+    → IfSome o (λ s. IsWhole (arena_of s.script) e inside)
+which_whole None r d e inside whole is told names = tt
+which_whole (Some s) r d e inside whole is told names =
+    let a = arena_of s.script in
+    let there : IsWhole a d r.entered.items = keeps_there r.outcome d (λ x. IsWhole a x r.entered.items) is (whole s refl) in
+    subst (λ (x : Suspended). IsWhole a x inside) (sym told) (subst (λ (ns : List TxName). IsWhole a d ns) (sym names) there)
+
+-- the page that a change of the segment shows is whole where that of the segment is
+pub whole_from : (all : List Named) (t : Ticket) (r : Segment) (d : Destination) (c : Change) → KeepsStateOf t r d (Some c) → ShowsWholeFrom all t r → IsWholeFrom all t c
+whole_from all t r (start name) (Opens o) (inl none) whole = absurd none
+whole_from all t r (start name) (Opens o) (inr from) whole =
+    which_whole (slice_get all o.instance.script) r from.0 (suspended_of o.state) o.page.item.inside.items (λ s e. whole s (ap (slice_get all) (sym from.1.1.script) ∙ e)) from.1.0 from.1.1.told
+    (ap (λ (p : spec.Page). p.inside) from.1.1.page)
+whole_from all t r (start name) (Extends x) (inl none) whole = absurd none
+whole_from all t r (start name) (Extends x) (inr from) whole = absurd from.1.1
+whole_from all t r (start name) (Ends e) keeps whole = tt
+whole_from all t r (start name) (Finishes f) keeps whole = tt
+whole_from all t r (page name n) (Opens o) (inl none) whole = absurd none
+whole_from all t r (page name n) (Opens o) (inr from) whole = absurd from.1.1
+whole_from all t r (page name n) (Extends x) (inl none) whole = absurd none
+whole_from all t r (page name n) (Extends x) (inr from) whole =
+    which_whole (slice_get all t.script) r from.0 (suspended_of x.state) x.show.page.item.inside.items whole from.1.0 from.1.1.told (ap (λ (p : spec.Page). p.inside) from.1.1.page)
+whole_from all t r (page name n) (Ends e) keeps whole = tt
+whole_from all t r (page name n) (Finishes f) keeps whole = tt
 
 -- what is kept of a change's page is of its ticket
 pub kept_in : (t : Ticket) (r : Segment) (d : Destination) (c : Change) → KeepsStateOf t r d (Some c) → IsKeptIn t c

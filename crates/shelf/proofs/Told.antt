@@ -1,5 +1,8 @@
 -- A state that has a spelling can be told.
-use Rattle.std.proofs.Common.{◌≡◌, ◌∙◌, ap, sym, subst, List, [], ◌∷◌, reverse, Option, Some, None, Result, Ok, Err, IfOk, if◌then◌else◌, Bool, true, false, refl, ℕ, zero, suc}
+use Rattle.std.proofs.Common.{◌≡◌, ◌∙◌, ap, sym, subst, List, [], ◌∷◌, reverse, Option, Some, None, Result, Ok, Err, IfOk, if◌then◌else◌, Bool, true, false, refl, ℕ, zero, suc, slice_get}
+use Rattle.std.specs.Prelude.{OnOk}
+use Rattle.std.proofs.lemmas.Option.{get_or_from_slice_get}
+use Rattle.script_nodes.specs.Setup.{Named}
 use Rattle.std.specs.List.{list_all, AllByRecursion}
 use Rattle.std.proofs.lemmas.Bool.{and_from}
 use Rattle.std.proofs.lemmas.List.{reverse-reverse}
@@ -14,7 +17,18 @@ use Rattle.frame_codec.proofs.States.{all_reversed}
 use Rattle.journal_records.specs.Fields.{is_shallow}
 use Rattle.journal_records.proofs.Measured.{value_shallow}
 use Rattle.journal_spec.specs.Lengths.{is_shallow_frame, is_shallow_state, told_bytes}
+use Rattle.machine_states.specs.Views.{suspended_of}
+use Rattle.instance_book.specs.declared.book.Book.{Book}
+use Rattle.instance_book.specs.declared.prepared.Change.{Change}
+use Rattle.instance_book.specs.declared.prepared.Change.TheVariants.{Opens, Extends, Ends, Finishes}
+use Rattle.instance_book.specs.declared.ticket.Ticket.{Ticket}
+use Rattle.instance_book.specs.Admissions.{script_at}
+use Rattle.instance_book.specs.Fits.{IsRunnable}
+use Rattle.instance_book.specs.Places.{arena_of}
+use Rattle.instance_book.specs.Views.{script_in, no_script}
+use Rattle.shelf.specs.Holding.{IsWhole, IsWholeFrom, IsWholeIn, IsOfItsScript}
 use Rattle.shelf.specs.Recording.{IsKeptAs, WhereTold, lent}
+use Rattle.shelf.proofs.Now.{of_some, if_some}
 use Rattle.std.specs.Borrow.{Bor}
 
 all_shallow : {A : Type 0} (P : A → Type 0) (test : A → Bool) → ((x : A) → P x → test x ≡ true) → (xs : List A) → AllByRecursion P xs → list_all test xs ≡ true
@@ -87,3 +101,20 @@ pub where_kept : {E : Type 0} (P : Type 0) (d : Suspended) (f : Form) (r : Resul
 where_kept P d f (Err e) h g = tt
 where_kept P d f (Ok None) h g = tt
 where_kept P d f (Ok (Some b)) h g = g b.now h
+
+-- ---- a page is whole under the script of its instance
+
+pub whole_in : (all : List Named) (b : Book) (t : Ticket) (c : Change) → IsRunnable all t → IsWholeFrom all t c → IsOfItsScript all b t c → IsWholeIn all b c
+whole_in all b t (Opens o) runs from its = from
+whole_in all b t (Ends e) runs from its = tt
+whole_in all b t (Finishes f) runs from its = tt
+whole_in all b t (Extends x) runs from its =
+    let s = runs.named in
+    let P : Named → Type 0 = λ s. IsWhole (arena_of s.script) (suspended_of x.state) x.show.page.item.inside.items in
+    let here : P s = of_some (slice_get all t.script) s P runs.script from in
+    let is : script_in all t.script ≡ s = get_or_from_slice_get all t.script s no_script runs.script in
+    if_some (script_at all x.instance b) s P (its ∙ ap (λ (n : Named). Some n) is) here
+
+pub on_ok : {X E : Type 0} (P : Type 0) (r : Result X E) → P → OnOk r P
+on_ok P (Ok x) h = h
+on_ok P (Err e) h = tt

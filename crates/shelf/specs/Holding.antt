@@ -1,7 +1,10 @@
 -- What is tested of a change before it is recorded: so recovery takes the record in, whatever the ticket was for.
-use Rattle.std.specs.Prelude.{◌≡◌, List, length, map, None, IfSome, slice_get, ⊤}
+use Rattle.std.specs.Prelude.{◌≡◌, List, length, map, Some, None, IfSome, slice_get, ⊤}
 use Rattle.script_value.specs.Val.{Val}
 use Rattle.script_value.specs.declared.outcome.TxName.{TxName}
+use Rattle.script_value.specs.declared.outcome.Refusal.TheVariants.{Unknown}
+use Rattle.script_value.specs.declared.outcome.Reply.{Reply}
+use Rattle.script_value.specs.declared.outcome.Reply.TheVariants as reply
 use Rattle.script_nodes.specs.Arena.{Arena}
 use Rattle.script_nodes.specs.Setup.{Named, Library}
 use Rattle.page_names.specs.Names.{Destination, start, page}
@@ -9,7 +12,7 @@ use Rattle.page_names.specs.Views.{target_of}
 use Rattle.instance_cells.specs.Cells.{Effect, AreOn, Holds}
 use Rattle.instance_cells.specs.Views.{effect_of}
 use Rattle.machine_states.specs.Machine.{Suspended, inside_of}
-use Rattle.machine_states.specs.Views.{suspended_of}
+use Rattle.machine_states.specs.Views.{suspended_of, Keeps}
 use Rattle.machine_states.specs.declared.segment.Segment.{Segment}
 use Rattle.frame_codec.specs.Spelling.{StateHasBytes}
 use Rattle.frame_codec.specs.Stored.{IsStored}
@@ -19,12 +22,20 @@ use Rattle.instance_book.specs.declared.prepared.Change.TheVariants.{Opens, Exte
 use Rattle.instance_book.specs.declared.ticket.Ticket.{Ticket}
 use Rattle.instance_book.specs.Admissions.{refusal_for, FitsIn, script_at}
 use Rattle.instance_book.specs.Places.{arena_of}
+use Rattle.instance_book.specs.Views.{script_in}
 use Rattle.instance_book.specs.Swept.{cells_at}
 
 -- the target is admitted, and the ticket is for the visit of it
 pub record IsForItsVisit (library : Library) (b : Book) (t : Ticket) : Type 0 where
   pub admitted : refusal_for library b t.target ≡ None
   pub fits : FitsIn library b t.target t
+
+-- Why there is no segment: want of memory, or the ticket is of another shelf, which is told as an unknown page. A ticket that is for the visit
+-- of its target is of this one.
+abbrev pub IsWhyNoSegment : Library → Book → Ticket → Reply → Type 0
+IsWhyNoSegment library b t reply.Memory = ⊤
+IsWhyNoSegment library b t (reply.Refused Unknown) = ¬ IsForItsVisit library b t
+IsWhyNoSegment library b t _ = ⊥
 
 -- the effects are on these cells and hold over them
 pub record AreHeld (effects : List Effect) (cells : List Val) : Type 0 where
@@ -49,6 +60,28 @@ FitsIfSpelled a d = StateHasBytes d → IsStored a d
 pub record IsWhole (a : Arena) (d : Suspended) (inside : List TxName) : Type 0 where
   pub inside_is : inside_of d.frames ≡ inside
   pub stored : FitsIfSpelled a d
+
+-- A page that a segment of this script shows is inside the transactions of its state's frames, and its state fits the script where it has a
+-- spelling.
+abbrev pub ShowsWhole : Arena → Segment → Type 0
+ShowsWhole a r = Keeps r.outcome (λ d. IsWhole a d r.entered.items)
+
+-- so it is of a segment of the ticket's script
+abbrev pub ShowsWholeFrom : List Named → Ticket → Segment → Type 0
+ShowsWholeFrom all t r = (named : Named) → slice_get all t.script ≡ Some named → ShowsWhole (arena_of named.script) r
+
+-- so it is of the page that a change shows: a start's under the script of its instance, and another one under the ticket's
+abbrev pub IsWholeFrom : List Named → Ticket → Change → Type 0
+IsWholeFrom all t (Opens o) =
+    IfSome (slice_get all o.instance.script) (λ s. IsWhole (arena_of s.script) (suspended_of o.state) o.page.item.inside.items)
+IsWholeFrom all t (Extends x) =
+    IfSome (slice_get all t.script) (λ s. IsWhole (arena_of s.script) (suspended_of x.state) x.show.page.item.inside.items)
+IsWholeFrom all t _ = ⊤
+
+-- the instance whose page is answered, where the change shows a page behind another one, is of the ticket's script
+abbrev pub IsOfItsScript : List Named → Book → Ticket → Change → Type 0
+IsOfItsScript all b t (Extends x) = script_at all x.instance b ≡ Some (script_in all t.script)
+IsOfItsScript all b t _ = ⊤
 
 -- the page that a change shows is inside the transactions of its state's frames, and the state fits the script of its instance where it has
 -- a spelling

@@ -30,7 +30,7 @@ use Rattle.instance_book.specs.Makes.{HasItsStates}
 use Rattle.book_recovery.specs.Found.{FindsBook, IsBookInOrder}
 use Rattle.shelf.specs.Files.{read_file}
 use Rattle.shelf.specs.Owning.{HasOwnImages, StaysOwnThroughout, StandsMeasured}
-use Rattle.shelf.specs.Faults.{IsReadFaultOf, IsReadFault}
+use Rattle.shelf.specs.Faults.{IsReadFaultOf, IsReadFault, IsTooLong}
 use Rattle.shelf.specs.Views.{TellsStates, IsOwnShelf, library_in, book_in}
 use Rattle.shelf.specs.declared.begin.BeginFault.{BeginFault}
 use Rattle.shelf.specs.declared.begin.BeginFault.TheVariants as fault
@@ -255,6 +255,12 @@ abbrev pub KeepsDisk : {D N : Type 0} → (D → View) → List Named → (shelf
 KeepsDisk view scripts shelf disk result =
     (IsErrOf (fault_of result) fault.DiskFault → ⊥)
     → KeepsRecords (added_by scripts shelf (making_on shelf (view disk)) (fault_of result)) (view disk) (view (disk_of result))
+
+-- where an opening tells that there is no room for the setup, this is so of whatever a crash leaves of the disk that is handed back
+abbrev pub IsFullStill : {D N : Type 0} → (D → View) → List Named → (shelf : ℕ) → Result (Shelf D N) (BeginFault × D × N) → Type 0
+IsFullStill view scripts shelf result =
+    (len : ℕ) → IsErrOf (fault_of result) (fault.Full len) → (image : List ℕ) → (view (disk_of result)).images image
+    → IsTooLong scripts shelf (book_in_bytes setup_of_texts shelf image) len
 
 -- the book is the one after the event crash, by which what was in doubt is lost or kept
 abbrev pub IsCrashed : Rules → Book → (nonce : ℕ) → List Named → Fate → Book → Type 0

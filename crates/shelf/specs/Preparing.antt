@@ -20,7 +20,7 @@ use Rattle.instance_book.specs.Prepares.{Prepares, IsOfSegment, KeepsItsState}
 use Rattle.instance_book.specs.Laws.{KeepsStateAs}
 use Rattle.shelf.specs.declared.rules.Rules.{Rules}
 use Rattle.shelf.specs.Views.{unmeasured, fate_by, HoldNow}
-use Rattle.shelf.specs.Holding.{AreHeldNow}
+use Rattle.shelf.specs.Holding.{AreHeldNow, ShowsWholeFrom}
 
 -- what a publish comes to on the book beside this
 abbrev pub decision_beside : Library → Beside → Rules → Book → Ticket → Decision
@@ -47,9 +47,9 @@ IsDecidedIfHeld library rules b t segment result =
 abbrev pub KeepsStateIfFits : Library → Book → Ticket → Segment → Type 0
 KeepsStateIfFits library b t r = FitsIn library b t.target t → KeepsStateAs (book_under library b) t (admission_for library b t.target) r
 
--- What is prepared can be landed, whatever the ticket is for, where the state that it shows is whole: the target is admitted; it is a
+-- What is prepared can be landed, whatever the ticket is for: the target is admitted; it is a
 -- change of some segment of the ticket, or none, and carries itself out; its deadline is one that records tell; the segment's effects
--- hold; and the change has its state, which is that of its visit where the ticket fits.
+-- hold; a page that it shows is whole; and the change has its state, which is that of its visit where the ticket fits.
 pub record CanBeLanded (library : Library) (b : Book) (t : Ticket) (p : Prepared) : Type 0 where
   pub admitted : refusal_for library b t.target ≡ None
   pub segment : Segment
@@ -57,6 +57,7 @@ pub record CanBeLanded (library : Library) (b : Book) (t : Ticket) (p : Prepared
   pub deadline : HasDeadlineBy p.change
   pub state : KeepsItsState t segment p.change
   pub held : AreHeldNow b t segment
+  pub whole : ShowsWholeFrom library.all t segment
   pub own : KeepsStateIfFits library b t segment
 
 -- the page that is prepared, if any, has the state of its chain, where this has a spelling

@@ -105,10 +105,6 @@ WhereTold result holds = IfOk result (λ bytes. IfSome bytes (λ _. holds))
 abbrev pub WhereTrue : {E : Type 0} → Result Bool E → Type 0 → Type 0
 WhereTrue result holds = IfOk result (λ test. IsTrue test → holds)
 
--- where this holds, the test tells that it does
-abbrev pub IsTrueWhere : {E : Type 0} → Result Bool E → Type 0 → Type 0
-IsTrueWhere result holds = IfOk result (λ test. holds → IsTrue test)
-
 -- what is kept of the state of the page that a change shows is that of its ticket
 abbrev pub IsKeptIn : Ticket → Change → Type 0
 IsKeptIn t (Opens o) = IsKeptFrom None 0 (suspended_of o.state) (kept_at o.page)

@@ -2,15 +2,17 @@
 use Rattle.std.specs.Prelude.{◌≡◌, ℕ, List, map, length, Some, slice_get}
 use Rattle.script_value.specs.Val.{Val}
 use Rattle.script_value.specs.Views.{meaning}
+use Rattle.script_nodes.specs.Arena.{Arena}
 use Rattle.script_nodes.specs.Setup.{Named}
 use Rattle.instance_cells.specs.Cells.{AreOn}
 use Rattle.instance_cells.specs.Views.{effect_of}
 use Rattle.replay_spec.specs.Tape.{present}
 use Rattle.replay_spec.specs.Next.{Visit, comes_to}
 use Rattle.machine_states.specs.Machine.{inside_of}
+use Rattle.machine_states.specs.Fits.{Fits}
 use Rattle.machine_states.specs.Views.{segment_of, Keeps}
 use Rattle.machine_states.specs.declared.segment.Segment.{Segment}
-use Rattle.send_suspend.specs.Segments.{newest, Replays}
+use Rattle.send_suspend.specs.Segments.{newest, IsConsistent, Replays}
 use Rattle.instance_book.specs.declared.ticket.Ticket.{Ticket}
 use Rattle.instance_book.specs.Views.{ticket_of}
 use Rattle.instance_book.specs.Places.{arena_of}
@@ -18,10 +20,15 @@ use Rattle.instance_book.specs.Fits.{IsFor}
 use Rattle.instance_book.specs.Laws.{KeepsStateOver}
 
 -- the segment of the ticket over these cells, which goes on from what the ticket goes on from
+pub record IsRunFrom (a : Arena) (fuel : ℕ) (t : Ticket) (cells : List Val) (r : Segment) : Type 0 where
+  pub replays : Replays t.from a (newest (meaning t.answer) t.number t.url cells fuel) r
+  pub consistent : IsConsistent t.from a cells r
+  pub fits : Keeps r.outcome (λ d. Fits a d)
+
+-- the segment is that of the ticket over these cells, under the ticket's script
 abbrev pub IsRunOver : List Named → (fuel : ℕ) → Ticket → (cells : List Val) → Segment → Type 0
 IsRunOver all fuel t cells r =
-    (named : Named) → slice_get all t.script ≡ Some named
-    → Replays t.from (arena_of named.script) (newest (meaning t.answer) t.number t.url cells fuel) r
+    (named : Named) → slice_get all t.script ≡ Some named → IsRunFrom (arena_of named.script) fuel t cells r
 
 -- A segment is what a visit comes to over these cells; a page that it shows has its state kept over the visit's tape, and is inside
 -- the transactions of the state's frames; and its effects are on the cells that the script has.

@@ -266,7 +266,7 @@ fn can_be_run(named: &NamedScript)
 impl<D: Disk, N: Nonces + Drop> Shelf<D, N> {
     ghost use Rattle.shelf.specs.Views.{IsInOrder, IsOwnShelf};
     ghost use Rattle.shelf.specs.Owning.{IsOwnImage};
-    ghost use Rattle.shelf.specs.Opening.{MakesShelf, IsOpenedAnew, OpensOneOf, StandsThroughout, OpensOwnIfEmpty, LeavesOwn, TellsFault, TellsCause, KeepsDisk, disk_of, nonces_of};
+    ghost use Rattle.shelf.specs.Opening.{MakesShelf, IsOpenedAnew, OpensOneOf, StandsThroughout, OpensOwnIfEmpty, LeavesOwn, TellsFault, TellsCause, KeepsDisk, IsFullStill, disk_of, nonces_of};
 
     /// Opens the shelf of these limits, which are in their ranges, on a disk: its book is what the records of the journal make,
     /// as after a crash. A disk without a record gets the first, which tells the shelf's number and its scripts. Where the setup has
@@ -306,6 +306,8 @@ impl<D: Disk, N: Nonces + Drop> Shelf<D, N> {
             → TellsFault D.view (scripts_of setup.now) rules.number disk result }
         ensures keeps { IsTrue D.tells
             → KeepsDisk D.view (scripts_of setup.now) rules.number disk result }
+        ensures full { IsTrue D.tells
+            → IsFullStill D.view (scripts_of setup.now) rules.number result }
         ensures cause { TellsCause D.view disk result }
         ensures later { (D.view disk).faults ≤ (D.view (disk_of result)).faults }
     {

@@ -2,9 +2,10 @@ ghost use Rattle.std.specs.Prelude.{◌≡◌, length, IsTrue, IfOk, OnOk};
 ghost use Rattle.web_disk.specs.View.{NoNewImage, Elapses};
 ghost use Rattle.page_journal.specs.Settled.{IsSettled, IsReady, IsSound, view_of, length_of, is_broken};
 ghost use Rattle.script_nodes.specs.Views.{library_of};
+ghost use Rattle.instance_book.specs.Fits.{IsRunnable};
 ghost use Rattle.instance_book.specs.Makes.{HasPlaces, HasSomeStates};
 ghost use Rattle.instance_book.specs.Changes.{IsSpelledIn};
-ghost use Rattle.shelf.specs.Holding.{IsWholeIn};
+ghost use Rattle.shelf.specs.Holding.{IsWholeFrom, IsWholeIn};
 ghost use Rattle.shelf.specs.Recording.{CanBeTold, IsToldBody, IsKeptIn, BindsIn, GoesOnAsGiven};
 
 use crate::recording::{recorded, told_state, written};
@@ -18,7 +19,7 @@ use web_disk::Disk;
 /// The body of the record of a visit's change, for which the journal is made ready; or why it can't be added. No call of the disk is
 /// made that could fail.
 ///
-/// What recovery would not read back as this change is told as want of memory.
+/// A ticket of another page is told as want of memory.
 pub fn told_body<D: Disk>(
     alloc: Global,
     journal: &mut Journal<D>,
@@ -31,7 +32,9 @@ pub fn told_body<D: Disk>(
     requires settled { IsTrue D.tells → IsSettled D.view journal.old }
     requires placed { HasPlaces (library_of library.now).all book.now }
     requires states { HasSomeStates (library_of library.now).all book.now }
+    requires runs { IsRunnable (library_of library.now).all ticket.now }
     requires kept { IsKeptIn ticket.now change.now }
+    requires whole { IsWholeFrom (library_of library.now).all ticket.now change.now }
     requires spelled { CanBeTold (length_of journal.old) ticket.now change.now }
     ensures written { IsToldBody (length_of journal.old) ticket.now change.now result }
     ensures state { OnOk result (IsWholeIn (library_of library.now).all book.now change.now) }

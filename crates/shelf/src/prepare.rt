@@ -67,6 +67,6 @@ pub fn prepared(
             rules.pages,
             rules.life,
         ),
-        Err(_) => Err(Reply::Memory),
+        Err(reply) => Err(reply),
     }
 }

@@ -41,7 +41,8 @@ impl<D: Disk, N: Nonces + Drop> Shelf<D, N> {
     ///
     /// It asks for a number that is out, for a ticket that can be run, and for the segment of its run over its own cells. On an own
     /// shelf, where the ticket is for the visit of its target wherever that is admitted now, the publish is one event. Whatever the
-    /// ticket is for, the shelf stays in order: what recovery would not take in again is not recorded, and told as want of memory.
+    /// ticket is for, the shelf stays in order: what recovery would not take in again is not recorded. An answer by a ticket of
+    /// another page is told as want of memory, or as unknown where the instance has more or fewer cells than the ticket's script.
     pub fn publish(&mut self, alloc: Global, ticket: Ticket, segment: Option<Segment>) -> Reply
         requires in_order { IsInOrder D.view D.tells self.old }
         requires out { IsOut D.view self.old ticket }
@@ -100,6 +101,7 @@ impl<D: Disk, N: Nonces + Drop> Shelf<D, N> {
         requires in_order { IsInOrder D.view D.tells self.old }
         requires up { self.old.down ≡ None }
         requires out { IsOut D.view self.old ticket.now }
+        requires runs { IsRunnable (library_of self.old.library).all ticket.now }
         requires script { HasTargetScript (library_of self.old.library) ticket.now }
         requires room { HasRoomFor prepared.change self.old.book }
         requires plain { fate_by (reply_of prepared.reply) ≡ plain }

@@ -1,29 +1,30 @@
-ghost use Rattle.std.specs.Prelude.{◌≡◌, ◌≤◌, ◌+◌, ◌++◌, ◌∷◌, ◌^◌, [], false, length, ◌↔◌, option_map, IsTrue, IfOk, IfErr, OnOk, OnErr};
+ghost use Rattle.std.specs.Prelude.{◌≡◌, ◌≤◌, ◌+◌, ◌++◌, ◌∷◌, ◌^◌, [], List, false, length, option_map, IsTrue, IfOk, IfErr, OnOk, OnErr};
 ghost use Rattle.web_outside.specs.Causes.{Rose};
 ghost use Rattle.web_disk.specs.View.{NoNewImage, Elapses, LeavesOnly};
 ghost use Rattle.page_journal.specs.Holding.{MayHold};
 ghost use Rattle.page_journal.specs.Settled.{IsSettled, IsReady, IsSound, view_of, bodies_in, length_of, length_with, is_broken};
 ghost use Rattle.journal_records.specs.Records.{changes};
 ghost use Rattle.journal_records.specs.Views.{recorded_of};
+ghost use Rattle.script_nodes.specs.Setup.{Named};
 ghost use Rattle.script_nodes.specs.Views.{library_of};
+ghost use Rattle.instance_book.specs.Fits.{IsRunnable};
 ghost use Rattle.instance_book.specs.Makes.{HasPlaces, HasSomeStates};
 ghost use Rattle.instance_book.specs.Views.{reply_of};
 ghost use Rattle.instance_book.specs.Changes.{change_of, IsSpelledIn};
 ghost use Rattle.kept_states.specs.Kept.{kept_of};
 ghost use Rattle.machine_states.specs.Views.{suspended_of};
-ghost use Rattle.shelf.specs.Holding.{FitsIfSpelled, IsWhole, IsWholeIn};
-ghost use Rattle.shelf.specs.Recording.{refusal_of_size, CanBeWritten, IsWritten, IsStateFor, IsLentAs, IsKeptIn, WhereTold, WhereTrue, IsTrueWhere, BindsIn, GoesOnFrom, GoesOnAsGiven, answered_in, told_in, lent};
+ghost use Rattle.shelf.specs.Holding.{IsOfItsScript, IsWholeFrom, IsWholeIn};
+ghost use Rattle.shelf.specs.Recording.{refusal_of_size, CanBeWritten, IsWritten, IsStateFor, IsLentAs, IsKeptIn, WhereTold, WhereTrue, BindsIn, GoesOnFrom, GoesOnAsGiven, answered_in, told_in, lent};
 
 use crate::nesting::nests_shallow;
-use crate::same::{are_same_names, are_same_states};
-use frame_codec::{is_spelled, is_stored};
+use crate::same::are_same_states;
 use instance_book::{Book, Change, Ticket};
 use journal_records::{Origin as Begun, Recorded, encode, record_length};
 use kept_states::{KeptState, kept_are_written};
 use machine_states::{Origin, Suspended};
 use page_journal::{AppendFault, Journal, MAX_LEN};
-use script_nodes::{Library, Script};
-use script_value::{Bytes, Reply, TxName};
+use script_nodes::Library;
+use script_value::{Bytes, Reply};
 use std::alloc::{AllocError, Global};
 use web_disk::Disk;
 
@@ -42,13 +43,6 @@ fn state_bytes<'k>(kept: &'k KeptState, state: &Suspended) -> Result<Option<&'k 
         return Err(AllocError);
     }
     Ok(None)
-}
-
-// Whether a state fits the script, where it has a spelling.
-fn fits_if_spelled(script: &Script, state: &Suspended) -> bool
-    ensures { IsTrue result ↔ FitsIfSpelled script.now (suspended_of state.now) }
-{
-    is_stored(script, state) || !is_spelled(state)
 }
 
 // The numbers of the instance and of the page that a change's page answers, if it shows one and that is no start's.
@@ -107,61 +101,24 @@ fn goes_on_from_book(
     goes_on_from(alloc, &from, links, ticket)
 }
 
-// Whether a page with this state is inside the transactions of the state's frames, and the state fits the script where it has a
-// spelling.
-fn is_whole(
-    alloc: Global,
-    script: &Script,
-    state: &Suspended,
-    inside: &[TxName],
-) -> Result<bool, AllocError>
-    ensures whole { WhereTrue result (IsWhole script.now (suspended_of state.now) inside.now) }
-    ensures back { IsTrueWhere result (IsWhole script.now (suspended_of state.now) inside.now) }
+// Whether the instance whose page is answered, if the change shows a page behind another one, is of the ticket's script.
+fn is_of_its_script(book: &Book, ticket: &Ticket, change: &Change) -> bool
+    ensures { IsTrue result
+        → (all : List Named) → IsOfItsScript all book.now ticket.now change.now }
 {
-    let names = state.inside(alloc)?;
-    if are_same_names(names.as_slice(), inside) {
-        Ok(fits_if_spelled(script, state))
-    } else {
-        Ok(false)
+    let Change::Extends(extension) = change else {
+        return true;
+    };
+    match book.script_place(extension.instance) {
+        Some(place) => place == ticket.script,
+        None => false,
     }
-}
-
-// Whether the page that a change shows, if any, is so under the script of its instance.
-fn shows_whole(
-    alloc: Global,
-    book: &Book,
-    library: &Library,
-    change: &Change,
-) -> Result<bool, AllocError>
-    requires { HasPlaces (library_of library.now).all book.now }
-    ensures { WhereTrue result (IsWholeIn (library_of library.now).all book.now change.now) }
-{
-    let (named, state, inside) = match change {
-        Change::Opens(opening) => (
-            library.get(opening.instance.script),
-            &opening.state,
-            &opening.page.item.inside,
-        ),
-        Change::Extends(extension) => (
-            book.script(library, extension.instance),
-            &extension.state,
-            &extension.show.page.item.inside,
-        ),
-        Change::Ends(_) => return Ok(true),
-        Change::Finishes(_) => return Ok(true),
-    };
-    let Some(named) = named else {
-        return Ok(false);
-    };
-    // A script's root tells that its nodes are its tree's.
-    let _root = named.script.root();
-    is_whole(alloc, &named.script, state, inside.as_slice())
 }
 
 /// The bytes of the state of the page that a change shows, for its record; none where it shows no page, or a value of the state nests
 /// too deep to be written.
 ///
-/// What recovery would not read back as this page is told as want of memory: a change of an own shelf is none of these.
+/// A ticket of another page is told as want of memory: one that a take of this shelf gave is none.
 pub fn told_state<'c>(
     alloc: Global,
     book: &Book,
@@ -171,7 +128,9 @@ pub fn told_state<'c>(
 ) -> Result<Option<&'c [u8]>, AllocError>
     requires placed { HasPlaces (library_of library.now).all book.now }
     requires states { HasSomeStates (library_of library.now).all book.now }
+    requires runs { IsRunnable (library_of library.now).all ticket.now }
     requires kept { IsKeptIn ticket.now change.now }
+    requires whole { IsWholeFrom (library_of library.now).all ticket.now change.now }
     ensures told { IfOk result (λ bytes. lent bytes ≡ told_in ticket.now change.now) }
     ensures binds { WhereTold result (BindsIn ticket.now change.now) }
     ensures goes { OnOk result (GoesOnAsGiven (library_of library.now) book.now ticket.now change.now) }
@@ -179,7 +138,7 @@ pub fn told_state<'c>(
     ensures spelled { WhereTold result (IsSpelledIn change.now) }
 {
     kept_are_written();
-    if !shows_whole(alloc, book, library, change)? {
+    if !is_of_its_script(book, ticket, change) {
         return Err(AllocError);
     }
     if !goes_on_from_book(alloc, book, library, ticket, change)? {

@@ -2,7 +2,9 @@
 ghost use Rattle.std.specs.Prelude.{◌≡◌, ◌<◌, ◌^◌, IfOk};
 ghost use Rattle.script_value.specs.Views.{meaning};
 ghost use Rattle.script_nodes.specs.Views.{library_of};
-ghost use Rattle.send_suspend.specs.Segments.{newest, FitsFrom, Replays};
+ghost use Rattle.machine_states.specs.Fits.{Fits};
+ghost use Rattle.machine_states.specs.Views.{Keeps};
+ghost use Rattle.send_suspend.specs.Segments.{newest, FitsFrom, IsConsistent, Replays};
 ghost use Rattle.instance_book.specs.Fits.{IsRunnable};
 ghost use Rattle.shelf.specs.Runs.{IsRunOver, IsRunOfItsVisit};
 
@@ -30,8 +32,10 @@ fn uncounted<L: Ledger>(
     requires one { blank.parts ≡ 1 }
     requires fits { FitsFrom script.now from }
     requires fuel { fuel < 2 ^ 63 }
-    ensures { IfOk result (λ r. Replays from script.now
+    ensures replays { IfOk result (λ r. Replays from script.now
         (newest (meaning ticket.now.answer) ticket.now.number ticket.now.url cells.now fuel) r) }
+    ensures consistent { IfOk result (IsConsistent from script.now cells.now) }
+    ensures kept { IfOk result (λ r. Keeps r.outcome (λ d. Fits script.now d)) }
 {
     let (book, share) = blank.open::<L>();
     let mut steps = Steps::from_ledger(book, share);

@@ -5,36 +5,9 @@ ghost use Rattle.shelf.specs.Recording.{WhereTrue, AreAsLong, IsAllShared};
 
 use frame_codec::{Delta, delta};
 use machine_states::Suspended;
-use script_value::{TxName, equal};
+use script_value::equal;
 use std::alloc::{AllocError, Global};
 use web_cells::Shadow;
-
-/// Whether these are the same names, in the same order.
-pub fn are_same_names(left: &[TxName], right: &[TxName]) -> bool
-    ensures { IsTrue result ↔ (left.now ≡ right.now) }
-{
-    let mut left = left;
-    let mut right = right;
-    loop {
-        match (left, right) {
-            ([], []) => return true,
-            ([first, others @ ..], [second, rest @ ..]) => {
-                if !is_same_name(first, second) {
-                    return false;
-                }
-                left = others;
-                right = rest;
-            }
-            _ => return false,
-        }
-    }
-}
-
-fn is_same_name(left: &TxName, right: &TxName) -> bool
-    ensures { IsTrue result ↔ (left.now ≡ right.now) }
-{
-    left.ticket == right.ticket && left.entry == right.entry
-}
 
 // Whether these are the same bindings of web cells, in the same order.
 fn are_same_bindings(left: &[Shadow], right: &[Shadow]) -> bool

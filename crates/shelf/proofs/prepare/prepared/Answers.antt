@@ -30,6 +30,7 @@ returns-in-Ok-clause-landed c =
       deadline = both.0;
       state = both.1;
       held = c.in-Ok.ensures.held;
+      whole = c.in-Ok.ensures.whole;
       own = λ fits. c.in-Ok.ensures.state (record { admitted = c.in_default.ensures.admitted; fits = fits });
     })
 

@@ -1,15 +1,14 @@
-use Rattle.std.proofs.Common.{◌≡◌, ◌∙◌, ap, sym, subst, refl, Option}
+use Rattle.std.proofs.Common.{◌≡◌, ◌∙◌, ap, sym, subst, refl, Option, Some, slice_get, IfOk}
 use Rattle.std.proofs.lemmas.Option.{same_Some}
-use Rattle.script_value.specs.Views.{meaning}
 use Rattle.script_nodes.specs.Arena.{Arena}
 use Rattle.script_nodes.specs.Setup.{Named}
 use Rattle.script_nodes.specs.Views.{library_of, named_of}
 use Rattle.machine_states.specs.Machine.{Suspended}
 use Rattle.machine_states.specs.Views.{origin_of}
-use Rattle.send_suspend.specs.Segments.{newest, Replays}
 use Rattle.instance_book.specs.Places.{arena_of}
 use Rattle.instance_book.specs.Fits.{FitsScript}
-use Rattle.shelf.proofs.Replayed.{arena_is, fits_from, replays_alike, run_as, if_ok}
+use Rattle.shelf.specs.Runs.{IsRunFrom}
+use Rattle.shelf.proofs.Replayed.{arena_is, fits_from, run_alike, run_as, if_ok, for_all}
 use Rattle.shelf.proofs.run.run_ticket.Goals as goal
 
 pub uncounted-requires-clause-fits : goal.uncounted-requires-clause-fits
@@ -22,25 +21,25 @@ uncounted-requires-clause-fits c =
     (subst (λ (a : Arena). FitsScript a (origin_of c.in_ok-from.from)) (sym arena)
     (subst (λ (o : Option Suspended). FitsScript (arena_of runs.named.script) o) (sym c.in_ok-from.ensures) runs.from))
 
-pub returns-clause-run : goal.returns-clause-run
-returns-clause-run c =
-    let t = c.args.ticket.now in
+-- whatever the ticket is for
+runs : (c : goal.After-uncounted) → let rust = c.in-Some.named.now in (named : Named) → slice_get (library_of c.args.library.now).all c.args.ticket.now.script ≡ Some named
+    → IfOk c.uncounted.result (IsRunFrom (arena_of named.script) c.args.fuel c.args.ticket.now c.args.cells.now)
+runs c named found =
     let rust = c.in-Some.named.now in
-    let x = newest (meaning t.answer) t.number t.url c.args.cells.now c.args.fuel in
-    if_ok c.uncounted.result c.uncounted.ensures (λ r is named found.
     let mine : named_of rust ≡ named = same_Some (named_of rust) named (c.in-Some.ensures ∙ found) in
     let arena : rust.script ≡ arena_of named.script = arena_is rust.script c.root-root.ensures.script ∙ ap (λ (n : Named). arena_of n.script) mine in
-    subst (λ (a : Arena). Replays t.from a x r) arena (replays_alike c.in_ok-from.from t.from rust.script x r c.in_ok-from.ensures is))
+    run_alike c.args.ticket.now c.in_ok-from.from rust.script (arena_of named.script) c.args.fuel c.args.cells.now c.uncounted.result c.in_ok-from.ensures arena c.uncounted.ensures.replays
+    c.uncounted.ensures.consistent c.uncounted.ensures.kept
+
+pub returns-clause-run : goal.returns-clause-run
+returns-clause-run c =
+    let all = (library_of c.args.library.now).all in
+    for_all (λ (named : Named). slice_get all c.args.ticket.now.script ≡ Some named) (λ named. IsRunFrom (arena_of named.script) c.args.fuel c.args.ticket.now c.args.cells.now)
+    c.uncounted.result (runs c)
 
 pub returns-clause-visit : goal.returns-clause-visit
 returns-clause-visit c =
-    let t = c.args.ticket.now in
-    let rust = c.in-Some.named.now in
-    let x = newest (meaning t.answer) t.number t.url c.args.cells.now c.args.fuel in
     let all = (library_of c.args.library.now).all in
-    if_ok c.uncounted.result c.uncounted.ensures (λ r is.
-    run_as all t rust.script c.root-root.ensures.script (named_of rust) refl (sym c.in-Some.ensures) c.effects_are_on_cells.ensures c.root-root.ensures.cells c.args.fuel c.args.cells.now r
-    (λ named found.
-    let mine : named_of rust ≡ named = same_Some (named_of rust) named (c.in-Some.ensures ∙ found) in
-    let arena : rust.script ≡ arena_of named.script = arena_is rust.script c.root-root.ensures.script ∙ ap (λ (n : Named). arena_of n.script) mine in
-    subst (λ (a : Arena). Replays t.from a x r) arena (replays_alike c.in_ok-from.from t.from rust.script x r c.in_ok-from.ensures is)))
+    let rust = c.in-Some.named.now in
+    if_ok c.uncounted.result (returns-clause-run c) (λ r is.
+    run_as all c.args.ticket.now rust.script c.root-root.ensures.script (named_of rust) refl (sym c.in-Some.ensures) c.effects_are_on_cells.ensures c.root-root.ensures.cells c.args.fuel c.args.cells.now r is)

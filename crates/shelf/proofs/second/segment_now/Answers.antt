@@ -1,31 +1,52 @@
-use Rattle.std.proofs.Common.{◌≡◌, ◌∙◌, ap, sym, subst, refl, map, List, Some, None, option_map, true, false}
+use Rattle.std.proofs.Common.{◌≡◌, ◌∙◌, ap, sym, subst, refl, map, length, List, ℕ, Some, None, option_map, true, false}
+use Rattle.script_value.specs.Val.{Val}
 use Rattle.script_nodes.specs.Views.{library_of, named_of}
+use Rattle.page_names.specs.Names.{Destination, page}
 use Rattle.page_names.specs.Views.{target_of, name_of}
+use Rattle.page_names.specs.declared.names.PageName.{PageName}
 use Rattle.page_names.specs.declared.names.Target.{Target}
-use Rattle.instance_cells.specs.Cells.{Holds}
+use Rattle.instance_cells.specs.Cells.{Effect, Holds, AreOn}
 use Rattle.instance_cells.specs.Views.{effect_of}
 use Rattle.instance_cells.specs.declared.effect.Effect as rust
+use Rattle.replay_spec.specs.Book.{Book}
 use Rattle.replay_spec.specs.Admission.{admit}
 use Rattle.instance_book.specs.Admissions.{book_under}
-use Rattle.instance_book.specs.Swept.{cells_in}
+use Rattle.instance_book.specs.Swept.{cells_in, cells_at}
 use Rattle.instance_book.specs.Views.{no_journal}
 use Rattle.instance_book.proofs.Seen.{cells_seen}
 use Rattle.machine_states.specs.Views.{segment_of}
-use Rattle.shelf.specs.Holding.{AreHeld}
-use Rattle.shelf.proofs.Replayed.{if_ok}
-use Rattle.shelf.proofs.Now.{gone_segment, start_on, start_holds, keeps_state, held_segment, rerun_segment, page_held}
+use Rattle.shelf.specs.Holding.{AreHeld, IsForItsVisit}
+use Rattle.shelf.specs.Views.{HoldIn}
+use Rattle.shelf.proofs.Replayed.{shows_whole, start_held, page_held, held_on, on_cells_of}
+use Rattle.shelf.proofs.Now.{of_some, gone_segment, keeps_state, held_segment, rerun_segment, same_count, if_some}
 use Rattle.shelf.proofs.second.segment_now.Goals as goal
+use Rattle.shelf.proofs.second.segment_now.Goals.{Then-holds, After-drop-first-then-len-6}
 
-pub returns-in_default-target-clause-first : goal.returns-in_default-target-clause-first
-returns-in_default-target-clause-first c own hold =
-    let b = book_under (library_of c.args.library.now) c.args.book.now in
-    let t = c.args.ticket.now in
-    let named = c.in-Some.named.now in
-    let on = start_on (library_of c.args.library.now).all b t (name_of c.in_default-target.field-0) named.script c.root-root.ensures.script (named_of named) refl (sym c.in-Some.ensures) c.args.fuel t.cells c.args.first c.requires.segment c.effects_are_on_cells.ensures
-    (admit b (target_of t.target)) c.root-root.ensures.cells (ap (λ (x : Target). admit b (target_of x)) (sym c.in_default-target.is)) own.admitted own.fits in
-    let holds = start_holds (library_of c.args.library.now).all b t (name_of c.in_default-target.field-0) named.script c.root-root.ensures.script (named_of named) refl (sym c.in-Some.ensures) c.args.fuel t.cells c.args.first c.requires.segment c.effects_hold.ensures
-    (admit b (target_of t.target)) (ap (λ (x : Target). admit b (target_of x)) (sym c.in_default-target.is)) own.admitted own.fits refl in
-    c.held.ensures.same (record { on = on; hold = holds })
+-- counts that are the same
+as_many : (defaults given cells : List Val) (n m : ℕ) → given ≡ defaults → n ≡ length given → n ≡ m → m ≡ length cells → length defaults ≡ length cells
+as_many defaults given cells n m same first both second = ap (λ (vs : List Val). length vs) (sym same) ∙ (sym first ∙ (both ∙ second))
+
+-- what holds over the cells of now holds over those of the answered page's instance
+hold_over : (b : Book) (d : Destination) (name : List ℕ) (n : PageName) (cells : List Val) (es : List Effect) → d ≡ page name n → cells_in n.instance b ≡ Some cells → HoldIn b d es → Holds es cells
+hold_over b d name n cells es is here hold = of_some (cells_in n.instance b) cells (λ vs. Holds es vs) here (subst (λ (x : Destination). HoldIn b x es) is hold)
+
+-- ---- a start
+
+pub returns-in_default-target-clause-held : goal.returns-in_default-target-clause-held
+returns-in_default-target-clause-held c =
+    start_held (library_of c.args.library.now) c.args.book.now c.args.ticket.now (target_of c.args.ticket.now.target) (name_of c.in_default-target.field-0) c.args.fuel c.args.first (ap target_of c.in_default-target.is)
+    c.requires.script c.requires.segment
+
+pub returns-in_default-target-clause-on : goal.returns-in_default-target-clause-on
+returns-in_default-target-clause-on c =
+    held_on c.args.book.now c.args.ticket.now (target_of c.args.ticket.now.target) (map effect_of c.args.first.effects.items)
+    (start_held (library_of c.args.library.now) c.args.book.now c.args.ticket.now (target_of c.args.ticket.now.target) (name_of c.in_default-target.field-0) c.args.fuel c.args.first (ap target_of c.in_default-target.is)
+    c.requires.script c.requires.segment)
+
+pub returns-in_default-target-clause-whole : goal.returns-in_default-target-clause-whole
+returns-in_default-target-clause-whole c = shows_whole (library_of c.args.library.now).all c.args.ticket.now c.args.fuel c.args.ticket.now.cells c.args.first c.requires.runs c.requires.segment
+
+-- ---- an answer, whose instance is gone
 
 pub returns-in_default-cells-clause-segment : goal.returns-in_default-cells-clause-segment
 returns-in_default-cells-clause-segment c own =
@@ -42,55 +63,144 @@ returns-in_default-cells-clause-state c own =
     let named = c.in-Some.named.now in
     keeps_state (library_of c.args.library.now).all b t (name_of c.in-Page.field-0) named.script c.root-root.ensures.script (named_of named) refl (sym c.in-Some.ensures) c.args.fuel t.cells c.args.first c.requires.segment (admit b (target_of t.target)) own.fits
 
-pub returns-then-are_held-clause-segment : goal.returns-then-are_held-clause-segment
-returns-then-are_held-clause-segment c own =
+pub returns-in_default-cells-clause-whole : goal.returns-in_default-cells-clause-whole
+returns-in_default-cells-clause-whole c = shows_whole (library_of c.args.library.now).all c.args.ticket.now c.args.fuel c.args.ticket.now.cells c.args.first c.requires.runs c.requires.segment
+
+-- ---- an answer, whose instance has more or fewer cells than the ticket's script
+
+-- a ticket that is for its visit has a script with as many
+not_many : (c : After-drop-first-then-len-6) → ¬ IsForItsVisit (library_of c.args.library.now) c.args.book.now c.args.ticket.now
+not_many c own =
     let b = book_under (library_of c.args.library.now) c.args.book.now in
     let t = c.args.ticket.now in
     let named = c.in-Some.named.now in
-    let page = c.in-Page.page in
-    let here : cells_in page.instance b ≡ Some c.in-Some-cells.cells.now = sym (cells_seen (library_of c.args.library.now) no_journal page.instance c.args.book.now) ∙ sym c.in-Some-cells.ensures in
-    let holds : Holds (map effect_of c.args.first.effects.items) c.in-Some-cells.cells.now =
-    subst (λ (es : List rust.Effect). Holds (map effect_of es) c.in-Some-cells.cells.now) c.deref.ensures.value (c.if-are_held.ensures.0 refl).hold in
-    held_segment (library_of c.args.library.now).all b t (name_of c.in-Page.field-0) named.script c.root-root.ensures.script (named_of named) refl (sym c.in-Some.ensures) c.args.fuel t.cells c.args.first c.requires.segment page c.in-Some-cells.cells.now here
-    c.effects_hold_run_same.ensures (admit b (target_of t.target)) (ap (λ (x : Target). admit b (target_of x)) (sym c.in-Page.is)) own.fits holds
+    let shown = c.in-Page.page in
+    let here : cells_in shown.instance b ≡ Some c.in-Some-cells.cells.now = sym (cells_seen (library_of c.args.library.now) no_journal shown.instance c.args.book.now) ∙ sym c.in-Some-cells.ensures in
+    let many : length named.script.cells ≡ length c.in-Some-cells.cells.now =
+    same_count (library_of c.args.library.now).all b t (name_of c.in-Page.field-0) named.script c.root-root.ensures.script (named_of named) refl (sym c.in-Some.ensures) c.args.fuel t.cells c.args.first c.requires.segment shown
+    c.in-Some-cells.cells.now here c.requires.cells (admit b (target_of t.target)) (ap (λ (x : Target). admit b (target_of x)) (sym c.in-Page.is)) own.admitted own.fits in
+    c.if-len.true (c.len.ensures ∙ (ap (λ (vs : List Val). length vs) c.instance_defaults.ensures ∙ (many ∙ sym c.len-2.ensures)))
 
-pub returns-then-are_held-clause-state : goal.returns-then-are_held-clause-state
-returns-then-are_held-clause-state c own =
+pub returns-then-len-clause-first : goal.returns-then-len-clause-first
+returns-then-len-clause-first c own hold = absurd (not_many c own)
+
+pub returns-then-len-clause-none : goal.returns-then-len-clause-none
+returns-then-len-clause-none c = not_many c
+
+-- ---- an answer, where the first run's effects hold over the cells of now
+
+pub holds-requires : goal.holds-requires
+holds-requires c =
+    let named = c.in-Some.named.now in
+    let cells = c.in-Some-cells.cells.now in
+    let on = on_cells_of (library_of c.args.library.now).all c.args.ticket.now (named_of named) c.args.fuel c.args.ticket.now.cells c.args.first cells (sym c.in-Some.ensures)
+    (as_many named.script.cells c.instance_defaults.result.now cells c.len.result c.len-2.result c.instance_defaults.ensures c.len.ensures c.if-len.false c.len-2.ensures) c.requires.segment in
+    subst (λ (es : List rust.Effect). AreOn (length cells) (map effect_of es)) (sym c.deref.ensures.value) on
+
+-- they hold over them
+first_holds : (c : Then-holds) → Holds (map effect_of c.args.first.effects.items) c.in-Some-cells.cells.now
+first_holds c = subst (λ (es : List rust.Effect). Holds (map effect_of es) c.in-Some-cells.cells.now) c.deref.ensures.value (c.if-holds.ensures.0 refl)
+
+pub returns-then-holds-clause-held : goal.returns-then-holds-clause-held
+returns-then-holds-clause-held c =
+    let b = c.args.book.now in
+    let es = map effect_of c.args.first.effects.items in
+    let shown = c.in-Page.page in
+    let named = c.in-Some.named.now in
+    let cells = c.in-Some-cells.cells.now in
+    let held : AreHeld es cells = record {
+      on = on_cells_of (library_of c.args.library.now).all c.args.ticket.now (named_of named) c.args.fuel c.args.ticket.now.cells c.args.first cells (sym c.in-Some.ensures)
+          (as_many named.script.cells c.instance_defaults.result.now cells c.len.result c.len-2.result c.instance_defaults.ensures c.len.ensures c.if-len.false c.len-2.ensures) c.requires.segment;
+      hold = first_holds c;
+    } in
+    page_held b c.args.ticket.now (target_of c.args.ticket.now.target) (name_of c.in-Page.field-0) shown es (ap target_of c.in-Page.is)
+    (if_some (cells_at shown.instance b) cells (AreHeld es) (sym c.in-Some-cells.ensures) held)
+
+pub returns-then-holds-clause-on : goal.returns-then-holds-clause-on
+returns-then-holds-clause-on c =
+    held_on c.args.book.now c.args.ticket.now (target_of c.args.ticket.now.target) (map effect_of c.args.first.effects.items) (returns-then-holds-clause-held c)
+
+pub returns-then-holds-clause-whole : goal.returns-then-holds-clause-whole
+returns-then-holds-clause-whole c = shows_whole (library_of c.args.library.now).all c.args.ticket.now c.args.fuel c.args.ticket.now.cells c.args.first c.requires.runs c.requires.segment
+
+pub returns-then-holds-clause-segment : goal.returns-then-holds-clause-segment
+returns-then-holds-clause-segment c own =
+    let b = book_under (library_of c.args.library.now) c.args.book.now in
+    let t = c.args.ticket.now in
+    let named = c.in-Some.named.now in
+    let shown = c.in-Page.page in
+    let here : cells_in shown.instance b ≡ Some c.in-Some-cells.cells.now = sym (cells_seen (library_of c.args.library.now) no_journal shown.instance c.args.book.now) ∙ sym c.in-Some-cells.ensures in
+    held_segment (library_of c.args.library.now).all b t (name_of c.in-Page.field-0) named.script c.root-root.ensures.script (named_of named) refl (sym c.in-Some.ensures) c.args.fuel t.cells c.args.first c.requires.segment shown c.in-Some-cells.cells.now here
+    c.effects_hold_run_same.ensures (admit b (target_of t.target)) (ap (λ (x : Target). admit b (target_of x)) (sym c.in-Page.is)) own.fits (first_holds c)
+
+pub returns-then-holds-clause-state : goal.returns-then-holds-clause-state
+returns-then-holds-clause-state c own =
     let b = book_under (library_of c.args.library.now) c.args.book.now in
     let t = c.args.ticket.now in
     let named = c.in-Some.named.now in
     keeps_state (library_of c.args.library.now).all b t (name_of c.in-Page.field-0) named.script c.root-root.ensures.script (named_of named) refl (sym c.in-Some.ensures) c.args.fuel t.cells c.args.first c.requires.segment (admit b (target_of t.target)) own.fits
 
+-- ---- an answer that is run again over the cells of now
+
+pub returns-in-Ok-clause-segment : goal.returns-in-Ok-clause-segment
+returns-in-Ok-clause-segment c own =
+    let b = book_under (library_of c.args.library.now) c.args.book.now in
+    let t = c.args.ticket.now in
+    let named = c.in-Some.named.now in
+    let shown = c.in-Page.page in
+    let here : cells_in shown.instance b ≡ Some c.in-Some-cells.cells.now = sym (cells_seen (library_of c.args.library.now) no_journal shown.instance c.args.book.now) ∙ sym c.in-Some-cells.ensures in
+    rerun_segment (library_of c.args.library.now).all b t (name_of c.in-Page.field-0) named.script c.root-root.ensures.script (named_of named) refl (sym c.in-Some.ensures) c.args.fuel c.in-Some-cells.cells.now c.in-Ok.segment c.in-Ok.ensures.run
+    shown c.in-Some-cells.cells.now here (admit b (target_of t.target)) (ap (λ (x : Target). admit b (target_of x)) (sym c.in-Page.is)) own.fits refl
+
+pub returns-in-Ok-clause-state : goal.returns-in-Ok-clause-state
+returns-in-Ok-clause-state c own =
+    let b = book_under (library_of c.args.library.now) c.args.book.now in
+    let t = c.args.ticket.now in
+    let named = c.in-Some.named.now in
+    keeps_state (library_of c.args.library.now).all b t (name_of c.in-Page.field-0) named.script c.root-root.ensures.script (named_of named) refl (sym c.in-Some.ensures) c.args.fuel c.in-Some-cells.cells.now c.in-Ok.segment c.in-Ok.ensures.run
+    (admit b (target_of t.target)) own.fits
+
+-- the effects of the first run don't hold over them
+pub returns-in-Ok-clause-first : goal.returns-in-Ok-clause-first
+returns-in-Ok-clause-first c own hold =
+    let b = book_under (library_of c.args.library.now) c.args.book.now in
+    let shown = c.in-Page.page in
+    let cells = c.in-Some-cells.cells.now in
+    let here : cells_in shown.instance b ≡ Some cells = sym (cells_seen (library_of c.args.library.now) no_journal shown.instance c.args.book.now) ∙ sym c.in-Some-cells.ensures in
+    let over = hold_over b (target_of c.args.ticket.now.target) (name_of c.in-Page.field-0) shown cells (map effect_of c.args.first.effects.items) (ap target_of c.in-Page.is) here hold in
+    let no : false ≡ true = c.if-holds.ensures.1 (subst (λ (xs : List rust.Effect). Holds (map effect_of xs) cells) (sym c.deref.ensures.value) over) in
+    absurd (cc no)
+
 pub returns-clause-first : goal.returns-clause-first
 returns-clause-first c own hold =
     let b = book_under (library_of c.args.library.now) c.args.book.now in
-    let t = c.args.ticket.now in
-    let named = c.in-Some.named.now in
-    let page = c.in-Page.page in
-    let here : cells_in page.instance b ≡ Some c.in-Some-cells.cells.now = sym (cells_seen (library_of c.args.library.now) no_journal page.instance c.args.book.now) ∙ sym c.in-Some-cells.ensures in
-    let held : AreHeld (map effect_of c.args.first.effects.items) c.in-Some-cells.cells.now =
-    page_held (library_of c.args.library.now).all b t (name_of c.in-Page.field-0) named.script c.root-root.ensures.script (named_of named) refl (sym c.in-Some.ensures) c.args.fuel t.cells c.args.first c.requires.segment page c.in-Some-cells.cells.now here
-    c.effects_are_on_cells.ensures (target_of t.target) (ap target_of c.in-Page.is) c.root-root.ensures.cells c.requires.cells own.admitted own.fits hold in
-    let seen : AreHeld (map effect_of c.deref.result.now) c.in-Some-cells.cells.now =
-    subst (λ (es : List rust.Effect). AreHeld (map effect_of es) c.in-Some-cells.cells.now) (sym c.deref.ensures.value) held in
-    let no : false ≡ true = c.if-are_held.ensures.1 seen in
-    absurd (cc)
+    let shown = c.in-Page.page in
+    let cells = c.in-Some-cells.cells.now in
+    let here : cells_in shown.instance b ≡ Some cells = sym (cells_seen (library_of c.args.library.now) no_journal shown.instance c.args.book.now) ∙ sym c.in-Some-cells.ensures in
+    let over = hold_over b (target_of c.args.ticket.now.target) (name_of c.in-Page.field-0) shown cells (map effect_of c.args.first.effects.items) (ap target_of c.in-Page.is) here hold in
+    let no : false ≡ true = c.if-holds.ensures.1 (subst (λ (xs : List rust.Effect). Holds (map effect_of xs) cells) (sym c.deref.ensures.value) over) in
+    absurd (cc no)
 
-pub returns-clause-segment : goal.returns-clause-segment
-returns-clause-segment c own =
-    let b = book_under (library_of c.args.library.now) c.args.book.now in
-    let t = c.args.ticket.now in
+pub returns-in-Ok-clause-held : goal.returns-in-Ok-clause-held
+returns-in-Ok-clause-held c =
+    let b = c.args.book.now in
+    let r = c.in-Ok.segment in
+    let es = map effect_of r.effects.items in
+    let shown = c.in-Page.page in
+    let cells = c.in-Some-cells.cells.now in
     let named = c.in-Some.named.now in
-    let page = c.in-Page.page in
-    let here : cells_in page.instance b ≡ Some c.in-Some-cells.cells.now = sym (cells_seen (library_of c.args.library.now) no_journal page.instance c.args.book.now) ∙ sym c.in-Some-cells.ensures in
-    if_ok c.run_again.result c.run_again.ensures.run (λ r run.
-    rerun_segment (library_of c.args.library.now).all b t (name_of c.in-Page.field-0) named.script c.root-root.ensures.script (named_of named) refl (sym c.in-Some.ensures) c.args.fuel c.in-Some-cells.cells.now r run page c.in-Some-cells.cells.now here
-    (admit b (target_of t.target)) (ap (λ (x : Target). admit b (target_of x)) (sym c.in-Page.is)) own.fits refl)
+    let many = as_many named.script.cells c.instance_defaults.result.now cells c.len.result c.len-2.result c.instance_defaults.ensures c.len.ensures c.if-len.false c.len-2.ensures in
+    let held : AreHeld es cells = record {
+      on = on_cells_of (library_of c.args.library.now).all c.args.ticket.now (named_of named) c.args.fuel cells r cells (sym c.in-Some.ensures) many c.in-Ok.ensures.run;
+      hold = (c.in-Ok.ensures.run (named_of named) (sym c.in-Some.ensures)).consistent.hold;
+    } in
+    page_held b c.args.ticket.now (target_of c.args.ticket.now.target) (name_of c.in-Page.field-0) shown es (ap target_of c.in-Page.is)
+    (if_some (cells_at shown.instance b) cells (AreHeld es) (sym c.in-Some-cells.ensures) held)
 
-pub returns-clause-state : goal.returns-clause-state
-returns-clause-state c own =
-    let b = book_under (library_of c.args.library.now) c.args.book.now in
-    let t = c.args.ticket.now in
-    let named = c.in-Some.named.now in
-    if_ok c.run_again.result c.run_again.ensures.run (λ r run.
-    keeps_state (library_of c.args.library.now).all b t (name_of c.in-Page.field-0) named.script c.root-root.ensures.script (named_of named) refl (sym c.in-Some.ensures) c.args.fuel c.in-Some-cells.cells.now r run (admit b (target_of t.target)) own.fits)
+pub returns-in-Ok-clause-on : goal.returns-in-Ok-clause-on
+returns-in-Ok-clause-on c =
+    held_on c.args.book.now c.args.ticket.now (target_of c.args.ticket.now.target) (map effect_of c.in-Ok.segment.effects.items) (returns-in-Ok-clause-held c)
+
+pub returns-in-Ok-clause-whole : goal.returns-in-Ok-clause-whole
+returns-in-Ok-clause-whole c =
+    shows_whole (library_of c.args.library.now).all c.args.ticket.now c.args.fuel c.in-Some-cells.cells.now c.in-Ok.segment c.requires.runs c.in-Ok.ensures.run

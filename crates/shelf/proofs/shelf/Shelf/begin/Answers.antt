@@ -8,11 +8,12 @@ use Rattle.page_journal.specs.Settled.{bodies_in}
 use Rattle.shelf.specs.Opening.{making_on, opening_bodies, HasAdded}
 use Rattle.journal_spec.specs.Making.{Making}
 use Rattle.shelf.specs.Owning.{HoldsOwnRecords}
-use Rattle.shelf.specs.declared.begin.BeginFault.TheVariants.{DiskFault}
+use Rattle.shelf.specs.Faults.{begin_fault}
+use Rattle.shelf.specs.declared.begin.BeginFault.TheVariants.{DiskFault, Full}
 use Rattle.shelf.proofs.Owned.{recovery_own}
 use Rattle.shelf.proofs.OwnOpenings.{records_found, records_left}
 use Rattle.shelf.proofs.Openings.{same_books, one_of_there}
-use Rattle.shelf.proofs.Opened.{opened_makes, opened_again, opened_order, opened_is_own, opens_all, keeps_read}
+use Rattle.shelf.proofs.Opened.{opened_makes, opened_again, opened_order, opened_is_own, opens_all, keeps_read, full_still, never_full}
 use Rattle.shelf.specs.declared.shelf.Shelf.{Shelf}
 use Rattle.shelf.proofs.shelf.Shelf.begin.Goals as goal
 use Rattle.shelf.proofs.shelf.Shelf.begin.Goals.{After-read-file}
@@ -129,3 +130,17 @@ returns-in-Err-open-clause-keeps g c = λ told no.
     let has = c.in-Err-open.ensures.opened.keeps told (λ e. let is : c.in-Err-open.fault ≡ DiskFault = cc e in no (λ i. Err (is i))) in
     let kept = keeps_read v [] (v c.args.disk) j c.open.new.journal (c.in-Ok.ensures.settled told) (c.in-Ok.ensures.records told) (c.in-Ok.ensures.intact told) has in
     rw c.close.ensures kept
+
+pub returns-in-Err-clause-full : goal.returns-in-Err-clause-full
+returns-in-Err-clause-full g c = λ told len is.
+    let no : begin_fault c.in-Err.fault ≡ Full len = cc (is, c.fault_by.ensures) in absurd (never_full c.in-Err.fault len no)
+
+pub returns-in-Err-open-clause-full : goal.returns-in-Err-open-clause-full
+returns-in-Err-open-clause-full g c = λ told len is.
+    let v = g.D.Disk.view in
+    let j = c.in-Ok.journal in
+    let same : c.in-Err-open.fault ≡ Full len = cc is in
+    let has = c.in-Err-open.ensures.opened.keeps told (λ e. let other : Full len ≡ DiskFault = cc (e, same) in let none : ⊥ = cc other in none) in
+    let still = full_still v (scripts_of c.args.setup.now) c.args.rules.number j c.open.new.journal c.in-Err-open.fault len same
+    (c.in-Ok.ensures.settled told) has (c.in-Err-open.ensures.opened.refused told) in
+    rw c.close.ensures still

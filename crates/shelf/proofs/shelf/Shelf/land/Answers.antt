@@ -91,6 +91,11 @@ told_body-requires-clause-kept g c =
     let q = c.requires in
     landing.kept_there g.D.Disk.view g.D.Disk.tells c.args.self.now q.in_order c.args.ticket.now c.args.prepared q.up q.out q.script q.landed q.room c.in-Some.change c.in-Some.is
 
+pub told_body-requires-clause-whole : goal.told_body-requires-clause-whole
+told_body-requires-clause-whole g c =
+    let q = c.requires in
+    landing.whole_there g.D.Disk.view g.D.Disk.tells c.args.self.now q.in_order c.args.ticket.now c.args.prepared q.up q.out q.script q.landed q.room c.in-Some.change c.in-Some.is
+
 pub told_body-requires-clause-spelled : goal.told_body-requires-clause-spelled
 told_body-requires-clause-spelled g c =
     let q = c.requires in
