@@ -20,6 +20,7 @@ use Rattle.play_desk.specs.Opening.{AreOpened, AllKept, AllStayKept, AreHome, Co
 use Rattle.play_desk.specs.Staff.{AreFit, HaveOwnNumbers, IsHome, desk_with, faults_in, numbers_in, shelf_at, total}
 use Rattle.play_desk.specs.declared.opening.OpenCause.{OpenCause}
 use Rattle.play_desk.specs.declared.opening.OpenCause.TheVariants as cause
+use Rattle.play_desk.proofs.Asking.{asked_more, asked_none}
 use Rattle.play_desk.proofs.Places.{in_push, none_there, same_Some}
 use Rattle.play_desk.proofs.Closing.{at_last, in_front}
 use Rattle.play_desk.proofs.Fitting.{number_at, own_numbers}
@@ -44,6 +45,7 @@ opened_none view rack_tells tells scripts rules first home few = record {
   later = omega (arith, few);
   rack_later = omega arith;
   failed_later = λ n. omega arith;
+  asked = asked_none first;
 }
 
 -- what stands in a list with one more stands at the place before the last, or last
@@ -280,6 +282,7 @@ module _ {D : Type 0} (view : D → View) (rack_tells tells : Bool) (scripts : L
         later = all_later;
         rack_later = omega (arith, o.rack_later, h.rack_later);
         failed_later = none_fell;
+        asked = asked_more count first now next o.asked h.asked;
       }
 
 -- where nobody holds a ticket they are fit, and the first desk

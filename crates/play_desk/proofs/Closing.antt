@@ -17,6 +17,7 @@ use Rattle.shelf.specs.Owning.{StandsOwn}
 use Rattle.shelf.specs.Views.{book_in, rules_of}
 use Rattle.play_steps.specs.Rules.{StaysUp}
 use Rattle.play_steps.specs.declared.stage.Reopen.{Reopen}
+use Rattle.play_steps.specs.declared.stage.Reopen.TheVariants as reopen
 use Rattle.play_desk.specs.Desk.{Desk}
 use Rattle.play_desk.specs.Opening.{AreHome, CountStays, GivesOne, HoldImages, HoldTheBooks, HoldsTheBook, IsLeft, IsPutBack, KeepsShelvesBut, LeaveOthers, LeavesLost, StandsLost, TellsItsRoom, TellsRoom}
 use Rattle.play_desk.specs.Staff.{AreFit, AreOwn, HaveOwnNumbers, IsHome, desk_with, faults_in, numbers_in, shelf_at, total}
@@ -131,10 +132,26 @@ book_fewer rules shelf held holds b h among = record {
   stands = (h.stands.0, (h.stands.1.0, (λ image is. h.stands.1.1.0 image (among image is), h.stands.1.1.1)));
 }
 
+-- what is told of the room is so of fewer images
+room_fewer : (rules : Rules) (scripts : List Named) (shelf : ℕ) (held holds : List ℕ → Type 0) (b : Book) (why : Reopen)
+    → TellsRoom rules scripts shelf held b why → AreAmong holds held → TellsRoom rules scripts shelf holds b why
+room_fewer rules scripts shelf held holds b (reopen.Full len) h among = record {
+  another = h.another;
+  book = h.book;
+  crashed = h.crashed;
+  length = h.length;
+  long = h.long;
+  left = λ image is. h.left image (among image is);
+}
+room_fewer rules scripts shelf held holds b (reopen.Damaged place) h among = tt
+room_fewer rules scripts shelf held holds b (reopen.Other place) h among = tt
+room_fewer rules scripts shelf held holds b reopen.Disk h among = tt
+room_fewer rules scripts shelf held holds b reopen.Memory h among = tt
+
 -- the disks stand for the books where those of the other shelves went home behind it
 pub left_behind : {D : Type 0} (view : D → View) (tells : Bool) (scripts : List Named) (xs ys : List (Shelf D Counting)) (ts : List (Option Ticket)) (place : ℕ)
     (why : Reopen) (mid after : RackView) → IsTrue tells → AreFit view tells xs ts → AreOwn view tells xs ts → KeepsShelvesBut place xs ys
-    → LeavesLost view scripts xs place mid.holds → TellsItsRoom view scripts xs place why → IsPutBack xs place mid.out → IsHome ys mid.out
+    → LeavesLost view scripts xs place mid.holds → TellsItsRoom view scripts xs place mid.holds why → IsPutBack xs place mid.out → IsHome ys mid.out
     → HoldImages view ys after.holds → LeaveOthers ys mid after → AreHome after.out → IsLeft after (desk_with view scripts xs ts) place why
 left_behind {D = D} view tells scripts xs ys ts place why mid after told fit own kept lost room back home images others all_home = record {
   home = all_home;
@@ -158,7 +175,13 @@ left_behind {D = D} view tells scripts xs ys ts place why mid after told fit own
       (subst (λ m. StandsLost (rules_of x.0.rules) scripts m (after.holds m) b) (sym number) stands);
   room = λ s e.
       let x = from_mapped (shelf_at view) xs place s e in
-      subst (λ (z : runs.Shelf). TellsRoom z.rules scripts z.book why) x.2 (room x.0 x.1);
+      let n = x.0.rules.number in
+      let number = (fit.in_order place x.0 x.1).number in
+      let b = book_in view x.0 in
+      let fewer : AreAmong (after.holds n) (mid.holds n) = others n (λ k is. absurd (let no : true ≡ false = sym (home.ours k n is) ∙ back x.0 x.1 in cc)) in
+      let tells = room_fewer (rules_of x.0.rules) scripts n (mid.holds n) (after.holds n) b why (room x.0 x.1) fewer in
+      subst (λ (z : runs.Shelf). TellsRoom z.rules scripts z.book.shelf (after.holds z.book.shelf) z.book why) x.2
+      (subst (λ m. TellsRoom (rules_of x.0.rules) scripts m (after.holds m) b why) (sym number) tells);
 }
 
 -- and where what was left there went home
@@ -168,7 +191,7 @@ left_home xs mid after d shelf why home others back left = record {
   home = back;
   others = λ k s e other. book_fewer s.rules s.book.shelf (mid.holds s.book.shelf) (after.holds s.book.shelf) s.book (left.others k s e other) (fewer s.book.shelf);
   lost = λ s e. lost_fewer s.rules d.scripts s.book.shelf (mid.holds s.book.shelf) (after.holds s.book.shelf) s.book (left.lost s e) (fewer s.book.shelf);
-  room = left.room;
+  room = λ s e. room_fewer s.rules d.scripts s.book.shelf (mid.holds s.book.shelf) (after.holds s.book.shelf) s.book why (left.room s e) (fewer s.book.shelf);
 }
   where
     fewer : (n : ℕ) → AreAmong (after.holds n) (mid.holds n)

@@ -13,23 +13,23 @@ use Rattle.play_desk.specs.declared.opening.OpenCause.{OpenCause}
 use Rattle.play_desk.specs.declared.opening.OpenCause.TheVariants as cause
 
 -- a disk on which nothing was lost, and what may be left of it where a shelf was opened
-pub is_kept : (scripts : List Named) (k : ℕ) (old new : View) (held : List ℕ → Type 0) → AreAmong old.images held
+pub is_kept : (scripts : List Named) (k : ℕ) (old new : View) (held : List ℕ → Type 0) → old.images old.seen → AreAmong old.images held
     → KeepsRecords (opening_bodies scripts k (making_on k old)) old new → AllKept scripts k held old.seen new.images
-is_kept scripts k old new held among (inl u) left is = inl (among left (u.1.1 left is))
-is_kept scripts k old new held among (inr (intact, h)) left is = inr (intact, inr (h.1 left is ∙ h.0))
+is_kept scripts k old new held reads among (inl u) left is = inl (among left (u.1.1 left is))
+is_kept scripts k old new held reads among (inr (intact, h)) left is = inr (among old.seen reads, intact, inr (h.1 left is ∙ h.0))
 
 -- and where none was
-pub kept_unopened : (scripts : List Named) (k : ℕ) (old new : View) (held : List ℕ → Type 0) → AreAmong old.images held → KeepsRecords [] old new
-    → AllKept scripts k held old.seen new.images
-kept_unopened scripts k old new held among (inl u) left is = inl (among left (u.1.1 left is))
-kept_unopened scripts k old new held among (inr (intact, h)) left is =
-    inr (intact, inl (h.1 left is ∙ h.0 ∙ ap at_rest (append-nil (stored old.seen))))
+pub kept_unopened : (scripts : List Named) (k : ℕ) (old new : View) (held : List ℕ → Type 0) → old.images old.seen → AreAmong old.images held
+    → KeepsRecords [] old new → AllKept scripts k held old.seen new.images
+kept_unopened scripts k old new held reads among (inl u) left is = inl (among left (u.1.1 left is))
+kept_unopened scripts k old new held reads among (inr (intact, h)) left is =
+    inr (among old.seen reads, intact, inl (h.1 left is ∙ h.0 ∙ ap at_rest (append-nil (stored old.seen))))
 
 -- what might be held of a disk that was taken might be held before
 kept_in : (scripts : List Named) (k : ℕ) (held were : List ℕ → Type 0) (read left : List ℕ) → AreAmong were held → IsKept scripts k were read left
     → IsKept scripts k held read left
 kept_in scripts k held were read left among (inl h) = inl (among left h)
-kept_in scripts k held were read left among (inr h) = inr h
+kept_in scripts k held were read left among (inr h) = inr (among read h.0, h.1, h.2)
 
 pub all_kept_in : (scripts : List Named) (k : ℕ) (held were : List ℕ → Type 0) (read : List ℕ) (holds now : List ℕ → Type 0) → AreAmong were held
     → AreAmong now holds → AllKept scripts k were read holds → AllKept scripts k held read now
@@ -41,21 +41,21 @@ untouched scripts k held holds read among left is = inl (among left is)
 
 -- a disk that was given back, as no shelf was begun on it
 pub not_begun : {D : Type 0} (view : D → View) (scripts : List Named) (k : ℕ) (old new : View) (holds : ℕ → List ℕ → Type 0) (fault : BeginFault)
-    → (fault ≢ begin.DiskFault → KeepsRecords [] old new) → AreAmong (holds k) new.images
+    → old.images old.seen → (fault ≢ begin.DiskFault → KeepsRecords [] old new) → AreAmong (holds k) new.images
     → KeepsBegun view scripts k old holds (Err (reopen_of fault))
-not_begun view scripts k old new holds begin.DiskFault keeps among = tt
-not_begun view scripts k old new holds (begin.Damaged place) keeps among =
+not_begun view scripts k old new holds begin.DiskFault reads keeps among = tt
+not_begun view scripts k old new holds (begin.Damaged place) reads keeps among =
     all_kept_in scripts k old.images old.images old.seen new.images (holds k) (λ image h. h) among
-    (kept_unopened scripts k old new old.images (λ image h. h) (keeps (λ e. let no : ⊥ = cc in no)))
-not_begun view scripts k old new holds (begin.Other place) keeps among =
+    (kept_unopened scripts k old new old.images reads (λ image h. h) (keeps (λ e. let no : ⊥ = cc in no)))
+not_begun view scripts k old new holds (begin.Other place) reads keeps among =
     all_kept_in scripts k old.images old.images old.seen new.images (holds k) (λ image h. h) among
-    (kept_unopened scripts k old new old.images (λ image h. h) (keeps (λ e. let no : ⊥ = cc in no)))
-not_begun view scripts k old new holds (begin.Full len) keeps among =
+    (kept_unopened scripts k old new old.images reads (λ image h. h) (keeps (λ e. let no : ⊥ = cc in no)))
+not_begun view scripts k old new holds (begin.Full len) reads keeps among =
     all_kept_in scripts k old.images old.images old.seen new.images (holds k) (λ image h. h) among
-    (kept_unopened scripts k old new old.images (λ image h. h) (keeps (λ e. let no : ⊥ = cc in no)))
-not_begun view scripts k old new holds begin.Memory keeps among =
+    (kept_unopened scripts k old new old.images reads (λ image h. h) (keeps (λ e. let no : ⊥ = cc in no)))
+not_begun view scripts k old new holds begin.Memory reads keeps among =
     all_kept_in scripts k old.images old.images old.seen new.images (holds k) (λ image h. h) among
-    (kept_unopened scripts k old new old.images (λ image h. h) (keeps (λ e. let no : ⊥ = cc in no)))
+    (kept_unopened scripts k old new old.images reads (λ image h. h) (keeps (λ e. let no : ⊥ = cc in no)))
 
 -- no empty shelf was opened on a disk without bytes
 pub not_opened : {D : Type 0} (view : D → View) (scripts : List Named) (k : ℕ) (old : View) (held : List ℕ → Type 0) (holds : ℕ → List ℕ → Type 0) (why : Reopen)

@@ -18,4 +18,5 @@ pub mod Removing
 pub mod Owning
 pub mod Outage
 pub mod Closing
+pub mod Asking
 pub mod Beginning

@@ -1,5 +1,5 @@
 -- What a shelf is that is opened again on what a crash left.
-use Rattle.std.proofs.Common.{◌≡◌, ◌⊎◌, inl, inr, ⊎_elim, refl, subst, ℕ, ◌≤◌, List, [], Result, Ok, Err, IfOk, arith}
+use Rattle.std.proofs.Common.{◌≡◌, ◌⊎◌, inl, inr, ⊎_elim, refl, sym, ◌∙◌, ap, subst, ℕ, ◌≤◌, List, [], false, Result, Ok, Err, IfOk, arith}
 use Rattle.std.specs.Prelude.{IfErr, IsErrOf}
 use Rattle.web_outside.specs.Causes.{Rose}
 use Rattle.web_outside.specs.declared.nonces.Counting.{Counting}
@@ -7,11 +7,15 @@ use Rattle.web_disk.specs.View.{View, AreAmong}
 use Rattle.script_nodes.specs.Setup.{Named}
 use Rattle.setup_reader.specs.Texts.{setup_of_texts}
 use Rattle.replay_spec.specs.Step.{lost, kept}
-use Rattle.replay_spec.specs.Book.{Book}
+use Rattle.replay_spec.specs.Book.{Book, are_same}
+use Rattle.replay_spec.specs.Recovery.{of_length}
 use Rattle.replay_spec.specs.Rules.{Rules}
 use Rattle.journal_spec.specs.Making.{Making, damaged, other, book_in_bytes}
-use Rattle.journal_spec.specs.Standing.{IsBook, Between, Stands, OpensThroughout, if_kept}
+use Rattle.journal_spec.specs.Before.{made_of}
+use Rattle.journal_spec.specs.Standing.{IsBook, Between, Held, Stands, OpensThroughout, if_kept}
 use Rattle.journal_spec.specs.Laws.{ImagesMakeBooks}
+use Rattle.journal_spec.proofs.Setups.{recovered_setup}
+use Rattle.shelf.specs.Faults.{IsAnother}
 use Rattle.shelf.specs.Views.{book_in, rules_of}
 use Rattle.shelf.specs.Opening.{IsCrashed, AReopenedShelfHasCrashed}
 use Rattle.shelf.specs.Owning.{HasOwnImages, StandsMeasured, StandsOwn, StaysOwnThroughout, IsOwnImage}
@@ -19,7 +23,7 @@ use Rattle.page_journal.specs.Records.{Intact, records}
 use Rattle.shelf.specs.declared.shelf.Shelf.{Shelf}
 use Rattle.play_steps.specs.declared.stage.Reopen.{Reopen}
 use Rattle.play_steps.specs.declared.stage.Reopen.TheVariants as reopen
-use Rattle.play_desk.specs.Opening.{CountRose, CountStays, Finds, FindsBook, HasCrashed, HoldsOpened, StandsLost, StaysLost, TellsRoom, cause_of}
+use Rattle.play_desk.specs.Opening.{CountRose, CountStays, Finds, FindsBook, HasCrashed, HoldsOpened, LeavesNoRoom, StandsLost, StaysLost, TellsRoom, cause_of}
 use Rattle.play_desk.specs.declared.opening.OpenCause.TheVariants as cause
 
 -- a book that is found is the one behind the event crash, what was in doubt lost or kept
@@ -39,22 +43,34 @@ pub reopened_ok : {D : Type 0} (view : D → View) → AReopenedShelfHasCrashed 
 reopened_ok view law scripts old stands images among (Ok s) found = has_crashed view law scripts old stands images among (book_in view s) found
 reopened_ok view law scripts old stands images among (Err why) found = tt
 
+-- a setup that is another one than that of an image is another one than that of the books of which the image makes one
+is_another : ImagesMakeBooks → (scripts : List Named) (number : ℕ) (b : Book) (n : ℕ) (k : Between setup_of_texts number b (if_kept n b)) (image : List ℕ)
+    → Held k image → IsAnother scripts (book_in_bytes setup_of_texts number image) → are_same scripts b.scripts ≡ false
+is_another law scripts number b n k image held another =
+    ⊎_elim (λ makes. another (made_of b makes.0) makes.1)
+    (λ makes. ap (are_same scripts) (sym (recovered_setup (of_length n) kept b.down b)) ∙ another (made_of (if_kept n b) makes.0) makes.1)
+    (law setup_of_texts number b (if_kept n b) k image held)
+
 -- where there is no room for the setup, this is so of the book behind the event crash
-pub tells_room : {D : Type 0} (view : D → View) → AReopenedShelfHasCrashed view → (scripts : List Named) (old : Shelf D Counting)
+pub tells_room : {D : Type 0} (view : D → View) → ImagesMakeBooks → AReopenedShelfHasCrashed view → (scripts : List Named) (old : Shelf D Counting)
     → StandsMeasured (rules_of old.rules) old.rules.number (view old.journal.disk) (book_in view old)
     → (images : List ℕ → Type 0) → AreAmong images (view old.journal.disk).images → (opened : Result (Shelf D Counting) Reopen)
-    → Finds view scripts old.rules.number images opened → IfErr opened (TellsRoom (rules_of old.rules) scripts (book_in view old))
-tells_room view law scripts old stands images among (Ok s) found = tt
-tells_room view law scripts old stands images among (Err (reopen.Full len)) found = record {
+    → Finds view scripts old.rules.number images opened → (holds : List ℕ → Type 0) → LeavesNoRoom scripts old.rules.number holds opened
+    → IfErr opened (TellsRoom (rules_of old.rules) scripts old.rules.number holds (book_in view old))
+tells_room view make law scripts old stands images among (Ok s) found holds left = tt
+tells_room view make law scripts old stands images among (Err (reopen.Full len)) found holds left = record {
+  another = is_another make scripts old.rules.number (book_in view old) stands.0 stands.1.0 found.4.0
+      (stands.1.1.0 found.4.0 (among found.4.0 found.4.1)) found.4.2;
   book = found.0;
   crashed = has_crashed view law scripts old stands images among found.0 found.1;
   length = found.2;
   long = found.3;
+  left = left len refl;
 }
-tells_room view law scripts old stands images among (Err (reopen.Damaged place)) found = tt
-tells_room view law scripts old stands images among (Err (reopen.Other place)) found = tt
-tells_room view law scripts old stands images among (Err reopen.Disk) found = tt
-tells_room view law scripts old stands images among (Err reopen.Memory) found = tt
+tells_room view make law scripts old stands images among (Err (reopen.Damaged place)) found holds left = tt
+tells_room view make law scripts old stands images among (Err (reopen.Other place)) found holds left = tt
+tells_room view make law scripts old stands images among (Err reopen.Disk) found holds left = tt
+tells_room view make law scripts old stands images among (Err reopen.Memory) found holds left = tt
 
 -- what makes a book makes no fault
 no_damage : (making : Making) (place : ℕ) (a b : Book) → IsBook making a ⊎ IsBook making b → making ≡ damaged place → ⊥

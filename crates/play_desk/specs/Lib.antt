@@ -1,3 +1,4 @@
+pub mod Asking
 pub mod Target
 pub mod Edits
 pub mod Desk

@@ -5,7 +5,7 @@ use Rattle.web_outside.specs.declared.nonces.Counting.{Counting}
 use Rattle.web_disk.specs.View.{View, RackView, AreAmong}
 use Rattle.script_nodes.specs.Setup.{Named}
 use Rattle.setup_reader.specs.Texts.{setup_of_texts}
-use Rattle.replay_spec.specs.Book.{Book}
+use Rattle.replay_spec.specs.Book.{Book, are_same}
 use Rattle.replay_spec.specs.Rules as runs
 use Rattle.replay_spec.specs.Rules.{empty_book}
 use Rattle.replay_spec.specs.Runs as runs_spec
@@ -17,6 +17,7 @@ use Rattle.journal_spec.specs.Opening.{opened_book}
 use Rattle.journal_spec.specs.Standing.{Between, HoldIn, IsOneOf, if_kept}
 use Rattle.journal_spec.specs.Laws.{MeasuresDoubt}
 use Rattle.shelf.specs.Views.{book_in, rules_of, IsInOrder, IsOwnShelf}
+use Rattle.shelf.specs.Faults.{IsAnother, IsTooLong}
 use Rattle.shelf.specs.Opening.{IsCrashed, opening_bodies}
 use Rattle.shelf.specs.Owning.{OwnRecords, HoldOwn, HoldsOwnRecords, StandsOwn}
 use Rattle.shelf.specs.declared.begin.BeginFault.{BeginFault}
@@ -26,6 +27,7 @@ use Rattle.shelf.specs.declared.shelf.Shelf.{Shelf}
 use Rattle.play_steps.specs.Rules.{Crashes, StaysUp}
 use Rattle.play_steps.specs.declared.stage.Reopen.{Reopen}
 use Rattle.play_steps.specs.declared.stage.Reopen.TheVariants as reopen
+use Rattle.play_desk.specs.Asking.{AsksForFirst, AsksForOne}
 use Rattle.play_desk.specs.Desk.{Desk, desk_rules, first_shelves}
 use Rattle.play_desk.specs.Staff.{AreNumbered, IsHome, desk_of, faults_in, numbers_in, shelf_at, total}
 use Rattle.play_desk.specs.declared.staff.Staff.{Staff}
@@ -107,9 +109,14 @@ abbrev pub FindsBook : {D : Type 0} → (D → View) → List Named → (number 
 FindsBook {D = D} view scripts number holds b =
     (disk : D) × AreAmong (view disk).images holds × IsOneOf setup_of_texts number scripts (view disk) b
 
--- such a book has a journal of this length, which is longer than one may be
+-- the setup has other names or texts than the one of the book that some image makes, if it makes one
+abbrev pub FindsAnother : List Named → (number : ℕ) → (holds : List ℕ → Type 0) → Type 0
+FindsAnother scripts number holds = (image : List ℕ) × holds image × IsAnother scripts (book_in_bytes setup_of_texts number image)
+
+-- such a book has a journal of this length, which is longer than one may be, as its setup is another one
 abbrev pub FindsNoRoom : {D : Type 0} → (D → View) → List Named → (number : ℕ) → (holds : List ℕ → Type 0) → (len : ℕ) → Type 0
-FindsNoRoom view scripts number holds len = (b : Book) × FindsBook view scripts number holds b × (b.length ≡ len) × (2 ^ 30 < len)
+FindsNoRoom view scripts number holds len =
+    (b : Book) × FindsBook view scripts number holds b × (b.length ≡ len) × (2 ^ 30 < len) × FindsAnother scripts number holds
 
 -- What is found where a disk may hold these images: a shelf whose book is one that the disk stands for; or an image that makes no shelf; or
 -- that such a book has no room for the setup.
@@ -135,6 +142,14 @@ abbrev pub IsOutside : Reopen → Type 0
 IsOutside reopen.Disk = ⊤
 IsOutside reopen.Memory = ⊤
 IsOutside _ = ⊥
+
+-- whatever a disk may hold makes a book whose journal would have this length with the setup, which is longer than one may be
+abbrev pub HoldNoRoom : List Named → (shelf : ℕ) → (holds : List ℕ → Type 0) → (len : ℕ) → Type 0
+HoldNoRoom scripts shelf holds len = (image : List ℕ) → holds image → IsTooLong scripts shelf (book_in_bytes setup_of_texts shelf image) len
+
+-- where there is no room for the setup, there is none on whatever the disk may hold
+abbrev pub LeavesNoRoom : {T : Type 0} → List Named → (shelf : ℕ) → (holds : List ℕ → Type 0) → Result T Reopen → Type 0
+LeavesNoRoom scripts shelf holds result = (len : ℕ) → IsErrOf result (reopen.Full len) → HoldNoRoom scripts shelf holds len
 
 -- how often a disk that was taken has failed, and 0 where none was taken
 abbrev pub disk_faults : {D E : Type 0} → (D → View) → Result D E → ℕ
@@ -168,12 +183,12 @@ BeginsEmpty view scripts rules (Err _) = ⊤
 abbrev pub opened_bodies : List Named → (shelf : ℕ) → (read : List ℕ) → List (List ℕ)
 opened_bodies scripts shelf read = stored read ++ opening_bodies scripts shelf (book_in_bytes setup_of_texts shelf read)
 
--- What may be left of the disk of a shelf on which nothing was lost, and of which this was read: what it might hold before; or the
--- records that were read, at rest; or these and what the opening tells.
+-- What may be left of the disk of a shelf on which nothing was lost, and of which this was read: what it might hold before; or, where it
+-- might hold what was read, the records that were read, at rest; or these and what the opening tells.
 abbrev pub IsKept : List Named → (shelf : ℕ) → (held : List ℕ → Type 0) → (read left : List ℕ) → Type 0
 IsKept scripts shelf held read left =
     held left
-    ⊎ (((records read ≡ Intact (stored read)) ⊎ (read ≡ []))
+    ⊎ (held read × ((records read ≡ Intact (stored read)) ⊎ (read ≡ []))
     × ((left ≡ at_rest (stored read)) ⊎ (left ≡ at_rest (opened_bodies scripts shelf read))))
 
 -- whatever is left of the disk of a shelf is what may be left where nothing was lost on it
@@ -236,6 +251,7 @@ pub record OpensNext {D : Type 0} (view : D → View) (rack_tells tells : Bool) 
   pub own : IsTrue rack_tells → IsTrue tells → IsOwnShelf view tells shelf
   pub keeps : IsTrue rack_tells → IsTrue tells → KeepsOpened view scripts limits.number (old.holds limits.number) new.holds (Ok shelf)
   pub taken : TakesOne limits.number old new
+  pub asked : AsksForOne limits.number old new
   pub later : CountStays old.faults 0 new.faults (view shelf.journal.disk).faults
   pub rack_later : old.faults ≤ new.faults
 
@@ -255,6 +271,7 @@ pub record AreOpened {D : Type 0} (view : D → View) (rack_tells tells : Bool) 
   pub later : first.faults ≤ total now.faults (faults_in view xs)
   pub rack_later : first.faults ≤ now.faults
   pub failed_later : StaysUp first.failed now.failed
+  pub asked : AsksForFirst count first now
 
 -- the one shelf is the other after the event crash with this setup, what was in doubt lost or kept
 abbrev pub HasCrashed : {D : Type 0} → (D → View) → List Named → (old new : Shelf D Counting) → Type 0
@@ -263,18 +280,20 @@ HasCrashed view scripts old new =
     → IsCrashed (rules_of old.rules) (book_in view old) nonce scripts lost (book_in view new)
     ⊎ IsCrashed (rules_of old.rules) (book_in view old) nonce scripts kept (book_in view new)
 
--- Behind the event crash with this setup, what was in doubt lost or kept, the book would have a journal of this length, which is longer than
--- one may be.
-pub record HasNoRoom (rules : runs.Rules) (scripts : List Named) (b : Book) (len : ℕ) : Type 0 where
+-- The setup has other names or texts than that of the book. Behind the event crash with it, what was in doubt lost or kept, the book would
+-- have a journal of this length, which is longer than one may be; and so would what the disk may hold now.
+pub record HasNoRoom (rules : runs.Rules) (scripts : List Named) (shelf : ℕ) (holds : List ℕ → Type 0) (b : Book) (len : ℕ) : Type 0 where
+  pub another : are_same scripts b.scripts ≡ false
   pub book : Book
   pub crashed : (nonce : ℕ) → IsCrashed rules b nonce scripts lost book ⊎ IsCrashed rules b nonce scripts kept book
   pub length : book.length ≡ len
   pub long : 2 ^ 30 < len
+  pub left : HoldNoRoom scripts shelf holds len
 
 -- where a shelf that crashed has no room for the setup, this is so of its book; other causes tell nothing of it
-abbrev pub TellsRoom : (rules : runs.Rules) → List Named → Book → Reopen → Type 0
-TellsRoom rules scripts b (reopen.Full len) = HasNoRoom rules scripts b len
-TellsRoom rules scripts b _ = ⊤
+abbrev pub TellsRoom : (rules : runs.Rules) → List Named → (shelf : ℕ) → (holds : List ℕ → Type 0) → Book → Reopen → Type 0
+TellsRoom rules scripts shelf holds b (reopen.Full len) = HasNoRoom rules scripts shelf holds b len
+TellsRoom rules scripts shelf holds b _ = ⊤
 
 -- the count of a shelf's number rose over what its disk had failed
 abbrev pub FailsAt : {D : Type 0} → (D → View) → List (Shelf D Counting) → (place : ℕ) → (old new : RackView) → Type 0
@@ -356,7 +375,8 @@ pub record IsLeft (rack : RackView) (d : Desk) (shelf : ℕ) (why : Reopen) : Ty
       → HoldsTheBook s.rules s.book.shelf (rack.holds s.book.shelf) s.book
   pub lost : (s : runs_spec.Shelf) → slice_get d.shelves shelf ≡ Some s
       → StandsLost s.rules d.scripts s.book.shelf (rack.holds s.book.shelf) s.book
-  pub room : (s : runs_spec.Shelf) → slice_get d.shelves shelf ≡ Some s → TellsRoom s.rules d.scripts s.book why
+  pub room : (s : runs_spec.Shelf) → slice_get d.shelves shelf ≡ Some s
+      → TellsRoom s.rules d.scripts s.book.shelf (rack.holds s.book.shelf) s.book why
 
 -- each shelf but the one at this place stands among these
 abbrev pub KeepsShelvesBut : {D : Type 0} → (place : ℕ) → (old new : List (Shelf D Counting)) → Type 0
@@ -374,6 +394,7 @@ LeavesLost {D = D} view scripts shelves place holds =
     → StandsLost (rules_of s.rules) scripts s.rules.number (holds s.rules.number) (book_in view s)
 
 -- where there was no room for the setup, this is so of the book of the shelf that was at this place
-abbrev pub TellsItsRoom : {D : Type 0} → (D → View) → List Named → List (Shelf D Counting) → (place : ℕ) → Reopen → Type 0
-TellsItsRoom {D = D} view scripts shelves place why =
-    (s : Shelf D Counting) → slice_get shelves place ≡ Some s → TellsRoom (rules_of s.rules) scripts (book_in view s) why
+abbrev pub TellsItsRoom : {D : Type 0} → (D → View) → List Named → List (Shelf D Counting) → (place : ℕ) → (holds : ℕ → List ℕ → Type 0) → Reopen → Type 0
+TellsItsRoom {D = D} view scripts shelves place holds why =
+    (s : Shelf D Counting) → slice_get shelves place ≡ Some s
+    → TellsRoom (rules_of s.rules) scripts s.rules.number (holds s.rules.number) (book_in view s) why

@@ -1,8 +1,9 @@
 ghost use Rattle.std.specs.Prelude.{◌≡◌, ◌≤◌, ◌<◌, [], IsTrue, IfErr, IfOk, OnErr, OnOk, IsErrOf, length};
 ghost use Rattle.web_outside.specs.Causes.{Rose};
 ghost use Rattle.script_nodes.specs.Views.{scripts_of};
-ghost use Rattle.play_steps.specs.Rules.{StaysUp};
+ghost use Rattle.play_steps.specs.Rules.{StaysFirst, StaysUp};
 ghost use Rattle.setup_reader.specs.Texts.{IsReadSetup};
+ghost use Rattle.play_desk.specs.Asking.{HasAsked};
 ghost use Rattle.play_desk.specs.Opening.{CrashesShelf, FailsAt, IsLeft, IsNeverDamaged, IsNeverOther, IsPutBack, KeepsShelvesBut, LeavesLost, TellsItsRoom};
 ghost use Rattle.play_desk.specs.Staff.{HaveOwnNumbers, IsFit, IsHome, IsOwn, KeepsOwn, desk_of, faults_in, total};
 
@@ -44,8 +45,9 @@ fn reopen_at<D: Disk, R: Rack<D>>(
     ensures left { IsTrue R.tells → IsTrue D.tells →
         IsOwn D.view D.tells staff.old → OnErr result (LeavesLost D.view
         (scripts_of setup.now) staff.old.shelves.items place (R.view rack.new).holds) }
-    ensures room { IsTrue R.tells → IsTrue D.tells → IsOwn D.view D.tells staff.old → IfErr result
-        (TellsItsRoom D.view (scripts_of setup.now) staff.old.shelves.items place) }
+    ensures room { IsTrue R.tells → IsTrue D.tells → IsOwn D.view D.tells staff.old →
+        IfErr result (TellsItsRoom D.view (scripts_of setup.now)
+        staff.old.shelves.items place (R.view rack.new).holds) }
     ensures home { IsHome staff.new.shelves.items (R.view rack.new).out }
     ensures damaged { IsTrue R.tells → IsTrue D.tells → IsNeverDamaged result }
     ensures other { IsTrue R.tells → IsTrue D.tells → IsNeverOther result }
@@ -57,6 +59,7 @@ fn reopen_at<D: Disk, R: Rack<D>>(
     ensures later { total (R.view rack.old).faults (faults_in D.view staff.old.shelves.items)
         ≤ total (R.view rack.new).faults (faults_in D.view staff.new.shelves.items) }
     ensures failed_later { StaysUp (R.view rack.old).failed (R.view rack.new).failed }
+    ensures asked { StaysFirst (HasAsked (R.view rack.old)) (HasAsked (R.view rack.new)) }
 {
     let count = staff.shelves.len();
     let shelf = staff.shelves.remove(place as usize);
@@ -117,6 +120,7 @@ pub fn crash<D: Disk, R: Rack<D>>(
     ensures later { total (R.view rack.old).faults (faults_in D.view staff.old.shelves.items)
         ≤ total (R.view rack.new).faults (faults_in D.view staff.new.shelves.items) }
     ensures failed_later { StaysUp (R.view rack.old).failed (R.view rack.new).failed }
+    ensures asked { StaysFirst (HasAsked (R.view rack.old)) (HasAsked (R.view rack.new)) }
 {
     match reopen_at(alloc, setup, directory, staff, rack, place) {
         Ok(live) => Ok(live),

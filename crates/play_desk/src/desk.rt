@@ -22,6 +22,7 @@ pub struct Desk<'s, D: Disk, R> {
 
 impl<'s, D: Disk, R: Rack<D>> Stage for Desk<'s, D, R> {
     ghost use Rattle.script_nodes.specs.Views.{scripts_of};
+    ghost use Rattle.play_desk.specs.Asking.{HasAsked};
     ghost use Rattle.play_desk.specs.Desk.{desk_rules};
     ghost use Rattle.play_desk.specs.Opening.{IsLeft};
     ghost use Rattle.play_desk.specs.Staff.{IsHome, IsOwn, IsReady, desk_of, faults_in, total};
@@ -44,6 +45,8 @@ impl<'s, D: Disk, R: Rack<D>> Stage for Desk<'s, D, R> {
         total (R.view rack).faults (faults_in D.view d.staff.shelves.items) };
 
     ghost failed = { λ rack. (R.view rack).failed };
+
+    ghost asked = { λ rack. HasAsked (R.view rack) };
 
     ghost left = { λ rack. IsLeft (R.view rack) };
 

@@ -5,6 +5,7 @@ ghost use Rattle.shelf.specs.Ranges.{AreInRange};
 ghost use Rattle.play_steps.specs.Rules.{StaysUp};
 ghost use Rattle.play_desk.specs.Desk.{first_desk};
 ghost use Rattle.play_desk.specs.Staff.{HaveOwnNumbers, IsHome, IsOwn, IsReady, desk_of, faults_in, total};
+ghost use Rattle.play_desk.specs.Asking.{AsksForFirst, AsksForNone, AsksForOne, AsksUntil};
 ghost use Rattle.play_desk.specs.Opening.{AllStayKept, AreHome, AreOpened, CountStays, FailedFor, GivesOne, HoldImages, HoldTheBooks, IsClosedBy, IsRefusedBy, KeepsClosed, LeaveOthers, OpensNext, numbered, rules_at};
 
 use crate::desk::Desk;
@@ -41,6 +42,7 @@ pub(crate) fn put_all_back<D: Disk, R: Rack<D>>(rack: &mut R, shelves: Vec<Shelf
     ensures later { total (R.view rack.old).faults (faults_in D.view shelves.items)
         ≤ (R.view rack.new).faults }
     ensures failed_later { StaysUp (R.view rack.old).failed (R.view rack.new).failed }
+    ensures asked { AsksForNone (R.view rack.old) (R.view rack.new) }
 {
     let mut shelves = shelves;
     while let Some(shelf) = shelves.pop() {
@@ -74,6 +76,7 @@ fn open_next<D: Disk, R: Rack<D>>(
         FailedFor rules.number (R.view rack.old) (R.view rack.new) }
     ensures later { OnErr result
         (CountStays (R.view rack.old).faults 0 (R.view rack.new).faults 0) }
+    ensures asked { OnErr result (AsksForOne rules.number (R.view rack.old) (R.view rack.new)) }
 {
     let shelf = opened(alloc, setup, directory, rack, rules)?;
     match shelves.push(shelf) {
@@ -109,6 +112,8 @@ fn open_all<D: Disk, R: Rack<D>>(
         FailedFor e.shelf (R.view rack.old) (R.view rack.new)) }
     ensures later { (R.view rack.old).faults ≤ (R.view rack.new).faults }
     ensures failed_later { StaysUp (R.view rack.old).failed (R.view rack.new).failed }
+    ensures asked { IfErr result (λ e.
+        AsksUntil rules.shelves e.shelf (R.view rack.old) (R.view rack.new)) }
 {
     // A count is below 2^64, so it does not fall where those of the disks are added.
     let _count = rack.faults();
@@ -128,7 +133,7 @@ fn open_all<D: Disk, R: Rack<D>>(
 ///
 /// A disk that is not empty, or that fails, is told with the number of its shelf, and then all disks go
 /// back to the rack. Nothing was lost on any then, but on one of which a call failed, and nothing was
-/// written on those behind it.
+/// written on those behind it, which are not even asked for.
 pub fn open_desk<'s, D: Disk, R: Rack<D>>(
     alloc: Global,
     rack: &mut R,
@@ -162,6 +167,9 @@ pub fn open_desk<'s, D: Disk, R: Rack<D>>(
     ensures failed_later { StaysUp (R.view rack.old).failed (R.view rack.new).failed }
     ensures later_open { IfOk result (λ d. (R.view rack.old).faults
         ≤ total (R.view rack.new).faults (faults_in D.view d.staff.shelves.items)) }
+    ensures asked { OnOk result (AsksForFirst rules.shelves (R.view rack.old) (R.view rack.new)) }
+    ensures asked_until { IfErr result (λ e.
+        AsksUntil rules.shelves e.shelf (R.view rack.old) (R.view rack.new)) }
 {
     match open_all(alloc, rack, directory, &setup, rules) {
         Ok(shelves) => Ok(Desk {
@@ -192,6 +200,7 @@ impl<'s, D: Disk, R: Rack<D>> Desk<'s, D, R> {
             ≤ (R.view rack.new).faults }
         ensures failed_later { StaysUp (R.view rack.old).failed (R.view rack.new).failed }
         ensures others { LeaveOthers self.entry.staff.shelves.items (R.view rack.old) (R.view rack.new) }
+        ensures asked { AsksForNone (R.view rack.old) (R.view rack.new) }
     {
         let Desk {
             alloc: _,

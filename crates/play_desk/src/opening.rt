@@ -4,7 +4,8 @@ ghost use Rattle.setup_reader.specs.Texts.{IsReadSetup};
 ghost use Rattle.web_disk.specs.View.{AreAmong};
 ghost use Rattle.web_outside.specs.Causes.{Rose};
 ghost use Rattle.shelf.specs.Ranges.{AreInRange};
-ghost use Rattle.play_desk.specs.Opening.{BeginsEmpty, CountRose, CountStays, FailedFor, Finds, GivesOne, GivesUnread, HasCrashed, IsNeverDamaged, IsNeverOther, IsOutside, KeepsBegun, KeepsOpened, OpensEmpty, OpensOne, StandsLost, StaysLost, TakesEmpty, TakesOrLeaves, TellsRoom, cause_of, disk_faults, faults_left, left_on, reopen_of};
+ghost use Rattle.play_desk.specs.Asking.{AsksForNone, AsksForOne};
+ghost use Rattle.play_desk.specs.Opening.{BeginsEmpty, CountRose, CountStays, FailedFor, Finds, GivesOne, GivesUnread, HasCrashed, IsNeverDamaged, IsNeverOther, IsOutside, KeepsBegun, KeepsOpened, LeavesNoRoom, OpensEmpty, OpensOne, StandsLost, StaysLost, TakesEmpty, TakesOrLeaves, TellsRoom, cause_of, disk_faults, faults_left, left_on, reopen_of};
 ghost use Rattle.shelf.specs.Owning.{IsOwnImage};
 ghost use Rattle.shelf.specs.Views.{IsInOrder, IsOwnShelf, book_in, rules_of};
 
@@ -77,6 +78,7 @@ fn taken<D: Disk, R: Rack<D>>(
         FailedFor number (R.view rack.old) (R.view rack.new) }
     ensures later { (R.view rack.old).faults ≤ (R.view rack.new).faults }
     ensures whole { IfErr result IsOutside }
+    ensures asked { AsksForOne number (R.view rack.old) (R.view rack.new) }
 {
     match rack.take(alloc, directory, number) {
         Ok(disk) => Ok(disk),
@@ -125,6 +127,9 @@ fn begun<D: Disk, R: Rack<D>>(
     ensures left { IsTrue R.tells → IsTrue D.tells → (R.view rack.old).out rules.number ≡ true →
         StaysLost (scripts_of setup.now) rules.number (D.view disk)
         (left_on D.view rules.number (R.view rack.new).holds result) }
+    ensures full { IsTrue R.tells → IsTrue D.tells → (R.view rack.old).out rules.number ≡ true →
+        LeavesNoRoom (scripts_of setup.now) rules.number
+        ((R.view rack.new).holds rules.number) result }
     ensures kept { OnOk result (rack.new ≡ rack.old) }
     ensures given { OnErr result (GivesOne rules.number (R.view rack.old) (R.view rack.new)) }
     ensures disk { IsErrOf result Reopen.Disk →
@@ -135,6 +140,7 @@ fn begun<D: Disk, R: Rack<D>>(
         ((R.view rack.new).failed rules.number) }
     ensures later { CountStays (R.view rack.old).faults (D.view disk).faults
         (R.view rack.new).faults (faults_left D.view result) }
+    ensures asked { AsksForNone (R.view rack.old) (R.view rack.new) }
 {
     match Shelf::begin(alloc, disk, nonces, setup, rules) {
         Ok(shelf) => Ok(shelf),
@@ -156,6 +162,7 @@ pub fn put_back<D: Disk, R: Rack<D>>(rack: &mut R, shelf: Shelf<D, Counting>) ->
     ensures given { GivesOne shelf.rules.number (R.view rack.old) (R.view rack.new) }
     ensures later { CountStays (R.view rack.old).faults (D.view shelf.journal.disk).faults
         (R.view rack.new).faults 0 }
+    ensures asked { AsksForNone (R.view rack.old) (R.view rack.new) }
 {
     let number = shelf.rules().number;
     let (disk, nonces) = shelf.close();
@@ -190,7 +197,8 @@ pub fn reopened<D: Disk, R: Rack<D>>(
         shelf.rules.number (left_on D.view shelf.rules.number (R.view rack.new).holds result)
         (book_in D.view shelf) }
     ensures room { IsTrue R.tells → IsTrue D.tells → IsOwnShelf D.view D.tells shelf →
-        IfErr result (TellsRoom (rules_of shelf.rules) (scripts_of setup.now) (book_in D.view shelf)) }
+        IfErr result (TellsRoom (rules_of shelf.rules) (scripts_of setup.now)
+        shelf.rules.number ((R.view rack.new).holds shelf.rules.number) (book_in D.view shelf)) }
     ensures damaged { IsTrue R.tells → IsTrue D.tells → IsNeverDamaged result }
     ensures other { IsTrue R.tells → IsTrue D.tells → IsNeverOther result }
     ensures rack { OpensOne shelf.rules.number result (R.view rack.old) (R.view rack.new) }
@@ -202,6 +210,7 @@ pub fn reopened<D: Disk, R: Rack<D>>(
         ((R.view rack.new).failed shelf.rules.number) }
     ensures later { CountStays (R.view rack.old).faults (D.view shelf.journal.disk).faults
         (R.view rack.new).faults (faults_left D.view result) }
+    ensures asked { AsksForOne shelf.rules.number (R.view rack.old) (R.view rack.new) }
 {
     images_make_books();
     a_reopened_shelf_has_crashed::<D>();
@@ -229,6 +238,7 @@ fn taken_empty<D: Disk, R: Rack<D>>(
     ensures later { CountStays (R.view rack.old).faults 0
         (R.view rack.new).faults (disk_faults D.view result) }
     ensures rack_later { OnOk result ((R.view rack.old).faults ≤ (R.view rack.new).faults) }
+    ensures asked { AsksForOne number (R.view rack.old) (R.view rack.new) }
 {
     let mut disk = match taken(alloc, directory, rack, number) {
         Ok(disk) => disk,
@@ -273,6 +283,7 @@ pub fn opened<D: Disk, R: Rack<D>>(
     ensures later { CountStays (R.view rack.old).faults 0
         (R.view rack.new).faults (faults_left D.view result) }
     ensures rack_later { OnOk result ((R.view rack.old).faults ≤ (R.view rack.new).faults) }
+    ensures asked { AsksForOne rules.number (R.view rack.old) (R.view rack.new) }
 {
     let disk = taken_empty(alloc, directory, rack, rules.number)?;
     match begun(alloc, setup, rack, disk, Counting::new(), rules) {

@@ -1,5 +1,5 @@
 -- Shelves that are opened one after another, and handed back.
-use Rattle.std.proofs.Common.{◌≡◌, ◌≢◌, inl, inr, ℕ, zero, suc, ◌<◌, ◌+◌, ◌-◌, Bool, List, [], ◌∷◌, ◌++◌, length, length-append, map, reverse, Some, slice_get, IsTrue, refl, ap, sym, ◌∙◌, subst, arith}
+use Rattle.std.proofs.Common.{◌≡◌, ◌≢◌, inl, inr, ℕ, zero, suc, ◌≤◌, ◌<◌, ◌+◌, ◌-◌, Bool, List, [], ◌∷◌, ◌++◌, length, length-append, map, reverse, Some, slice_get, IsTrue, refl, ap, sym, ◌∙◌, subst, arith}
 use Rattle.std.specs.Prelude.{option_map}
 use Rattle.std.specs.List.{AllZip}
 use Rattle.std.proofs.lemmas.List.{append-nil, reverse-reverse}
@@ -10,7 +10,7 @@ use Rattle.journal_spec.specs.Standing.{HeldOpened}
 use Rattle.script_nodes.specs.Setup.{Named}
 use Rattle.script_nodes.specs.Views.{library_of}
 use Rattle.web_outside.specs.Causes.{Rose}
-use Rattle.shelf.specs.Opening.{IsFaultOf}
+use Rattle.shelf.specs.Opening.{IsFaultOf, KeepsRecords}
 use Rattle.shelf.specs.Owning.{HoldsOwnRecords}
 use Rattle.shelf.specs.Views.{book_in}
 use Rattle.shelf.specs.declared.begin.BeginFault.{BeginFault}
@@ -81,8 +81,11 @@ module _ {D : Type 0} (view : D → View) (tells : Bool) (scripts : List Named) 
     later = omega arith;
   }
 
+  bare_same : (d : D) → KeepsRecords [] (view d) (view d)
+  bare_same d = inl (refl, (refl, λ image left. left))
+
   kept_same : (k : ℕ) (d : D) → LosesNothing scripts k (view d) (view d)
-  kept_same k d = inl (inl (refl, (refl, λ image left. left)))
+  kept_same k d = inl (bare_same d)
 
   -- so disks that nothing was done to are handed back
   pub unopened_none : OnlyNow → (disks : List D) → 0 < length disks → AreUnopened view tells scripts disks disks 0 Memory
@@ -96,6 +99,7 @@ module _ {D : Type 0} (view : D → View) (tells : Bool) (scripts : List Named) 
     why = λ told d e. tt;
     cause = λ no. absurd (let other : ⊥ = cc no in other);
     keep = λ told k d e d_is e_is sound. subst (λ (z : D). LosesNothing scripts k (view d) (view z)) (one_of (sym d_is ∙ e_is)) (kept_same k d);
+    bare = λ told no. absurd (no refl);
   }
 
 module _ {D N : Type 0} (view : D → View) (tells : Bool) (coming : N → ℕ → ℕ) (scripts : List Named) (rules : Rules) where
@@ -151,6 +155,7 @@ module _ {D N : Type 0} (view : D → View) (tells : Bool) (coming : N → ℕ �
       why = λ told d e. tt;
       cause = λ no. absurd (let other : ⊥ = cc no in other);
       keep = λ told k d e d_is e_is sound. keeps_at told k d e d_is e_is;
+      bare = λ told no. absurd (no refl);
     }
 
     -- their sources are those that they were given
@@ -242,6 +247,13 @@ module _ {D N : Type 0} (view : D → View) (tells : Bool) (coming : N → ℕ �
               (λ sound. subst (λ (n : ℕ). LosesNothing scripts n (view d) (view e)) (sym len) (inl (unopened.keeps told (sound len))))
               (λ n a sound. kept_same view tells scripts n a) k x y
               (ap (λ l. slice_get l k) (sym is) ∙ x_is) y_is;
+          bare = λ told no k x y low x_is y_is.
+              pairs_of (λ (n : ℕ) (a b : D). number ≤ n → (n ≡ number → fault ≢ DiskFault) → KeepsRecords [] (view a) (view b)) front (map disk_in ks) rest d e
+              (len ∙ sym (mapped ∙ many))
+              (λ n a b a_is b_is high. absurd (let within = slice_get_within front n a a_is in omega (arith, within, high, len)))
+              (λ high sound. unopened.keeps told (sound len))
+              (λ n a high sound. bare_same view tells scripts a) k x y
+              (ap (λ l. slice_get l k) (sym is) ∙ x_is) y_is low;
         }
 
 -- shelves that came back from their locks are as they were

@@ -11,7 +11,7 @@ use Rattle.replay_spec.specs.Book.{Book}
 use Rattle.journal_records.specs.Records.{IsInGrammar, begin_of}
 use Rattle.journal_spec.specs.Standing.{OpensThroughout, IsOneOf}
 use Rattle.shelf.specs.declared.begin.BeginFault.{BeginFault}
-use Rattle.shelf.specs.declared.begin.BeginFault.TheVariants.{DiskFault}
+use Rattle.shelf.specs.declared.begin.BeginFault.TheVariants.{DiskFault, Memory}
 use Rattle.shelf.specs.declared.rules.Rules.{Rules}
 use Rattle.shelf.specs.declared.shelf.Shelf.{Shelf}
 use Rattle.shelf.specs.Opening.{MakesBook, IsFaultOf, IsOpenedAnew, KeepsRecords, making_on, opening_bodies}
@@ -46,7 +46,7 @@ module _ {D N : Type 0} (view : D → View) (tells : Bool) (scripts : List Named
   -- A shelf that was opened with this setup on this disk under these limits: its book is the one that a shelf goes on with on what the
   -- disk's bytes make, as after a crash. A crash at any moment of the opening left the disk between the books that it stood between, or
   -- these with this setup; and nothing was lost on it, and nothing added but what the opening tells there. Where the records that are
-  -- read are own ones, it is an own shelf.
+  -- read are own ones, it is an own shelf; on a disk that tells no bytes it is one where its book has no instance.
   pub record IsOpenedOn (rules : Rules) (disk : D) (nonces : N) (s : Shelf D N) : Type 0 where
     pub rules_are : s.rules ≡ rules
     pub nonces_are : s.nonces ≡ nonces
@@ -55,6 +55,7 @@ module _ {D N : Type 0} (view : D → View) (tells : Bool) (scripts : List Named
     pub book : IsTrue tells → MakesBook scripts rules.number (view disk) (book_in view s)
     pub one_of : IsTrue tells → IsOneOf setup_of_texts rules.number scripts (view disk) (book_in view s)
     pub own : IsTrue tells → IsOwnImage rules.number (view disk).seen → IsOwnShelf view tells s
+    pub own_if_empty : (IsTrue tells → ⊥) → (book_in view s).instances ≡ [] → IsOwnShelf view tells s
     pub any_moment : IsTrue tells → OpensThroughout setup_of_texts rules.number scripts (view disk) (view s.journal.disk)
     pub own_moments : IsTrue tells → HasOwnImages rules.number (view disk)
         → StaysOwnThroughout rules.number (view disk) (view s.journal.disk)
@@ -106,7 +107,8 @@ module _ {D : Type 0} (view : D → View) (tells : Bool) (scripts : List Named) 
     pub each : (k : ℕ) (d e : D) → slice_get disks k ≡ Some d → slice_get back k ≡ Some e → IsReturned k d e
 
   -- A shelf was not opened, the first of those that can't be: what makes no shelf with this setup stands on its disk, or a call of its disk
-  -- failed, or memory ended. Nothing was lost on any disk, but on the one of which a call failed.
+  -- failed, or memory ended. Nothing was lost on any disk, but on the one of which a call failed. Unless memory ended, nothing was added to
+  -- the records on its disk and on those behind it.
   pub record AreUnopened (disks back : List D) (shelf : ℕ) (fault : BeginFault) : Type 0 where
     pub returned : AreReturned disks back
     pub within : shelf < length disks
@@ -117,6 +119,8 @@ module _ {D : Type 0} (view : D → View) (tells : Bool) (scripts : List Named) 
         → Rose (view d).faults (view e).faults
     pub keep : IsTrue tells → (k : ℕ) (d e : D) → slice_get disks k ≡ Some d → slice_get back k ≡ Some e
         → (k ≡ shelf → fault ≢ DiskFault) → LosesNothing scripts k (view d) (view e)
+    pub bare : IsTrue tells → fault ≢ Memory → (k : ℕ) (d e : D) → shelf ≤ k → slice_get disks k ≡ Some d → slice_get back k ≡ Some e
+        → (k ≡ shelf → fault ≢ DiskFault) → KeepsRecords [] (view d) (view e)
 
   -- the shelf of this number was not opened, and this is why; its disk is handed back, with a source
   abbrev pub IsNotOpened : {N : Type 0} → ℕ → D → BeginFault × D × N → Type 0

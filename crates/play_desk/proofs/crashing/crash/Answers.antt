@@ -8,6 +8,7 @@ use Rattle.play_steps.specs.declared.stage.Reopen.{Reopen}
 use Rattle.play_steps.specs.declared.stage.Reopen.TheVariants.{Disk}
 use Rattle.play_desk.specs.Opening.{HoldImages, LeaveOthers}
 use Rattle.play_desk.specs.Staff.{HaveOwnNumbers, IsHome, faults_in, numbers_in, total}
+use Rattle.play_desk.proofs.Asking.{first_rests}
 use Rattle.play_desk.proofs.Closing.{left_behind}
 use Rattle.play_desk.proofs.Fitting.{number_at}
 use Rattle.play_desk.proofs.Outage.{fit_none}
@@ -100,3 +101,8 @@ returns-in-Err-clause-left g c rack_tells disk_tells own =
     (subst (λ (v : Vec (Shelf g.row.D.Denot Counting) Global). HoldImages g.D.Disk.view v.items new.holds) c.replace.ensures.value (c.put_all_back.ensures.images rack_tells))
     (subst (λ (v : Vec (Shelf g.row.D.Denot Counting) Global). LeaveOthers v.items mid new) c.replace.ensures.value c.put_all_back.ensures.others)
     c.put_all_back.ensures.home
+
+pub returns-in-Err-clause-asked : goal.returns-in-Err-clause-asked
+returns-in-Err-clause-asked g c front first =
+    first_rests (g.R.Rack.view c.reopen_at.new.rack) (g.R.Rack.view c.put_all_back.new.rack) c.put_all_back.ensures.asked front
+    (c.in-Err.ensures.asked front first)

@@ -13,6 +13,7 @@ use Rattle.play_desk.specs.Desk.{desk_crash, is_fault, without_shelf}
 use Rattle.shelf.specs.Views.{book_in, rules_of}
 use Rattle.play_desk.specs.Opening.{StandsLost, TellsRoom}
 use Rattle.play_desk.specs.Staff.{AreFit, AreOwn, HaveOwnNumbers, IsHome, KeepsOthers, desk_with, faults_in, total}
+use Rattle.play_desk.proofs.Asking.{first_rests, first_stays}
 use Rattle.play_desk.proofs.Places.{at_index, same_Some}
 use Rattle.play_desk.proofs.Fitting.{fit_crash, number_at, own_numbers}
 use Rattle.play_desk.proofs.Owning.{own_crash}
@@ -199,5 +200,16 @@ returns-in-Err-clause-room g c rack_tells disk_tells own s at =
     let k = c.args.place in
     let x = c.remove-shelf.result in
     let here = at_index xs k x x c.requires.place c.remove-shelf.ensures.value in
-    subst (λ (z : Shelf g.row.D.Denot Counting). TellsRoom (rules_of z.rules) scripts (book_in g.D.Disk.view z) c.in-Err.why)
+    let holds = (g.R.Rack.view c.reopened.new.rack).holds in
+    subst (λ (z : Shelf g.row.D.Denot Counting). TellsRoom (rules_of z.rules) scripts z.rules.number (holds z.rules.number) (book_in g.D.Disk.view z) c.in-Err.why)
     (same_Some x s (sym here ∙ at)) (c.in-Err.ensures.room rack_tells disk_tells (own.own k x here))
+
+-- ---- what was asked for first
+
+pub returns-in-Ok-insert-clause-asked : goal.returns-in-Ok-insert-clause-asked
+returns-in-Ok-insert-clause-asked g c =
+    first_stays c.remove-shelf.result.rules.number (g.R.Rack.view c.args.rack.now) (g.R.Rack.view c.reopened.new.rack) c.in-Ok.ensures.asked
+
+pub returns-in-Err-clause-asked : goal.returns-in-Err-clause-asked
+returns-in-Err-clause-asked g c =
+    first_stays c.remove-shelf.result.rules.number (g.R.Rack.view c.args.rack.now) (g.R.Rack.view c.reopened.new.rack) c.in-Err.ensures.asked

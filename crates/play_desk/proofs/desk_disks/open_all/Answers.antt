@@ -3,11 +3,21 @@ use Rattle.script_nodes.specs.Views.{scripts_of}
 use Rattle.web_outside.specs.declared.nonces.Counting.{Counting}
 use Rattle.shelf.specs.declared.rules.Rules.{Rules}
 use Rattle.shelf.specs.declared.shelf.Shelf.{Shelf}
+use Rattle.play_desk.specs.Asking.{AsksForOne}
 use Rattle.play_desk.specs.Opening.{FailedFor, GivesOne, HoldImages, IsRefusedBy, KeepsClosed, LeaveOthers, AreOpened, OpensNext}
 use Rattle.play_desk.specs.Staff.{HaveOwnNumbers, IsHome, faults_in, total}
 use Rattle.play_desk.specs.declared.opening.OpenCause.{OpenCause}
-use Rattle.play_desk.proofs.Beginning.{closed_by, failed_closed, given_later, kept_all, later_closed, next_home, opened_more, own_opened, still_home}
+use Rattle.play_desk.proofs.Asking.{asked_until}
+use Rattle.play_desk.proofs.Beginning.{closed_by, failed_closed, given_later, kept_all, later_closed, next_home, opened_more, opened_none, own_opened, still_home}
 use Rattle.play_desk.proofs.desk_disks.open_all.Goals as goal
+
+pub loop-number-init : goal.loop-number-init
+loop-number-init g c =
+    let first = g.R.Rack.view c.args.rack.now in
+    let scripts = scripts_of c.args.setup.now in
+    subst (λ (ys : List (Shelf g.row.D.Denot Counting)). AreOpened g.D.Disk.view g.R.Rack.tells g.D.Disk.tells scripts c.args.rules first 0 ys first)
+    (sym c.new-shelves.ensures.items)
+    (opened_none g.D.Disk.view g.R.Rack.tells g.D.Disk.tells scripts c.args.rules first c.requires.home (omega (arith, c.faults-count.ensures, c.faults-count.type_inv)))
 
 pub open_next-requires-clause-home : goal.open_next-requires-clause-home
 open_next-requires-clause-home g c =
@@ -71,6 +81,14 @@ returns-in-Err-clause-disk g c is =
     c.in-Err.ensures.later
     (subst (λ (ys : List (Shelf g.row.D.Denot Counting)). total mid.faults (faults_in g.D.Disk.view ys) ≤ new.faults) c.in-Err.ensures.same c.put_all_back.ensures.later)
     c.put_all_back.ensures.failed_later
+
+pub returns-in-Err-clause-asked : goal.returns-in-Err-clause-asked
+returns-in-Err-clause-asked g c =
+    let old = g.R.Rack.view c.loop-number.rack in
+    let mid = g.R.Rack.view c.open_next.new.rack in
+    asked_until c.args.rules.shelves c.loop-number.number (g.R.Rack.view c.args.rack.now) old mid (g.R.Rack.view c.put_all_back.new.rack) (omega arith)
+    c.loop-number.invariant.asked
+    (subst (λ (r : Rules). AsksForOne r.number old mid) c.numbered-next.ensures c.in-Err.ensures.asked) c.put_all_back.ensures.asked
 
 pub loop-number-preserved : goal.loop-number-preserved
 loop-number-preserved g c =

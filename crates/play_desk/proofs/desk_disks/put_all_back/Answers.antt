@@ -1,4 +1,4 @@
-use Rattle.std.proofs.Common.{◌≤◌, ◌∷◌, ◌++◌, ◌∙◌, [], List, Some, length, length-append, subst, sym, ap, arith}
+use Rattle.std.proofs.Common.{◌≤◌, ◌∷◌, ◌++◌, ◌∙◌, [], List, Some, length, length-append, subst, sym, ap, refl, arith}
 use mathlib.Core.List.{IsPrefix}
 use Rattle.std.proofs.lemmas.List.{append-nil}
 use Rattle.std.proofs.lemmas.Option.{slice_get_within}
@@ -17,6 +17,7 @@ loop-shelf-init g c = (
   omega arith,
   λ n other image h. h,
   λ n. omega arith,
+  refl,
 )
 
 pub put_back-requires : goal.put_back-requires
@@ -49,4 +50,5 @@ loop-shelf-preserved g c =
       λ n other image h. i.4 n other image
           (given.others n (λ is. other (length xs) (number_at all (length xs) x (at_front xs all x front) ∙ ap Some (sym is))) image h),
       fell_with (g.R.Rack.view c.args.rack.now) old new x.rules.number i.5 given,
+      c.put_back.ensures.asked ∙ i.6,
     )

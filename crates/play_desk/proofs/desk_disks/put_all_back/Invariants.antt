@@ -3,6 +3,7 @@ use Rattle.std.specs.Prelude.{IsTrue}
 use mathlib.Core.List.{IsPrefix}
 use Rattle.web_disk.specs.View.{AreAmong}
 use Rattle.play_steps.specs.Rules.{StaysUp}
+use Rattle.play_desk.specs.Asking.{AsksForNone}
 use Rattle.play_desk.specs.Opening.{LeaveOthers}
 use Rattle.play_desk.specs.Staff.{IsHome, faults_in, total}
 use Rattle.play_desk.proofs.desk_disks.put_all_back.Given as goal
@@ -17,6 +18,7 @@ invariant-loop-shelf g l =
     ≤ total (g.R.Rack.view l.rack).faults (faults_in g.D.Disk.view l.shelves.items))
     × LeaveOthers l.fn.shelves.items (g.R.Rack.view l.fn.rack) (g.R.Rack.view l.rack)
     × StaysUp (g.R.Rack.view l.fn.rack).failed (g.R.Rack.view l.rack).failed
+    × AsksForNone (g.R.Rack.view l.fn.rack) (g.R.Rack.view l.rack)
 
 abbrev pub decreases-loop-shelf : goal.decreases-loop-shelf
 decreases-loop-shelf g l = length l.shelves.items

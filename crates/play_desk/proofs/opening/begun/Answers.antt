@@ -1,14 +1,15 @@
-use Rattle.std.proofs.Common.{ℕ, List, sym, subst, arith}
+use Rattle.std.proofs.Common.{◌≡◌, ℕ, List, ap, sym, subst, arith}
 use Rattle.std.specs.Prelude.{Err}
 use Rattle.script_nodes.specs.Setup.{Named}
 use Rattle.script_nodes.specs.Views.{scripts_of}
 use Rattle.setup_reader.specs.Texts.{setup_of_texts}
 use Rattle.journal_spec.proofs.Standings.{one_of}
-use Rattle.web_disk.specs.View.{View}
+use Rattle.web_disk.specs.View.{View, AreAmong}
 use Rattle.shelf.specs.Opening.{IsFaultOf}
 use Rattle.shelf.specs.declared.begin.BeginFault.{BeginFault}
 use Rattle.shelf.specs.declared.begin.BeginFault.TheVariants as begin
-use Rattle.play_desk.specs.Opening.{BeginsEmpty, Finds, KeepsBegun, reopen_of}
+use Rattle.play_steps.specs.declared.stage.Reopen.TheVariants as reopen
+use Rattle.play_desk.specs.Opening.{BeginsEmpty, Finds, HoldNoRoom, KeepsBegun, reopen_of}
 use Rattle.play_desk.proofs.Firsts.{begins, begins_empty}
 use Rattle.play_desk.proofs.Keeping.{is_kept, not_begun}
 use Rattle.play_desk.proofs.Reopening.{stays_lost}
@@ -23,7 +24,7 @@ found_not : {D : Type 0} (view : D → View) (scripts : List Named) (number : �
 found_not view scripts number disk (begin.Damaged place) reads is = ((view disk).seen, reads, is)
 found_not view scripts number disk (begin.Other place) reads is = ((view disk).seen, reads, is)
 found_not view scripts number disk (begin.Full len) reads is =
-    (is.made.book, (disk, (λ image here. here), one_of setup_of_texts number scripts (view disk) is.made reads is.opened), is.is, is.long)
+    (is.made.book, (disk, (λ image here. here), one_of setup_of_texts number scripts (view disk) is.made reads is.opened), is.is, is.long, ((view disk).seen, reads, is.another))
 found_not view scripts number disk begin.DiskFault reads is = tt
 found_not view scripts number disk begin.Memory reads is = tt
 
@@ -37,7 +38,8 @@ returns-in-Err-clause-found g c = λ told.
 pub returns-in-Ok-clause-keeps : goal.returns-in-Ok-clause-keeps
 returns-in-Ok-clause-keeps g c rack_tells tells out =
     let v = g.D.Disk.view in
-    is_kept (scripts_of c.args.setup.now) c.args.rules.number (v c.args.disk) (v c.in-Ok.shelf.journal.disk) (v c.args.disk).images (λ image h. h)
+    is_kept (scripts_of c.args.setup.now) c.args.rules.number (v c.args.disk) (v c.in-Ok.shelf.journal.disk) (v c.args.disk).images
+    (g.met.D.Disk.reads_image c.args.disk tells) (λ image h. h)
     (c.in-Ok.ensures.keeps tells (λ e. let no : ⊥ = cc in no))
 
 pub returns-in-Err-clause-keeps : goal.returns-in-Err-clause-keeps
@@ -46,8 +48,28 @@ returns-in-Err-clause-keeps g c rack_tells tells out =
     let ss = scripts_of c.args.setup.now in
     let holds = (g.R.Rack.view c.give.new.self).holds in
     subst (λ r. KeepsBegun v ss c.args.rules.number (v c.args.disk) holds (Err r)) (sym c.why_not.ensures)
-    (not_begun v ss c.args.rules.number (v c.args.disk) (v c.in-Err.disk) holds c.in-Err.fault (λ other. c.in-Err.ensures.keeps tells (λ e. other cc))
+    (not_begun v ss c.args.rules.number (v c.args.disk) (v c.in-Err.disk) holds c.in-Err.fault (g.met.D.Disk.reads_image c.args.disk tells) (λ other. c.in-Err.ensures.keeps tells (λ e. other cc))
     (c.give.ensures.images rack_tells out))
+
+-- a disk that is given back, as its journal has no room for the setup, may hold what has none
+no_room : (scripts : List Named) (number : ℕ) (new : View) (holds : List ℕ → Type 0) (e : BeginFault)
+    → ((len : ℕ) → e ≡ begin.Full len → HoldNoRoom scripts number new.images len) → AreAmong holds new.images
+    → (len : ℕ) → reopen_of e ≡ reopen.Full len → HoldNoRoom scripts number holds len
+no_room scripts number new holds (begin.Full size) full among len is =
+    let same : begin.Full size ≡ begin.Full len = cc is in λ image here. full len same image (among image here)
+no_room scripts number new holds (begin.Damaged place) full among len is = let no : ⊥ = cc is in absurd no
+no_room scripts number new holds (begin.Other place) full among len is = let no : ⊥ = cc is in absurd no
+no_room scripts number new holds begin.DiskFault full among len is = let no : ⊥ = cc is in absurd no
+no_room scripts number new holds begin.Memory full among len is = let no : ⊥ = cc is in absurd no
+
+pub returns-in-Err-clause-full : goal.returns-in-Err-clause-full
+returns-in-Err-clause-full g c rack_tells tells out = λ len is.
+    let v = g.D.Disk.view in
+    let n = c.args.rules.number in
+    let ss = scripts_of c.args.setup.now in
+    let same : reopen_of c.in-Err.fault ≡ reopen.Full len = cc (is, c.why_not.ensures) in
+    no_room ss n (v c.in-Err.disk) ((g.R.Rack.view c.give.new.self).holds n) c.in-Err.fault
+    (λ size e. c.in-Err.ensures.full tells size (ap (λ (f : BeginFault). Err f) e)) (c.give.ensures.images rack_tells out) len same
 
 -- an opening leaves the disk of an own shelf standing for its book, whatever came of it
 pub returns-in-Ok-clause-left : goal.returns-in-Ok-clause-left

@@ -8,7 +8,7 @@ use Rattle.shelf.specs.Owning.{IsOwnImage, StandsOwn}
 use Rattle.shelf.specs.Views.{book_in, rules_of}
 use Rattle.shelf.proofs.Owned.{images_own}
 use Rattle.shelf.specs.declared.rules.Rules.{Rules}
-use Rattle.play_desk.specs.Opening.{Finds, StandsLost, left_on}
+use Rattle.play_desk.specs.Opening.{Finds, LeavesNoRoom, StandsLost, left_on}
 use Rattle.play_desk.proofs.Reopening.{lost_among, none_other, own_among, reopened_ok, tells_room, undamaged}
 use Rattle.play_desk.proofs.opening.reopened.Goals as goal
 
@@ -29,9 +29,13 @@ returns-clause-room g c rack_tells disk_tells own =
     let old = c.args.shelf in
     let images = (g.D.Disk.view c.in_ok-disk.disk).images in
     let held = subst (λ (r : Rules). AreAmong images ((g.R.Rack.view c.put_back-nonces.new.rack).holds r.number)) c.rules-rules.ensures.rules (c.in_ok-disk.ensures.images rack_tells) in
-    tells_room g.D.Disk.view c.a_reopened_shelf_has_crashed.ensures scripts old (own.own disk_tells).stands images
+    let holds = (g.R.Rack.view c.begun.new.rack).holds in
+    tells_room g.D.Disk.view c.images_make_books.ensures c.a_reopened_shelf_has_crashed.ensures scripts old (own.own disk_tells).stands images
     (λ image here. c.put_back-nonces.ensures.images rack_tells image (held image here)) c.begun.result
     (subst (λ (r : Rules). Finds g.D.Disk.view scripts r.number images c.begun.result) c.rules-rules.ensures.rules (c.begun.ensures.found disk_tells))
+    (holds old.rules.number)
+    (subst (λ (r : Rules). LeavesNoRoom scripts r.number (holds r.number) c.begun.result) c.rules-rules.ensures.rules
+    (c.begun.ensures.full rack_tells disk_tells c.in_ok-disk.ensures.rack.out))
 
 -- what is read of the disk is one of its images, which are own
 pub returns-clause-own : goal.returns-clause-own

@@ -1,7 +1,20 @@
-use Rattle.std.proofs.Common.{Err, sym, ◌∙◌, subst}
-use Rattle.script_nodes.specs.Views.{scripts_of}
+use Rattle.std.proofs.Common.{◌≡◌, List, [], ◌∷◌, map, Err, refl, sym, ◌∙◌, subst}
+use Rattle.script_nodes.specs.Setup.{Named}
+use Rattle.script_nodes.specs.Views.{scripts_of, library_of}
+use Rattle.instance_book.specs.declared.in_order.InOrder.{InOrder}
+use Rattle.instance_book.specs.declared.instance.KeptInstance.{KeptInstance}
+use Rattle.instance_book.specs.declared.numbered.Numbered.{Numbered}
+use Rattle.instance_book.specs.Views.{instance_of, instances_of}
 use Rattle.site.specs.Beginnings.{IsOpenedOn}
 use Rattle.site.proofs.begin.open_one.Goals as goal
+
+-- a book in which nobody sees an instance has none
+no_instances : (all : List Named) (is : InOrder KeptInstance) → instances_of all is ≡ [] → is.things.items ≡ []
+no_instances all is none = by_items is.things.items none
+  where
+    by_items : (xs : List (Numbered KeptInstance)) → map (instance_of all) xs ≡ [] → xs ≡ []
+    by_items [] e = refl
+    by_items (x ∷ xs) e = absurd (let no : ⊥ = cc e in no)
 
 pub returns-in-Ok-clause-opened : goal.returns-in-Ok-clause-opened
 returns-in-Ok-clause-opened g c =
@@ -15,6 +28,7 @@ returns-in-Ok-clause-opened g c =
       book = b.book;
       one_of = b.one_of;
       own = b.own;
+      own_if_empty = λ no none. b.own_if_empty no (no_instances (library_of c.in-Ok.shelf.library).all c.in-Ok.shelf.book.instances none);
       any_moment = b.any_moment;
       own_moments = b.own_moments;
       keeps = λ told. b.keeps told (λ e. let none : ⊥ = cc e in none);
