@@ -9,7 +9,6 @@ use Rattle.web_outside.specs.Limits.{most_of_input}
 use Rattle.web_outside.specs.Pieces.{AppendsUnlessFault, ConsumesSome, ReadsPast, ReadsUpTo}
 use Rattle.web_outside.specs.declared.source.InputFault.{InputFault}
 use Rattle.web_outside.specs.declared.source.InputFault.TheVariants as faults
-use Rattle.web_outside.proofs.Writes.{appends_none}
 use Rattle.command_words.specs.App.{app}
 use Rattle.command_words.specs.Plain.{IsPlain}
 use Rattle.command_words.specs.declared.Command.TheVariants.{Check, Play, Serve, Load}
@@ -21,13 +20,11 @@ use Rattle.server_command.specs.declared.jobs.Job.{Job}
 use Rattle.server_command.specs.declared.jobs.Job.TheVariants as job
 use Rattle.server_command.specs.declared.program.Status.{Status}
 use Rattle.server_command.specs.declared.program.Status.TheVariants as status
-use Rattle.setup_reader.specs.Setup.{Parsed, Fault, setup_of}
-use Rattle.server_command.specs.Output.{Chances, ending_of, nothing}
+use Rattle.server_command.specs.Output.{Chances}
 use Rattle.server_command.specs.Racks.{AtRest}
-use Rattle.server_command.specs.Remains.{IsAny, Remains}
 use Rattle.server_command.specs.Command.{Met, Prints, Untouched, ReadToEnd, HasDone, HasServed, Leaves, Outputs, Comes, ComesServing, CameServing, ComesTo, Came, Explained, IsUnread, ReadsInput, asked_of, asked_unless, asked_in, unread_line, unread_status}
 use Rattle.server_command.specs.Serving.{Serves, RackFailed, LeavesInput}
-use Rattle.server_command.proofs.Endings.{whole_input, always, tells, no_chances}
+use Rattle.server_command.proofs.Endings.{whole_input, no_chances}
 
 read_to_end : (met : Met) (bytes : List ℕ) → Consumes met.input met.unread bytes → IsAtEnd met.unread → length bytes ≤ most_of_input → ReadToEnd met
 read_to_end met bytes read end short = record { end = end; short = whole_input met.input met.unread bytes (λ b. length b ≤ most_of_input) read end short }
@@ -47,7 +44,7 @@ comes asked status.Line met bytes chances read end short p = has_done asked stat
 comes asked status.Read met bytes chances read end short p = absurd p
 comes asked status.Write met bytes chances read end short p = (has_done asked status.Write met bytes chances read end short p, p.0)
 comes asked status.Memory met bytes chances read end short p =
-    (whole_input met.input met.unread bytes (λ b. Leaves met.rack asked b status.Memory chances met.output) read end p, (bytes, read))
+    ((bytes, read), inr (has_done asked status.Memory met bytes chances read end short p))
 comes asked status.Long met bytes chances read end short p = absurd p
 comes asked status.Disk met bytes chances read end short p = (has_done asked status.Disk met bytes chances read end short p, p.1.all)
 comes asked status.Journal met bytes chances read end short p = has_done asked status.Journal met bytes chances read end short p
@@ -57,22 +54,6 @@ comes asked status.Key met bytes chances read end short p = absurd p
 pub came : (asked : Command) (s : Status) (met : Met) (bytes : List ℕ) → Consumes met.input met.unread bytes → IsAtEnd met.unread → length bytes ≤ most_of_input
     → Outputs met.rack asked bytes s met.output → Came asked s met
 came asked s met bytes read end short p = (p.0, comes asked s met bytes p.0 read end short p.1)
-
--- memory ran out before the whole input was there
-memory_came : (asked : Command) (met : Met) → ((setup : Result Parsed Fault) → Remains met.rack asked setup no_chances [] IsAny 0) → IsUnread faults.Memory met
-    → Came asked status.Memory met
-memory_came asked met remains p = (
-  no_chances,
-  (
-    always met.input _ (λ bytes. λ settles. (
-      [],
-      nothing,
-      tells met.output.held met.output.held met.output.holds [] _ met.output.before met.output.after (appends_none met.output.held) p.0,
-      remains (setup_of (ending_of asked) bytes),
-    )),
-    p.1,
-  ),
-)
 
 -- what holds where the input was not read for this fault
 unread : {A : Type 0} (r : Result A InputFault) (fault : InputFault) (P : Type 0) → r ≡ Err fault → (IsErrOf r fault → P) → P
@@ -87,25 +68,24 @@ unread_by met r faults.Failed is line long failed short some rest = (unread r fa
 unread_by met r faults.Memory is line long failed short some rest = (line, some)
 unread_by met r faults.Long is line long failed short some rest = (unread r faults.Long _ is long, line, rest)
 
-came_unread : (asked : Command) (met : Met) (fault : InputFault) → ((setup : Result Parsed Fault) → Remains met.rack asked setup no_chances [] IsAny 0)
-    → IsUnread fault met → Came asked (unread_status fault) met
-came_unread asked met faults.Failed remains p = (no_chances, p)
-came_unread asked met faults.Memory remains p = memory_came asked met remains p
-came_unread asked met faults.Long remains p = (no_chances, p)
+came_unread : (asked : Command) (met : Met) (fault : InputFault) → IsUnread fault met → AtRest met.rack → Came asked (unread_status fault) met
+came_unread asked met faults.Failed p rest = (no_chances, p)
+came_unread asked met faults.Memory p rest = (no_chances, (p.1, inl (p.0, rest)))
+came_unread asked met faults.Long p rest = (no_chances, p)
 
-pub unread_came : (asked : Command) (s : Status) (met : Met) (fault : InputFault) → s ≡ unread_status fault
-    → ((setup : Result Parsed Fault) → Remains met.rack asked setup no_chances [] IsAny 0) → IsUnread fault met → Came asked s met
-unread_came asked s met fault e remains p = subst (λ x. Came asked x met) (sym e) (came_unread asked met fault remains p)
+pub unread_came : (asked : Command) (s : Status) (met : Met) (fault : InputFault) → s ≡ unread_status fault → IsUnread fault met → AtRest met.rack
+    → Came asked s met
+unread_came asked s met fault e p rest = subst (λ x. Came asked x met) (sym e) (came_unread asked met fault p rest)
 
-served_unread : (serves : Serves) (v : Service) (met : Met) (fault : InputFault) → IsUnread fault met → serves.unopened
+served_unread : (serves : Serves) (v : Service) (met : Met) (fault : InputFault) → IsUnread fault met → AtRest met.rack → serves.unopened
     → CameServing serves v (unread_status fault) met
-served_unread serves v met faults.Failed p none = (no_chances, (p, none))
-served_unread serves v met faults.Memory p none = (no_chances, (p, inl none))
-served_unread serves v met faults.Long p none = (no_chances, (p, none))
+served_unread serves v met faults.Failed p rest none = (no_chances, (p, none))
+served_unread serves v met faults.Memory p rest none = (no_chances, (p, inl (none, rest)))
+served_unread serves v met faults.Long p rest none = (no_chances, (p, none))
 
 pub unread_served : (serves : Serves) (v : Service) (s : Status) (met : Met) (fault : InputFault) → s ≡ unread_status fault → IsUnread fault met
-    → serves.unopened → CameServing serves v s met
-unread_served serves v s met fault e p none = subst (λ x. CameServing serves v x met) (sym e) (served_unread serves v met fault p none)
+    → AtRest met.rack → serves.unopened → CameServing serves v s met
+unread_served serves v s met fault e p rest none = subst (λ x. CameServing serves v x met) (sym e) (served_unread serves v met fault p rest none)
 
 -- what was done with the whole input explains the status of a serving
 has_served : (serves : Serves) (v : Service) (s : Status) (met : Met) (bytes : List ℕ) (chances : Chances) → Consumes met.input met.unread bytes → IsAtEnd met.unread

@@ -31,10 +31,6 @@ whole_input (Some xs) None bytes P read end p = absurd read
 whole_input (Some xs) (Some ys) bytes P read end p =
     subst P (sym (read ∙ (ap (λ w. bytes ++ w) end ∙ append-nil bytes))) p
 
-pub always : (left : Option (List ℕ)) (P : List ℕ → Type 0) → ((bytes : List ℕ) → P bytes) → IfSome left P
-always None P p = tt
-always (Some bytes) P p = p bytes
-
 pub since : (old new : Option (List ℕ)) (line : List ℕ) (before mid after : ℕ)
     → before ≤ mid → AppendsUnlessFault old new line mid after → AppendsUnlessFault old new line before after
 since old new line before mid after le (inl p) = inl p
@@ -68,20 +64,20 @@ abbrev pub no_chances : Chances
 no_chances = record { disks = []; fates = [] }
 
 pub at_rest : (told : Bool) (rack : RackView) → AtRest (racks_of told rack rack)
-at_rest told rack = record { faults = refl; out = λ n. refl; holds = λ n image h. h; failed = λ n. refl }
+at_rest told rack = record { faults = refl; out = λ n. refl; holds = λ n image h. h; failed = λ n. refl; asked = refl }
 
 -- no steps were begun, and the rack was not touched; or no setup was read
 pub untouched : (told : Bool) (rack : RackView) (asked : Command) (setup : Result Parsed Fault) → Remains (racks_of told rack rack) asked setup no_chances [] IsAny 0
 untouched told rack (Play o) (Ok setup) =
-    (unopened 0 cause.Memory tt refl (record { before = λ k low. absurd (omega (arith, low)); failed = λ e. let no : ⊥ = cc in absurd no; kept = record { kept = λ n but left is. inl is; behind = λ n above left is. is } }), (let none : count_by is_fault [] ≡ 0 = refl in omega (arith, none)))
-untouched told rack (Play o) (Err e) = tt
+    (unopened 0 cause.Memory tt refl (record { asked = inr (refl, refl); before = λ k low. absurd (omega (arith, low)); failed = λ e. let no : ⊥ = cc in absurd no; kept = record { kept = λ n but left is. inl is; behind = λ n above left is. is } }), (let none : count_by is_fault [] ≡ 0 = refl in omega (arith, none)))
+untouched told rack (Play o) (Err e) = at_rest told rack
 untouched told rack Check setup = at_rest told rack
 untouched told rack (Serve v) setup = tt
 untouched told rack (Load l) setup = tt
 
 unread : (rack : Racks) (asked : Command) (e : Fault) → AtRest rack → Remains rack asked (Err e) no_chances [] IsAny 0
 unread rack Check e rest = rest
-unread rack (Play o) e rest = tt
+unread rack (Play o) e rest = rest
 unread rack (Serve v) e rest = tt
 unread rack (Load l) e rest = tt
 

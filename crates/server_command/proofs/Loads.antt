@@ -18,6 +18,7 @@ use Rattle.play_steps.specs.declared.stage.Reopen.TheVariants as reopen
 use Rattle.web_disk.specs.View.{RackView}
 use Rattle.play_desk.specs.Desk.{Desk, desk_rules, is_fault}
 use Rattle.play_desk.specs.Laws.{TranscriptsAreRuns}
+use Rattle.play_desk.specs.Asking.{AsksForFirst}
 use Rattle.play_desk.specs.Opening.{AllStayKept, HoldTheBooks, IsClosedBy, IsLeft, cause_of}
 use Rattle.play_desk.specs.declared.opening.OpenCause.{OpenCause}
 use Rattle.play_desk.specs.declared.opening.OpenCause.TheVariants as first
@@ -117,7 +118,7 @@ has_loaded rack l m p =
       whole = ap (λ (r : Run desk_rules). r.end) run;
       books = subst (λ (d : Desk). HoldTheBooks d rack.after.holds) (sym (ap (λ (r : Run desk_rules). r.state) run)) p.left;
       counted = have_failed rack p.loads.fates p.before p.after p.from p.loads.risen p.to;
-      began = p.begins.empty;
+      began = p.begins.began;
     }
 
 pub measure_leaves : (rack : Racks) (l : LoadOptions) (m : Measure) (s : Status) (out : Sinks) → (IsTrue rack.tells → Loaded rack l m)
@@ -152,7 +153,7 @@ measure_leaves rack l m status.Memory out ran h =
     remains p = (
       chances_of l.options p.loads.fates,
       (
-        performed p.last (loaded_behind l p.start p.last p.loads.fates most_steps p.told (omega arith) p.begins.first p.loads.is) p.left p.begins.empty,
+        performed p.last (λ shelf why. tt) (loaded_behind l p.start p.last p.loads.fates most_steps p.told (omega arith) p.begins.first p.loads.is) p.left p.begins.began,
         have_failed rack p.loads.fates p.before p.after p.from p.loads.risen p.to,
       ),
     )
@@ -176,13 +177,13 @@ none_loaded rack l shelf why is later =
 pub untouched : (known : Bool) (rack : RackView) (l : LoadOptions) → (chances : Chances) × RemainsLoaded (racks_of known rack rack) l chances IsAny 0
 untouched known rack l =
     none_loaded (racks_of known rack rack) l 0 first.Memory
-    (record { before = λ k low. absurd (omega (arith, low)); failed = λ e. let no : ⊥ = cc in absurd no; kept = record { kept = λ n but left is. inl is; behind = λ n above left is. is } }) (omega arith)
+    (record { asked = inr (refl, refl); before = λ k low. absurd (omega (arith, low)); failed = λ e. let no : ⊥ = cc in absurd no; kept = record { kept = λ n but left is. inl is; behind = λ n above left is. is } }) (omega arith)
 
 -- a disk holds something
 some_leaves : (rack : Racks) (l : LoadOptions) (shelf : ℕ) (old new : Option (List ℕ)) (before after : ℕ) → (IsTrue rack.tells → HoldsSome rack l.options shelf)
     → (IsTrue rack.tells → AllStayKept load_scripts rack.before.holds rack.after.holds shelf first.NotEmpty)
-    → AppendsUnlessFault old new (unfit_line shelf not_empty) before after → HasLeft rack l status.Journal (sinks old new before after)
-some_leaves rack l shelf old new before after full kept line =
+    → AsksForFirst (shelf + 1) rack.before rack.after → AppendsUnlessFault old new (unfit_line shelf not_empty) before after → HasLeft rack l status.Journal (sinks old new before after)
+some_leaves rack l shelf old new before after full kept asked line =
     decided rack.tells (λ chances. GivesLoad rack l chances 8 (sinks old new before after) × AreAllKept rack load_scripts (length chances.disks)) no_chances
     (λ t. shut (full t) (kept t))
   where
@@ -205,18 +206,19 @@ some_leaves rack l shelf old new before after full kept line =
                   (refl, tells old old new [] (unfit_line shelf not_empty) before after (appends_none old) line);
               taken = taken;
             },
-            all_stay rack load_scripts shelf (p.byte ∷ p.bytes) stay,
+            all_stay rack load_scripts shelf (p.byte ∷ p.bytes) stay asked,
           ),
         )
 
 -- the run did not begin
 pub first_leaves : (rack : Racks) (l : LoadOptions) (shelf : ℕ) (why : OpenCause) (s : Status) (old new : Option (List ℕ)) (before after : ℕ)
     → (IsTrue rack.tells → IsClosedBy rack.before.holds l.options.shelves shelf why) → (why ≡ first.Disk → ShelfFailed rack shelf)
-    → (IsTrue rack.tells → AllStayKept load_scripts rack.before.holds rack.after.holds shelf why) → rack.before.faults ≤ rack.after.faults
+    → (IsTrue rack.tells → AllStayKept load_scripts rack.before.holds rack.after.holds shelf why) → AsksForFirst (shelf + 1) rack.before rack.after
+    → rack.before.faults ≤ rack.after.faults
     → TellsUnopened shelf why s (sinks old new before after) → HasLeft rack l s (sinks old new before after)
-first_leaves rack l shelf why s old new before after closed failed kept later (untold is line) =
-    memory_leaves rack l s old new before after is line (λ t. none_loaded rack l shelf why (is_unopened rack load_scripts l.options.shelves shelf why (closed t) failed (kept t)) later)
-first_leaves rack l shelf first.Disk s old new before after closed failed kept later (told line is same p) =
+first_leaves rack l shelf why s old new before after closed failed kept asked later (untold is line) =
+    memory_leaves rack l s old new before after is line (λ t. none_loaded rack l shelf why (is_unopened rack load_scripts l.options.shelves shelf why (closed t) failed (kept t) asked) later)
+first_leaves rack l shelf first.Disk s old new before after closed failed kept asked later (told line is same p) =
     subst (λ x. HasLeft rack l x (sinks old new before after)) (sym same) (
       no_chances,
       (
@@ -225,20 +227,20 @@ first_leaves rack l shelf first.Disk s old new before after closed failed kept l
         subst (λ w. AppendsUnlessFault old new w before after) (sym (same_Some _ _ is)) p,
         λ t. (
           at_first,
-          (unopened shelf first.Disk (refl, refl) refl (is_unopened rack load_scripts l.options.shelves shelf first.Disk (closed t) failed (kept t)), (let rose = (failed refl).all in let none : count_by is_fault [] ≡ 0 = refl in omega (arith, none, rose))),
+          (unopened shelf first.Disk (refl, refl) refl (is_unopened rack load_scripts l.options.shelves shelf first.Disk (closed t) failed (kept t) asked), (let rose = (failed refl).all in let none : count_by is_fault [] ≡ 0 = refl in omega (arith, none, rose))),
         ),
       ),
     )
-first_leaves rack l shelf first.NotEmpty s old new before after closed failed kept later (told line is same p) =
+first_leaves rack l shelf first.NotEmpty s old new before after closed failed kept asked later (told line is same p) =
     subst (λ x. HasLeft rack l x (sinks old new before after)) (sym same)
-    (some_leaves rack l shelf old new before after (λ t. holds_some rack l.options shelf (closed t)) kept (subst (λ w. AppendsUnlessFault old new w before after) (sym (same_Some _ _ is)) p))
-first_leaves rack l shelf (first.Damaged place) s old new before after closed failed kept later (told line is same p) =
+    (some_leaves rack l shelf old new before after (λ t. holds_some rack l.options shelf (closed t)) kept asked (subst (λ w. AppendsUnlessFault old new w before after) (sym (same_Some _ _ is)) p))
+first_leaves rack l shelf (first.Damaged place) s old new before after closed failed kept asked later (told line is same p) =
     subst (λ x. HasLeft rack l x (sinks old new before after)) (sym same) (no_chances, λ t. absurd (closed t))
-first_leaves rack l shelf (first.Other place) s old new before after closed failed kept later (told line is same p) =
+first_leaves rack l shelf (first.Other place) s old new before after closed failed kept asked later (told line is same p) =
     subst (λ x. HasLeft rack l x (sinks old new before after)) (sym same) (no_chances, λ t. absurd (closed t))
-first_leaves rack l shelf (first.Full size) s old new before after closed failed kept later (told line is same p) =
+first_leaves rack l shelf (first.Full size) s old new before after closed failed kept asked later (told line is same p) =
     subst (λ x. HasLeft rack l x (sinks old new before after)) (sym same) (no_chances, λ t. absurd (closed t))
-first_leaves rack l shelf first.Memory s old new before after closed failed kept later (told line is same p) = absurd (let no : None ≡ Some line = is in cc)
+first_leaves rack l shelf first.Memory s old new before after closed failed kept asked later (told line is same p) = absurd (let no : None ≡ Some line = is in cc)
 
 -- what was left by it is left behind the closing too
 unfoldable shelf_with : (left left' : Desk → ℕ → Reopen → Type 0) → ((d : Desk) (k : ℕ) (w : Reopen) → left d k w → left' d k w) → (count : ℕ) (source : Source)
@@ -348,7 +350,7 @@ pub short_load : (rack : Racks) (l : LoadOptions) (left : Desk → ℕ → Reope
 short_load rack l left f start last before after b short some (inl h) books from to = (
   chances_of l.options h.loads.fates,
   (
-    performed last (loaded_behind l start last h.loads.fates h.done h.told h.few b.first h.loads.is) books b.empty,
+    performed last (λ shelf why. tt) (loaded_behind l start last h.loads.fates h.done h.told h.few b.first h.loads.is) books b.began,
     have_failed rack h.loads.fates before after from h.loads.risen to,
   ),
 )
@@ -367,7 +369,7 @@ short_load rack l left f start last before after b short some (inr (shelf, h)) b
       from = from;
       to = to;
     } in
-    let x = remains_lost rack l shelf reopen.Memory q in (chances_of l.options x.0.0, (lost shelf reopen.Memory x.0.1 tt x.0.2 x.0.3 q.begins.empty, x.1.0))
+    let x = remains_lost rack l shelf reopen.Memory q in (chances_of l.options x.0.0, (lost shelf reopen.Memory x.0.1 tt x.0.2 x.0.3 q.begins.began, x.1.0))
 
 -- the same of a result that is that
 pub short_if : (rack : Racks) (l : LoadOptions) (left : Desk → ℕ → Reopen → Type 0) → ((d : Desk) (k : ℕ) (w : Reopen) → left d k w → IsLeft rack.after d k w) → (result : Result Measure Halt) (start last : Desk) (before after : ℕ) → result ≡ Err halt.Memory
@@ -412,7 +414,7 @@ again_leaves rack l shelf why s old new before after lost_so failed damaged othe
     memory_leaves rack l s old new before after is line
     (λ t.
     let q = lost_so t in
-    let x = remains_lost rack l shelf why q in (chances_of l.options x.0.0, (lost shelf why x.0.1 tt x.0.2 x.0.3 q.begins.empty, x.1.0)))
+    let x = remains_lost rack l shelf why q in (chances_of l.options x.0.0, (lost shelf why x.0.1 tt x.0.2 x.0.3 q.begins.began, x.1.0)))
 again_leaves rack l shelf reopen.Disk s old new before after lost_so failed damaged other (told line is same p) =
     subst (λ x. HasLeft rack l x (sinks old new before after)) (sym same) (x.0, (shelf, failed refl, shown, x.1))
   where
@@ -422,7 +424,7 @@ again_leaves rack l shelf reopen.Disk s old new before after lost_so failed dama
     here : LostLoad rack l shelf reopen.Disk → (chances : Chances) × LosesTold rack l shelf chances
     here q =
         let x = remains_lost rack l shelf reopen.Disk q in
-        (chances_of l.options x.0.0, (at_crash x.0.1 x.0.2, (lost shelf reopen.Disk x.0.1 (refl, refl) x.0.2 x.0.3 q.begins.empty, x.1.1 refl)))
+        (chances_of l.options x.0.0, (at_crash x.0.1 x.0.2, (lost shelf reopen.Disk x.0.1 (refl, refl) x.0.2 x.0.3 q.begins.began, x.1.1 refl)))
 
     x : (chances : Chances) × (IsTrue rack.tells → LosesTold rack l shelf chances)
     x = decided rack.tells (LosesTold rack l shelf) no_chances (λ t. here (lost_so t))

@@ -1,5 +1,5 @@
 -- From the opening and the run of a desk to what a command answers.
-use Rattle.std.proofs.Common.{◌≡◌, ◌≢◌, ◌≤◌, ◌<◌, ◌∷◌, inl, inr, ℕ, List, [], IsTrue, Option, Some, None, Ok, refl, sym, subst}
+use Rattle.std.proofs.Common.{◌≡◌, ◌≢◌, ◌≤◌, ◌<◌, ◌+◌, ◌∷◌, inl, inr, ℕ, List, [], IsTrue, Option, Some, None, Ok, refl, sym, subst}
 use Rattle.std.proofs.lemmas.Option.{same_Some}
 use Rattle.web_outside.specs.Pieces.{AppendsUnlessFault}
 use Rattle.command_words.specs.declared.Command.TheVariants.{Play}
@@ -8,6 +8,7 @@ use Rattle.setup_reader.specs.declared.setup.Ending.TheVariants.{Steps}
 use Rattle.setup_reader.specs.Setup.{Parsed, setup_of}
 use Rattle.play_steps.specs.declared.stage.Reopen.{Reopen}
 use Rattle.play_steps.specs.declared.stage.Reopen.TheVariants as reopen
+use Rattle.play_desk.specs.Asking.{AsksForFirst}
 use Rattle.play_desk.specs.Opening.{AllStayKept, IsClosedBy, IsNotEmpty, cause_of}
 use Rattle.play_desk.specs.declared.opening.OpenCause.{OpenCause}
 use Rattle.play_desk.specs.declared.opening.OpenCause.TheVariants as first
@@ -28,25 +29,26 @@ holds_some rack o shelf h = by_image h.1.image h.1.held h.1.some
 -- a run of steps did not begin
 pub first_outputs : (rack : Racks) (o : Options) (bytes : List ℕ) (setup : Parsed) (shelf : ℕ) (why : OpenCause) (s : Status) (old new : Option (List ℕ)) (before after : ℕ)
     → setup_of Steps bytes ≡ Ok setup → (IsTrue rack.tells → IsClosedBy rack.before.holds o.shelves shelf why) → (why ≡ first.Disk → ShelfFailed rack shelf)
-    → (IsTrue rack.tells → AllStayKept setup.scripts rack.before.holds rack.after.holds shelf why) → rack.before.faults ≤ rack.after.faults
+    → (IsTrue rack.tells → AllStayKept setup.scripts rack.before.holds rack.after.holds shelf why) → AsksForFirst (shelf + 1) rack.before rack.after
+    → rack.before.faults ≤ rack.after.faults
     → TellsUnopened shelf why s (sinks old new before after) → Outputs rack (Play o) bytes s (sinks old new before after)
-first_outputs rack o bytes setup shelf why s old new before after h closed failed kept later (untold is line) =
+first_outputs rack o bytes setup shelf why s old new before after h closed failed kept asked later (untold is line) =
     unopened_early rack o bytes setup shelf why s old new before after h
-    (λ t. is_unopened rack setup.scripts o.shelves shelf why (closed t) failed (kept t)) later is line
-first_outputs rack o bytes setup shelf first.Disk s old new before after h closed failed kept later (told line is same p) =
+    (λ t. is_unopened rack setup.scripts o.shelves shelf why (closed t) failed (kept t) asked) later is line
+first_outputs rack o bytes setup shelf first.Disk s old new before after h closed failed kept asked later (told line is same p) =
     subst (λ x. Outputs rack (Play o) bytes x (sinks old new before after)) (sym same)
     (unread_outputs rack o bytes setup shelf old new before after h (failed refl)
-    (λ t. is_unopened rack setup.scripts o.shelves shelf first.Disk (closed t) failed (kept t)) (subst (λ l. AppendsUnlessFault old new l before after) (sym (same_Some _ _ is)) p))
-first_outputs rack o bytes setup shelf first.NotEmpty s old new before after h closed failed kept later (told line is same p) =
+    (λ t. is_unopened rack setup.scripts o.shelves shelf first.Disk (closed t) failed (kept t) asked) (subst (λ l. AppendsUnlessFault old new l before after) (sym (same_Some _ _ is)) p))
+first_outputs rack o bytes setup shelf first.NotEmpty s old new before after h closed failed kept asked later (told line is same p) =
     subst (λ x. Outputs rack (Play o) bytes x (sinks old new before after)) (sym same)
-    (some_outputs rack o bytes setup shelf old new before after h (λ t. holds_some rack o shelf (closed t)) kept (subst (λ l. AppendsUnlessFault old new l before after) (sym (same_Some _ _ is)) p))
-first_outputs rack o bytes setup shelf (first.Damaged place) s old new before after h closed failed kept later (told line is same p) =
+    (some_outputs rack o bytes setup shelf old new before after h (λ t. holds_some rack o shelf (closed t)) kept asked (subst (λ l. AppendsUnlessFault old new l before after) (sym (same_Some _ _ is)) p))
+first_outputs rack o bytes setup shelf (first.Damaged place) s old new before after h closed failed kept asked later (told line is same p) =
     subst (λ x. Outputs rack (Play o) bytes x (sinks old new before after)) (sym same) (never_outputs rack o bytes setup old new before after h closed)
-first_outputs rack o bytes setup shelf (first.Other place) s old new before after h closed failed kept later (told line is same p) =
+first_outputs rack o bytes setup shelf (first.Other place) s old new before after h closed failed kept asked later (told line is same p) =
     subst (λ x. Outputs rack (Play o) bytes x (sinks old new before after)) (sym same) (never_outputs rack o bytes setup old new before after h closed)
-first_outputs rack o bytes setup shelf (first.Full size) s old new before after h closed failed kept later (told line is same p) =
+first_outputs rack o bytes setup shelf (first.Full size) s old new before after h closed failed kept asked later (told line is same p) =
     subst (λ x. Outputs rack (Play o) bytes x (sinks old new before after)) (sym same) (never_outputs rack o bytes setup old new before after h closed)
-first_outputs rack o bytes setup shelf first.Memory s old new before after h closed failed kept later (told line is same p) = absurd (let no : None ≡ Some line = is in cc)
+first_outputs rack o bytes setup shelf first.Memory s old new before after h closed failed kept asked later (told line is same p) = absurd (let no : None ≡ Some line = is in cc)
 
 -- a shelf was not opened again
 pub again_outputs : (rack : Racks) (o : Options) (bytes : List ℕ) (setup : Parsed) (shelf : ℕ) (why : Reopen) (s : Status) (old mid new : Option (List ℕ)) (before between after : ℕ)

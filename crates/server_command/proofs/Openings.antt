@@ -7,11 +7,13 @@ use Rattle.web_outside.specs.Causes.{Rose}
 use Rattle.web_disk.specs.View.{View, RackView, AreAmong}
 use Rattle.script_nodes.specs.Setup.{Named}
 use Rattle.play_steps.specs.Rules.{StaysUp}
+use Rattle.play_desk.specs.Asking.{AsksForFirst, AsksForNone, AsksForOne, AsksUntil}
 use Rattle.play_desk.specs.Opening.{FailedFor}
 use Rattle.server_command.specs.Racks.{KeepsHome}
 use Rattle.play_desk.specs.declared.opening.OpenCause.{OpenCause}
 use Rattle.play_desk.specs.declared.opening.OpenCause.TheVariants as cause
-use Rattle.server_command.specs.Opening.{AreFrom, HasTaken, IsRefused, IsUntaken, LeavesFrom, RefusesInOrder, TakesBack, seen_on}
+use Rattle.server_command.specs.Opening.{AreFrom, AsksAsTaken, AsksByCause, HasTaken, IsRefused, IsUntaken, LeavesFrom, RefusesInOrder, TakesBack, seen_on}
+use Rattle.play_desk.proofs.Asking.{asked_more, asked_none}
 use Rattle.server_command.proofs.Racks.{held_more}
 
 -- ---- what one disk does that is given back
@@ -23,6 +25,7 @@ pub record Gives (before after : RackView) (number faults : ℕ) : Type 0 where
   pub counts : after.faults ≡ min (before.faults + faults) (2 ^ 64 - 1)
   pub counted : after.failed number ≡ before.failed number + faults
   pub others_counted : (n : ℕ) → n ≢ number → after.failed n ≡ before.failed n
+  pub asked : AsksForNone before after
 
 pub same_or_not : (m n : ℕ) → (m ≡ n) ⊎ (m ≢ n)
 same_or_not zero zero = inl refl
@@ -52,6 +55,7 @@ pub record GivesDownTo (before now : RackView) (number count : ℕ) : Type 0 whe
   pub lower : (k : ℕ) → k < number → now.out k ≡ before.out k
   pub later : before.faults ≤ now.faults
   pub failed_later : StaysUp before.failed now.failed
+  pub asked : AsksForNone before now
   pub low : now.faults ≤ 2 ^ 64 - 1
 
 pub gives_last : (before : RackView) (count : ℕ) → before.faults ≤ 2 ^ 64 - 1 → GivesDownTo before before count count
@@ -61,6 +65,7 @@ gives_last before count low = record {
   lower = λ k below. refl;
   later = omega arith;
   failed_later = λ n. omega arith;
+  asked = refl;
   low = low;
 }
 
@@ -75,6 +80,7 @@ gives_before before now after number next count faults is p g = record {
   lower = λ k below. g.others_out k (λ e. omega (arith, e, below)) ∙ p.lower k (omega (arith, below, is));
   later = omega (arith, p.later, p.low, g.counts);
   failed_later = counts_up before now after number faults p.failed_later g;
+  asked = g.asked ∙ p.asked;
   low = omega (arith, g.counts);
 }
 
@@ -84,6 +90,7 @@ gives_down before after count p = record {
   back = λ k above below. p.back k above (omega (arith, below));
   later = p.later;
   failed_later = p.failed_later;
+  asked = p.asked;
 }
 
 -- ---- what was refused
@@ -133,6 +140,7 @@ pub record TakesOne (before after : RackView) (number : ℕ) : Type 0 where
   pub later : before.faults ≤ after.faults
   pub failed : after.failed number ≡ before.failed number
   pub others_failed : (n : ℕ) → n ≢ number → after.failed n ≡ before.failed n
+  pub asked : AsksForOne number before after
 
 -- so many were taken; those above are as they were
 pub record TakesUpTo (told : Type 0) (before now : RackView) (number : ℕ) (images : List (List ℕ)) : Type 0 where
@@ -153,6 +161,7 @@ takes_none told before = record {
     rest = λ n le image h. h;
     later = omega arith;
     failed_later = λ n. omega arith;
+    asked = asked_none before;
   };
   above = λ n le image h. h;
   home = λ n le. refl;
@@ -175,6 +184,9 @@ takes_next told before now after number images image p one here = record {
       | inl e ↦ subst (λ m. before.failed m ≤ after.failed m) (sym e) (let was = p.taken.failed_later number in let is = one.failed in omega (arith, was, is))
       | inr d ↦ (let was = p.taken.failed_later n in let is = one.others_failed n d in omega (arith, was, is))
     ];
+    asked =
+        (let next : suc number ≡ number + 1 = omega arith in
+        subst (λ n. AsksForFirst n before after) next (asked_more number before now after p.taken.asked one.asked));
   };
   above = λ n le x h. p.above n (omega (arith, le)) x (one.others n (λ e. omega (arith, e, le)) x h);
   home = λ n le. one.others_out n (λ e. omega (arith, e, le)) ∙ p.home n (omega (arith, le));
@@ -225,12 +237,40 @@ kept_home {D = D} view told before mid after last count images disks p many from
 pub both_tell : (a b : Bool) → IsTrue (a && b) → IsTrue a × IsTrue b
 both_tell a b h = and_parts a b h
 
+until_disk : (before after : RackView) (count shelf : ℕ) → AsksAsTaken before after count shelf cause.Disk → AsksUntil count shelf before after
+until_disk before after count shelf (inl until) = until
+until_disk before after count shelf (inr none) = absurd (let is = none.0 in let no : ⊥ = cc is in no)
+
 -- a disk was not taken, and nothing was written on any
 pub untaken_in_order : (scripts : List Named) (before after : RackView) (count : ℕ) (risen : ℕ → Type 0) (shelf : ℕ) (why : OpenCause)
-    → IsUntaken risen shelf why → LeavesFrom 0 before after → RefusesInOrder scripts before after count [] shelf why
-untaken_in_order scripts before after count risen shelf cause.Disk h left = inl (λ n. left n (omega arith))
-untaken_in_order scripts before after count risen shelf cause.NotEmpty h left = absurd h
-untaken_in_order scripts before after count risen shelf (cause.Damaged place) h left = absurd h
-untaken_in_order scripts before after count risen shelf (cause.Other place) h left = absurd h
-untaken_in_order scripts before after count risen shelf (cause.Full length) h left = absurd h
-untaken_in_order scripts before after count risen shelf cause.Memory h left = tt
+    → IsUntaken risen shelf why → AsksAsTaken before after count shelf why → LeavesFrom 0 before after
+    → RefusesInOrder scripts before after count [] shelf why
+untaken_in_order scripts before after count risen shelf cause.Disk h asked left =
+    inl (until_disk before after count shelf asked, λ n. left n (omega arith))
+untaken_in_order scripts before after count risen shelf cause.NotEmpty h asked left = absurd h
+untaken_in_order scripts before after count risen shelf (cause.Damaged place) h asked left = absurd h
+untaken_in_order scripts before after count risen shelf (cause.Other place) h asked left = absurd h
+untaken_in_order scripts before after count risen shelf (cause.Full length) h asked left = absurd h
+untaken_in_order scripts before after count risen shelf cause.Memory h asked left = tt
+
+pub untaken_asked : (before after : RackView) (count : ℕ) (risen : ℕ → Type 0) (shelf : ℕ) (why : OpenCause)
+    → IsUntaken risen shelf why → AsksAsTaken before after count shelf why → AsksByCause before after count shelf why
+untaken_asked before after count risen shelf cause.Disk h asked = inr (until_disk before after count shelf asked)
+untaken_asked before after count risen shelf cause.NotEmpty h asked = absurd h
+untaken_asked before after count risen shelf (cause.Damaged place) h asked = absurd h
+untaken_asked before after count risen shelf (cause.Other place) h asked = absurd h
+untaken_asked before after count risen shelf (cause.Full length) h asked = absurd h
+untaken_asked before after count risen shelf cause.Memory h asked = tt
+
+-- all disks were taken
+pub taken_asked : (before after : RackView) (count shelf : ℕ) (why : OpenCause) → AsksForFirst count before after → AsksByCause before after count shelf why
+taken_asked before after count shelf cause.Disk asked = inl asked
+taken_asked before after count shelf cause.NotEmpty asked = asked
+taken_asked before after count shelf (cause.Damaged place) asked = asked
+taken_asked before after count shelf (cause.Other place) asked = asked
+taken_asked before after count shelf (cause.Full length) asked = asked
+taken_asked before after count shelf cause.Memory asked = tt
+
+-- disks that were taken came home
+pub given_asked : (count : ℕ) (before middle after : RackView) → AsksForFirst count before middle → AsksForNone middle after → AsksForFirst count before after
+given_asked count before middle after asked none = none ∙ asked

@@ -1,5 +1,5 @@
 -- In which order the outside was asked, by what the parts of a command say.
-use Rattle.std.proofs.Common.{◌≡◌, inl, inr, ℕ, List, Bool, Option, Some, None, Result, Ok, Err, refl, sym, subst}
+use Rattle.std.proofs.Common.{◌≡◌, ◌⊎◌, ⊎_elim, inl, inr, ℕ, List, Bool, Option, Some, None, Result, Ok, Err, refl, sym, subst}
 use Rattle.web_disk.specs.View.{RackView}
 use Rattle.web_outside.specs.declared.source.InputFault.{InputFault}
 use Rattle.web_outside.specs.declared.source.InputFault.TheVariants as faults
@@ -7,7 +7,8 @@ use Rattle.command_words.specs.declared.Command.{Command}
 use Rattle.command_words.specs.declared.Command.TheVariants.{Check, Play, Serve, Load}
 use Rattle.command_words.specs.declared.LoadOptions.{LoadOptions}
 use Rattle.request_workers.specs.declared.tally.Tally.{Tally}
-use Rattle.setup_reader.specs.Setup.{Fault}
+use Rattle.setup_reader.specs.declared.setup.Ending.TheVariants.{Input}
+use Rattle.setup_reader.specs.Setup.{Fault, Parsed, setup_of}
 use Rattle.site_serving.specs.declared.serving.ServingFault.{ServingFault}
 use Rattle.site_serving.specs.declared.serving.ServingFault.TheVariants as served
 use Rattle.server_command.specs.declared.program.Status.{Status}
@@ -17,12 +18,15 @@ use Rattle.server_command.specs.declared.serving.ServeFault.TheVariants as fault
 use Rattle.play_desk.specs.declared.opening.OpenCause.{OpenCause}
 use Rattle.play_desk.specs.declared.opening.OpenCause.TheVariants as cause
 use Rattle.play_desk.specs.declared.opening.OpenFault.{OpenFault}
+use Rattle.play_desk.specs.Asking.{AsksForFirst}
+use Rattle.server_command.specs.Opening.{AsksByCause}
 use Rattle.server_command.specs.Racks.{Racks, AtRest, racks_of}
-use Rattle.server_command.specs.Output.{Chances, Sinks}
+use Rattle.server_command.specs.Output.{Chances, Sinks, counted}
+use Rattle.server_command.specs.Remains.{TellsOutgrown}
 use Rattle.server_command.specs.Loading.{HasLeft, LeavesLoad}
 use Rattle.server_command.specs.Telling.{TellsOutcome, TellsUnopened, told, untold, unopened_status}
-use Rattle.server_command.specs.Order.{Asks, AreIdle, AsksInOrder, ComesInOrder, RestsIfEarly, ServesInOrder}
-use Rattle.server_command.specs.Command.{Leaves, Outputs, TellsFaultLine, TellsNoSetup, unread_status}
+use Rattle.server_command.specs.Order.{Asks, AreIdle, AsksInOrder, ComesInOrder, RestsFor, RestsIfEarly, ServesInOrder}
+use Rattle.server_command.specs.Command.{Leaves, Outputs, Settles, TellsFaultLine, TellsNoSetup, unread_status, with_setup}
 use Rattle.server_command.specs.Serving.{told_as}
 use Rattle.server_command.proofs.Endings.{at_rest}
 
@@ -55,19 +59,23 @@ setup_order asks rack shelves bytes out s (inl h) still = faulty_order asks rack
 setup_order asks rack shelves bytes out s (inr h) still = subst (ServesInOrder asks rack shelves) (sym h.0) tt
 
 -- a shelf was not opened
-shut_order : (asks : Asks) (rack : Racks) (shelves : ℕ) (why : OpenCause) → asks.drawn shelves × asks.shut
-    → ServesInOrder asks rack shelves (unopened_status why)
-shut_order asks rack shelves cause.Disk p = p
-shut_order asks rack shelves cause.NotEmpty p = p
-shut_order asks rack shelves (cause.Damaged place) p = p
-shut_order asks rack shelves (cause.Other place) p = p
-shut_order asks rack shelves (cause.Full length) p = p
-shut_order asks rack shelves cause.Memory p = tt
+abbrev Shut : Asks → Racks → (shelves shelf : ℕ) → OpenCause → Type 0
+Shut asks rack shelves shelf why = asks.drawn shelves × asks.shut × AsksByCause rack.before rack.after shelves shelf why
 
-unopened_order : (asks : Asks) (rack : Racks) (shelves shelf : ℕ) (why : OpenCause) (out : Sinks) (s : Status) → asks.drawn shelves × asks.shut
+shut_order : (asks : Asks) (rack : Racks) (shelves shelf : ℕ) (why : OpenCause) → Shut asks rack shelves shelf why
+    → ServesInOrder asks rack shelves (unopened_status why)
+shut_order asks rack shelves shelf cause.Disk (drawn, shut, inl all) = (drawn, shut, inl all)
+shut_order asks rack shelves shelf cause.Disk (drawn, shut, inr until) = (drawn, shut, inr (shelf, until))
+shut_order asks rack shelves shelf cause.NotEmpty p = p
+shut_order asks rack shelves shelf (cause.Damaged place) p = p
+shut_order asks rack shelves shelf (cause.Other place) p = p
+shut_order asks rack shelves shelf (cause.Full length) p = p
+shut_order asks rack shelves shelf cause.Memory p = tt
+
+unopened_order : (asks : Asks) (rack : Racks) (shelves shelf : ℕ) (why : OpenCause) (out : Sinks) (s : Status) → Shut asks rack shelves shelf why
     → TellsUnopened shelf why s out → ServesInOrder asks rack shelves s
 unopened_order asks rack shelves shelf why out s p (told line is same prints) =
-    subst (ServesInOrder asks rack shelves) (sym same) (shut_order asks rack shelves why p)
+    subst (ServesInOrder asks rack shelves) (sym same) (shut_order asks rack shelves shelf why p)
 unopened_order asks rack shelves shelf why out s p (untold is prints) = subst (ServesInOrder asks rack shelves) (sym is) tt
 
 -- what the serving came to was told
@@ -92,10 +100,10 @@ undrawn_order asks rack shelves fault.Memory rest shut door shelf = tt
 
 -- the shelves were opened
 pub told_order : (asks : Asks) (rack : Racks) (shelves : ℕ) (outcome : Result Tally ServingFault) → asks.drawn shelves
-    → ComesInOrder asks rack shelves (told_as outcome)
-told_order asks rack shelves (Ok tally) drawn = drawn
-told_order asks rack shelves (Err served.Door) drawn = drawn
-told_order asks rack shelves (Err served.Memory) drawn = tt
+    → AsksForFirst shelves rack.before rack.after → ComesInOrder asks rack shelves (told_as outcome)
+told_order asks rack shelves (Ok tally) drawn asked = (drawn, asked)
+told_order asks rack shelves (Err served.Door) drawn asked = (drawn, asked)
+told_order asks rack shelves (Err served.Memory) drawn asked = tt
 
 -- ---- any other command
 
@@ -114,9 +122,41 @@ rests_of rack asked bytes status.Journal chances out p = tt
 rests_of rack asked bytes status.Door chances out p = absurd p
 rests_of rack asked bytes status.Key chances out p = absurd p
 
+-- a check asks for nothing of disks
+settled : (rack : Racks) (setup : Result Parsed Fault) → Settles rack (with_setup Check setup)
+settled rack (Ok setup) = tt
+settled rack (Err e) = tt
+
+-- it is neither shut nor outgrown
+never_shut : (rack : Racks) (setup : Result Parsed Fault) (chances : Chances) (out : Sinks)
+    → ((counted setup).status ≡ 8) ⊎ TellsOutgrown rack (with_setup Check setup) chances out → ⊥
+never_shut rack (Ok setup) chances out (inl is) = let no : ⊥ = cc is in no
+never_shut rack (Err e) chances out (inl is) = let no : ⊥ = cc is in no
+never_shut rack (Ok setup) chances out (inr h) = h
+never_shut rack (Err e) chances out (inr h) = h
+
+check_rests : (rack : Racks) (bytes : List ℕ) (s : Status) (chances : Chances) (out : Sinks) → Leaves rack Check bytes s chances out → AtRest rack
+check_rests rack bytes status.Done chances out p = (p (settled rack (setup_of Input bytes))).1
+check_rests rack bytes status.Usage chances out p = absurd p
+check_rests rack bytes status.Setup chances out p = p.1
+check_rests rack bytes status.Line chances out p = (p (settled rack (setup_of Input bytes))).1
+check_rests rack bytes status.Read chances out p = absurd p
+check_rests rack bytes status.Write chances out p = (p.1 (settled rack (setup_of Input bytes))).1
+check_rests rack bytes status.Memory chances out p = (p (settled rack (setup_of Input bytes))).3
+check_rests rack bytes status.Long chances out p = absurd p
+check_rests rack bytes status.Disk chances out p = (p.2 (settled rack (setup_of Input bytes))).3
+check_rests rack bytes status.Journal chances out p =
+    absurd (never_shut rack (setup_of Input bytes) chances out
+    (⊎_elim (λ h. inl h.0.answered.0) (λ h. inr h) (p (settled rack (setup_of Input bytes)))))
+check_rests rack bytes status.Door chances out p = absurd p
+check_rests rack bytes status.Key chances out p = absurd p
+
 -- the whole input was read
-pub job_rests : (rack : Racks) (asked : Command) (bytes : List ℕ) (s : Status) (out : Sinks) → Outputs rack asked bytes s out → RestsIfEarly rack s
-job_rests rack asked bytes s out p = rests_of rack asked bytes s p.0 out p.1
+pub job_rests : (rack : Racks) (asked : Command) (bytes : List ℕ) (s : Status) (out : Sinks) → Outputs rack asked bytes s out → RestsFor rack asked s
+job_rests rack Check bytes s out p = check_rests rack bytes s p.0 out p.1
+job_rests rack (Play o) bytes s out p = rests_of rack (Play o) bytes s p.0 out p.1
+job_rests rack (Serve v) bytes s out p = rests_of rack (Serve v) bytes s p.0 out p.1
+job_rests rack (Load l) bytes s out p = rests_of rack (Load l) bytes s p.0 out p.1
 
 unread_rest : (rack : Racks) (why : InputFault) → AtRest rack → RestsIfEarly rack (unread_status why)
 unread_rest rack faults.Failed rest = rest
@@ -124,8 +164,11 @@ unread_rest rack faults.Memory rest = tt
 unread_rest rack faults.Long rest = rest
 
 -- it was not
-pub unread_rests : (rack : Racks) (why : InputFault) (s : Status) → s ≡ unread_status why → AtRest rack → RestsIfEarly rack s
-unread_rests rack why s is rest = subst (RestsIfEarly rack) (sym is) (unread_rest rack why rest)
+pub unread_rests : (rack : Racks) (asked : Command) (why : InputFault) (s : Status) → s ≡ unread_status why → AtRest rack → RestsFor rack asked s
+unread_rests rack Check why s is rest = rest
+unread_rests rack (Play o) why s is rest = subst (RestsIfEarly rack) (sym is) (unread_rest rack why rest)
+unread_rests rack (Serve v) why s is rest = subst (RestsIfEarly rack) (sym is) (unread_rest rack why rest)
+unread_rests rack (Load l) why s is rest = subst (RestsIfEarly rack) (sym is) (unread_rest rack why rest)
 
 left_rests : (rack : Racks) (l : LoadOptions) (s : Status) (chances : Chances) (out : Sinks) → LeavesLoad rack l s chances out → RestsIfEarly rack s
 left_rests rack l status.Done chances out p = tt
@@ -141,12 +184,12 @@ load_rests rack l s out p = left_rests rack l s p.0 out p.1
 
 -- there was no memory for the words
 pub unworded_order : (asks : Asks) (rack : Racks) (asked : Option Command) (s : Status) → s ≡ status.Memory → asks.undrawn → asks.shut
-    → AsksInOrder asks rack asked s
-unworded_order asks rack asked s is undrawn shut = subst (AsksInOrder asks rack asked) (sym is) (by_words asked)
+    → AtRest rack → AsksInOrder asks rack asked s
+unworded_order asks rack asked s is undrawn shut rest = subst (AsksInOrder asks rack asked) (sym is) (by_words asked)
   where
     by_words : (a : Option Command) → AsksInOrder asks rack a status.Memory
     by_words None = (undrawn, shut, tt)
-    by_words (Some Check) = (undrawn, shut, tt)
+    by_words (Some Check) = (undrawn, shut, rest)
     by_words (Some (Play o)) = (undrawn, shut, tt)
     by_words (Some (Serve s)) = tt
     by_words (Some (Load l)) = (undrawn, shut, tt)

@@ -24,10 +24,11 @@ use Rattle.play_steps.specs.Played as played
 use Rattle.play_steps.specs.Played.{Plays, Halts, HasRisen, RoseBy, Waits}
 use Rattle.play_desk.specs.Desk.{Desk, desk_rules, is_fault}
 use Rattle.play_desk.specs.Laws.{TranscriptsAreRuns}
+use Rattle.play_desk.specs.Asking.{AsksForFirst}
 use Rattle.play_desk.specs.Opening.{AllStayKept, HoldTheBooks, IsClosedBy, IsLeft}
 use Rattle.play_desk.specs.declared.opening.OpenCause.{OpenCause}
 use Rattle.play_desk.specs.declared.opening.OpenCause.TheVariants as cause
-use Rattle.server_command.specs.Racks.{Racks, AreHeld, AreTaken, ShelfFailed, full, not_empty, first_unfit, unfit_new, disk_line, unfit_line}
+use Rattle.server_command.specs.Racks.{Racks, AreHeld, AreTaken, HaveBegun, ShelfFailed, full, not_empty, first_unfit, unfit_new, disk_line, unfit_line}
 use Rattle.server_command.specs.Output.{Chances, Output, output_of, desk_for, run_of, steps_for, finished, ended, sinks, Tells, BreaksOff, at_line, replies, at_first, at_crash, unless_shut}
 use Rattle.server_command.specs.Remains.{AreAllKept, HaveFailed, IsAny, IsBehind, IsFailed, IsLostBehind, IsUnopened, Loses, Pauses, Remains, RemainsShut, RemainsUnwritten, TellsOutgrown, unopened, performed, lost}
 use Rattle.server_command.specs.Command.{Gives, Known, LeavesShut, Outputs, PlaysEvents, Settles, StandFor, TakesDisks, TellsLine, with_setup}
@@ -50,10 +51,10 @@ by_tells : (rack : Racks) (o : Options) (bytes : List ℕ) (setup : Parsed) → 
 by_tells rack o bytes setup h P f =
     let x = decided rack.tells P no_chances f in (x.0, λ settles. x.1 (tells_of rack o bytes setup h settles))
 
--- a run of steps begins on disks that were found empty
+-- a run of steps begins on disks that were found empty, in order
 pub record Begins (rack : Racks) (o : Options) (scripts : List Named) (d : Desk) : Type 0 where
   pub first : d ≡ desk_for o scripts
-  pub empty : (k : ℕ) → k < o.shelves → rack.before.holds k []
+  pub began : HaveBegun rack o.shelves
 
 -- its chances, by the fates of its events
 abbrev pub chances_of : Options → List Fate → Chances
@@ -74,7 +75,7 @@ so_many (suc n) x = ap suc (so_many n x)
 pub are_taken : (rack : Racks) (o : Options) (scripts : List Named) (d : Desk) → Begins rack o scripts d
     → AreTaken unfit_new rack.before.holds o.shelves (replicate o.shelves [])
 are_taken rack o scripts d b = record {
-  held = all_held rack.before.holds o.shelves 0 o.shelves (omega arith) b.empty;
+  held = all_held rack.before.holds o.shelves 0 o.shelves (omega arith) b.began.empty;
   all = λ none. so_many o.shelves [];
 }
 
@@ -110,11 +111,11 @@ plays_events law o bytes setup chances is none =
 
 stand_for : (rack : Racks) (o : Options) (bytes : List ℕ) (setup : Parsed) (d e : Desk) (fates : List Fate) (run : Run desk_rules) → setup_of Steps bytes ≡ Ok setup
     → d ≡ desk_for o setup.scripts → transcript desk_rules d 1 (steps_for o setup) fates ≡ run → run.state ≡ e → HoldTheBooks e rack.after.holds
-    → HaveFailed rack fates 0 → StandFor rack (Play o) (setup_of Steps bytes) (chances_of o fates)
-stand_for rack o bytes setup d e fates run h first is last l counted =
+    → HaveFailed rack fates 0 → HaveBegun rack o.shelves → StandFor rack (Play o) (setup_of Steps bytes) (chances_of o fates)
+stand_for rack o bytes setup d e fates run h first is last l counted began =
     let same = ap (λ (x : Desk). (transcript desk_rules x 1 (steps_for o setup) fates).state) (sym first) ∙ (ap (λ (r : Run desk_rules). r.state) is ∙ last) in
     subst (λ (r : Result Parsed Fault). StandFor rack (Play o) r (chances_of o fates)) (sym h)
-    (subst (λ (x : Desk). HoldTheBooks x rack.after.holds) (sym same) l, counted)
+    (subst (λ (x : Desk). HoldTheBooks x rack.after.holds) (sym same) l, counted, began)
 
 -- the count of a rack, by that of the stage before and behind the events of these fates
 pub have_failed : (rack : Racks) (fates : List Fate) (before after : ℕ) → rack.before.faults ≤ before → HasRisen desk_rules fates before after
@@ -191,7 +192,7 @@ done_outputs rack o bytes setup s old mid new before between after h ran kept le
             text = subst (Appends old new) (sym (ap (λ (x : Output). x.text) is)) (appends_kept old mid new (print p.plays.told) p.plays.written kept);
             taken = takes rack o bytes setup p.first p.plays.fates h p.begins;
             stand = stand_for rack o bytes setup p.first p.last p.plays.fates _ h p.begins.first p.plays.is refl p.left
-                (have_failed rack p.plays.fates p.before p.after p.from p.plays.risen p.to);
+                (have_failed rack p.plays.fates p.before p.after p.from p.plays.risen p.to) p.begins.began;
             unwritten = subst (λ (r : Result Parsed Fault). RemainsUnwritten rack (Play o) r (chances_of o p.plays.fates) old new) (sym h) (
               print p.plays.told,
               p.last,
@@ -199,7 +200,7 @@ done_outputs rack o bytes setup s old mid new before between after h ran kept le
               behind_all o setup p.first p.last p.plays.fates _ p.begins.first p.plays.is refl,
               p.left,
               have_failed rack p.plays.fates p.before p.after p.from p.plays.risen p.to,
-              p.begins.empty,
+              p.begins.began,
             );
           },
         )
@@ -223,7 +224,7 @@ line_outputs rack o bytes setup n status.Line old mid new before between after h
               taken = takes rack o bytes setup p.first p.plays.fates h p.begins;
             },
             stand_for rack o bytes setup p.first p.last p.plays.fates _ h p.begins.first p.plays.is refl p.left
-                (have_failed rack p.plays.fates p.before p.after p.from p.plays.risen p.to),
+                (have_failed rack p.plays.fates p.before p.after p.from p.plays.risen p.to) p.begins.began,
           ),
         )
 line_outputs rack o bytes setup n status.Memory old mid new before between after h ran le told =
@@ -241,7 +242,7 @@ line_outputs rack o bytes setup n status.Memory old mid new before between after
             tells old mid new _ (codes "error 10 memory\n") before after (subst (Appends old mid) (sym text) p.plays.written) (since mid new _ before between after le told),
             subst (λ (t : List ℕ). Remains rack (Play o) (setup_of Steps bytes) (chances_of o p.plays.fates) t IsAny 0) (sym text)
                 (subst (λ (r : Result Parsed Fault). Remains rack (Play o) r (chances_of o p.plays.fates) (print p.plays.told) IsAny 0) (sym h) (
-                  performed p.last (behind_all o setup p.first p.last p.plays.fates _ p.begins.first p.plays.is refl) p.left p.begins.empty,
+                  performed p.last (λ shelf why. tt) (behind_all o setup p.first p.last p.plays.fates _ p.begins.first p.plays.is refl) p.left p.begins.began,
                   have_failed rack p.plays.fates p.before p.after p.from p.plays.risen p.to,
                 )),
           ),
@@ -289,7 +290,7 @@ write_outputs rack o bytes setup old new before after h halted rose =
               behind_next o setup p.first p.last fates q.front q.rest q.step q.told q.last (print q.told ++ shown) q.hidden p.begins.first q.cut q.reached split,
               p.left,
               have_failed rack fates p.before p.after p.from q.risen p.to,
-              p.begins.empty,
+              p.begins.began,
             ),
           ),
         )
@@ -372,8 +373,8 @@ memory_outputs rack o bytes setup s old mid new before between after h halted le
             }),
             tells old mid new (print q.told) (codes "error 10 memory\n") before after (subst (Appends old mid) (append-nil (print q.told)) q.written) (since mid new _ before between after le told),
             subst (λ (r : Result Parsed Fault). Remains rack (Play o) r (chances_of o fates) (print q.told) IsAny 0) (sym h) (
-              performed p.last
-                  (behind_next o setup p.first p.last fates q.front q.rest q.step q.told q.last (print q.told) (print q.last) p.begins.first q.cut q.reached refl) p.left p.begins.empty,
+              performed p.last (λ shelf why. tt)
+                  (behind_next o setup p.first p.last fates q.front q.rest q.step q.told q.last (print q.told) (print q.last) p.begins.first q.cut q.reached refl) p.left p.begins.began,
               have_failed rack fates p.before p.after p.from q.risen p.to,
             ),
           ),
@@ -395,7 +396,7 @@ memory_outputs rack o bytes setup s old mid new before between after h halted le
             }),
             tells old mid new (print q.told) (codes "error 10 memory\n") before after q.written (since mid new _ before between after le told),
             subst (λ (r : Result Parsed Fault). Remains rack (Play o) r (chances_of o q.fates) (print q.told) IsAny 0) (sym h) (
-              lost shelf why q.middle.state tt (is_replied rack o setup shelf why old mid p) q.stands p.begins.empty,
+              lost shelf why q.middle.state tt (is_replied rack o setup shelf why old mid p) q.stands p.begins.began,
               have_failed rack q.fates p.before q.middle.faults p.from q.risen (let later = q.later in let to = p.to in omega (arith, later, to)),
             ),
           ),
@@ -418,13 +419,13 @@ memory_outputs rack o bytes setup s old mid new before between after h halted le
             }),
             tells old mid new (print q.told) (codes "error 10 memory\n") before after q.written (since mid new _ before between after le told),
             subst (λ (r : Result Parsed Fault). Remains rack (Play o) r (chances_of o q.fates) (print q.told) IsAny 0) (sym h) (
-              performed p.last (record {
+              performed p.last (λ shelf why. tt) (record {
                 front = q.front;
                 rest = Some (edit q.name q.text) ∷ q.rest;
                 cut = q.cut;
                 printed = ([], append-nil (print q.told) ∙ sym text);
                 state = ap (λ (r : Run desk_rules). r.state) run;
-              }) p.left p.begins.empty,
+              }) p.left p.begins.began,
               have_failed rack q.fates p.before p.after p.from q.risen p.to,
             ),
           ),
@@ -448,7 +449,7 @@ lost_outputs rack o bytes setup shelf old mid new before between after h lost_so
             at_crash o setup (print q.told) refl h replied.0,
             tells old mid new (print q.told) (disk_line shelf) before after q.written (since mid new _ before between after le told),
             subst (λ (r : Result Parsed Fault). Remains rack (Play o) r (chances_of o q.fates) (print q.told) (IsFailed shelf) 1) (sym h)
-                (lost shelf reopen.Disk q.middle.state (refl, refl) replied q.stands p.begins.empty, have_failed_once rack q.fates p.before q.middle.faults p.after p.from q.risen (p.rose refl) p.to),
+                (lost shelf reopen.Disk q.middle.state (refl, refl) replied q.stands p.begins.began, have_failed_once rack q.fates p.before q.middle.faults p.after p.from q.risen (p.rose refl) p.to),
           ),
         )
 
@@ -473,7 +474,7 @@ outgrown_outputs rack o bytes setup shelf size old mid new before between after 
               lost = is_replied rack o setup shelf (reopen.Full size) old mid p;
               left = q.stands;
               counted = have_failed rack q.fates p.before q.middle.faults p.from q.risen (let later = q.later in let to = p.to in omega (arith, later, to));
-              began = p.begins.empty;
+              began = p.begins.began;
             },
             tells old mid new (print q.told) (unfit_line shelf (full size)) before after q.written (since mid new _ before between after le told),
           )),
@@ -511,9 +512,10 @@ closed_before holds count shelf cause.Disk h = h.1
 closed_before holds count shelf cause.Memory h = h.1
 
 pub is_unopened : (rack : Racks) (scripts : List Named) (count shelf : ℕ) (why : OpenCause) → IsClosedBy rack.before.holds count shelf why
-    → (why ≡ cause.Disk → ShelfFailed rack shelf) → AllStayKept scripts rack.before.holds rack.after.holds shelf why → IsUnopened rack scripts shelf why
-is_unopened rack scripts count shelf why closed failed kept =
-    record { before = closed_before rack.before.holds count shelf why closed; failed = failed; kept = kept }
+    → (why ≡ cause.Disk → ShelfFailed rack shelf) → AllStayKept scripts rack.before.holds rack.after.holds shelf why
+    → AsksForFirst (shelf + 1) rack.before rack.after → IsUnopened rack scripts shelf why
+is_unopened rack scripts count shelf why closed failed kept asked =
+    record { asked = inl asked; before = closed_before rack.before.holds count shelf why closed; failed = failed; kept = kept }
 
 -- memory ran out, or was not there to tell why a shelf was not opened
 pub unopened_early : (rack : Racks) (o : Options) (bytes : List ℕ) (setup : Parsed) (shelf : ℕ) (why : OpenCause) (s : Status) (old new : Option (List ℕ)) (before after : ℕ)
@@ -549,8 +551,12 @@ some_held holds (suc n) k image m is each here =
 
 -- nothing was lost where one disk is not empty, and those behind it were not taken
 pub all_stay : (rack : Racks) (scripts : List Named) (shelf : ℕ) (image : List ℕ) → AllStayKept scripts rack.before.holds rack.after.holds shelf cause.NotEmpty
-    → AreAllKept rack scripts (length (replicate shelf [] ++ image ∷ []))
-all_stay rack scripts shelf image stay = record {
+    → AsksForFirst (shelf + 1) rack.before rack.after → AreAllKept rack scripts (length (replicate shelf [] ++ image ∷ []))
+all_stay rack scripts shelf image stay asked = record {
+  asked =
+      let empties : List (List ℕ) = replicate shelf [] in
+      let many : shelf + 1 ≡ length (empties ++ image ∷ []) = omega (arith, length-append empties (image ∷ []), length-replicate {A = List ℕ} shelf []) in
+      subst (λ n. AsksForFirst n rack.before rack.after) many asked;
   kept = λ n. stay.kept n (λ e. let no : ⊥ = cc in absurd no);
   behind = λ n le.
       let empties : List (List ℕ) = replicate shelf [] in
@@ -560,8 +566,8 @@ all_stay rack scripts shelf image stay = record {
 pub some_outputs : (rack : Racks) (o : Options) (bytes : List ℕ) (setup : Parsed) (shelf : ℕ) (old new : Option (List ℕ)) (before after : ℕ)
     → setup_of Steps bytes ≡ Ok setup → (IsTrue rack.tells → HoldsSome rack o shelf)
     → (IsTrue rack.tells → AllStayKept setup.scripts rack.before.holds rack.after.holds shelf cause.NotEmpty)
-    → AppendsUnlessFault old new (unfit_line shelf not_empty) before after → Outputs rack (Play o) bytes status.Journal (sinks old new before after)
-some_outputs rack o bytes setup shelf old new before after h held kept told =
+    → AsksForFirst (shelf + 1) rack.before rack.after → AppendsUnlessFault old new (unfit_line shelf not_empty) before after → Outputs rack (Play o) bytes status.Journal (sinks old new before after)
+some_outputs rack o bytes setup shelf old new before after h held kept asked told =
     by_tells rack o bytes setup h (λ chances. LeavesShut rack (Play o) bytes chances (sinks old new before after))
     (λ t. let x = shut (held t) (kept t) in (x.0, inl x.1))
   where
@@ -584,7 +590,7 @@ some_outputs rack o bytes setup shelf old new before after h held kept told =
                   (refl, tells old old new [] (unfit_line shelf not_empty) before after (appends_none old) told);
               taken = subst (λ (r : Result Parsed Fault). TakesDisks rack (with_setup (Play o) r) images) (sym h) taken;
             },
-            subst (λ (r : Result Parsed Fault). RemainsShut rack (Play o) r chances) (sym h) (all_stay rack setup.scripts shelf (p.byte ∷ p.bytes) stay),
+            subst (λ (r : Result Parsed Fault). RemainsShut rack (Play o) r chances) (sym h) (all_stay rack setup.scripts shelf (p.byte ∷ p.bytes) stay asked),
           ),
         )
 

@@ -13,6 +13,7 @@ use Rattle.play_steps.specs.declared.run.PlayEnd.TheVariants.{Reopen as Lost_at,
 use Rattle.play_steps.specs.declared.stage.Reopen.{Reopen}
 use Rattle.play_steps.specs.declared.stage.Reopen.TheVariants as reopen
 use Rattle.play_desk.specs.Desk.{Desk, desk_rules, first_desk}
+use Rattle.play_desk.specs.Asking.{AsksForAll}
 use Rattle.play_desk.specs.Opening.{HoldTheBooks, IsLeft, rules_at}
 use Rattle.server_command.specs.Opening.{AreAsked}
 use Rattle.server_command.specs.Output.{desk_for}
@@ -34,10 +35,13 @@ desk_asked o scripts r a =
 
 -- a desk that was opened is the first of a run
 pub begins : (rack : Racks) (o : Options) (scripts : List Named) (r : Rules) (d : Desk) → AreAsked o r → d ≡ first_desk (rules_at r) scripts r.shelves
-    → ((k : ℕ) → k < r.shelves → rack.before.holds k []) → Begins rack o scripts d
-begins rack o scripts r d a is empty = record {
+    → ((k : ℕ) → k < r.shelves → rack.before.holds k []) → AsksForAll r.shelves rack.before rack.after → Begins rack o scripts d
+begins rack o scripts r d a is empty asked = record {
   first = is ∙ desk_asked o scripts r a;
-  empty = subst (λ n. (k : ℕ) → k < n → rack.before.holds k []) a.shelves empty;
+  began = record {
+    empty = subst (λ n. (k : ℕ) → k < n → rack.before.holds k []) a.shelves empty;
+    asked = subst (λ n. AsksForAll n rack.before rack.after) a.shelves asked;
+  };
 }
 
 -- a run came to a crash of this shelf, which was not opened again for this

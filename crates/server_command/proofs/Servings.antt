@@ -33,8 +33,9 @@ use Rattle.server_command.specs.Command.{TellsFaultLine, TellsNoSetup}
 use Rattle.server_command.specs.Opening.{FailsAt, IsRefused, LeavesFrom, OpensOn, RefusesInOrder, RefusesOn}
 use Rattle.server_command.specs.Output.{Answers, Chances, PrintsTo, Sinks, rules_for, served, sinks}
 use Rattle.server_command.specs.Telling.{TellsOutcome, TellsUnopened, told, untold}
+use Rattle.play_desk.specs.Asking.{AsksForFirst}
 use Rattle.play_desk.specs.Opening.{IsKept}
-use Rattle.server_command.specs.Racks.{AtRest, Racks, Unfit, damaged, other, full, first_unfit, unfit_left}
+use Rattle.server_command.specs.Racks.{AreBare, AtRest, Racks, Unfit, damaged, other, full, first_unfit, unfit_left}
 use Rattle.server_command.specs.Serving.{Faults, HaveRisen, KeepsAll, KeepsAllBut, LeavesInput, LeavesServing, NoneIsLost, Opens, Outside, Served, Serves, ServesBy, Shuts, ShutsBy, serves_over, told_as, watch_of}
 use Rattle.server_command.proofs.Endings.{no_chances, tells}
 use Rattle.server_command.proofs.Shelves.{faults_sum, opened_fits, stands_from, untouched_at}
@@ -124,6 +125,7 @@ undrawn o s scripts why none same door shelf = by_why why door shelf
         out = λ n. ap (λ (r : RackView). r.out n) same;
         holds = λ n image h. subst (λ (r : RackView). r.holds n image) same h;
         failed = λ n. ap (λ (r : RackView). r.failed n) same;
+        asked = ap (λ (r : RackView). r.asked) same;
       },
     )
     by_why (fault.Shelf x) door shelf = absurd (shelf x refl)
@@ -149,12 +151,15 @@ refuses_of o s scripts f none p = (none, by_why f.why p.refused p.in_order p.kep
 
     -- nothing was opened on what a disk holds
     shuts : (w : OpenCause) (why : Unfit) → (IsTrue o.rack.tells → first_unfit (unfit_left scripts) 0 p.images ≡ Some (f.shelf, why))
-        → (IsTrue o.rack.tells → length p.images ≡ s.options.shelves) → Keeps w → (w ≡ cause.Disk → ⊥) → Shuts o.rack s scripts p.images f.shelf why
+        → (IsTrue o.rack.tells → AsksForFirst s.options.shelves o.rack.before o.rack.after × (length p.images ≡ s.options.shelves) × AreBare o.rack.before o.rack.after p.images f.shelf) → Keeps w
+        → (w ≡ cause.Disk → ⊥) → Shuts o.rack s scripts p.images f.shelf why
     shuts w why h order kept not t = (
       record { held = p.held t; all = λ none. absurd (let no : None ≡ Some (f.shelf, why) = sym none ∙ h t in cc) },
       h t,
       all_kept w t kept not,
-      order t,
+      (order t).0,
+      (order t).1,
+      (order t).2,
     )
 
     by_why : (w : OpenCause) → IsRefused (IsTrue o.rack.tells) (FailsAt s.options.shelves o.rack.before o.rack.after) scripts p.images f.shelf w

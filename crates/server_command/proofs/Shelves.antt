@@ -23,21 +23,29 @@ use Rattle.command_words.specs.declared.Options.{Options}
 use Rattle.play_desk.specs.declared.opening.OpenCause.TheVariants as cause
 use Rattle.server_command.specs.Opening.{AreAsked, IsRefused, RefusesInOrder, seen_on}
 use Rattle.server_command.specs.Output.{rules_for}
+use Rattle.play_desk.specs.Asking.{AsksForFirst}
 use Rattle.play_desk.specs.Opening.{IsKept, cause_of, reopen_of}
-use Rattle.server_command.specs.Racks.{Unfit, found_unfit, first_unfit, unfit_left, unfit_making, damaged, other, full}
+use Rattle.server_command.specs.Racks.{AreBare, IsBare, Unfit, found_unfit, first_unfit, unfit_left, unfit_making, damaged, other, full}
 use Rattle.server_command.specs.Serving.{AreOpened, AreOwn, IsOpened, StandsBehind}
 use Rattle.server_command.proofs.Racks.{long_made, made_fits}
 
 -- ---- opened
 
 -- a disk on which nothing was lost, and what may be left of it
-nothing_lost : (scripts : List Named) (k : ℕ) (old new : View) (held : List ℕ → Type 0) → AreAmong old.images held → site.LosesNothing scripts k old new
+nothing_lost : (scripts : List Named) (k : ℕ) (old new : View) (held : List ℕ → Type 0) → held old.seen → AreAmong old.images held
+    → site.LosesNothing scripts k old new
     → (left : List ℕ) → new.images left → IsKept scripts k held old.seen left
-nothing_lost scripts k old new held among (inl (inl u)) left is = inl (among left (u.1.1 left is))
-nothing_lost scripts k old new held among (inl (inr (intact, h))) left is =
-    inr (intact, inl (h.1 left is ∙ (h.0 ∙ ap at_rest (append-nil (stored old.seen)))))
-nothing_lost scripts k old new held among (inr (inl u)) left is = inl (among left (u.1.1 left is))
-nothing_lost scripts k old new held among (inr (inr (intact, h))) left is = inr (intact, inr (h.1 left is ∙ h.0))
+nothing_lost scripts k old new held reads among (inl (inl u)) left is = inl (among left (u.1.1 left is))
+nothing_lost scripts k old new held reads among (inl (inr (intact, h))) left is =
+    inr (reads, intact, inl (h.1 left is ∙ (h.0 ∙ ap at_rest (append-nil (stored old.seen)))))
+nothing_lost scripts k old new held reads among (inr (inl u)) left is = inl (among left (u.1.1 left is))
+nothing_lost scripts k old new held reads among (inr (inr (intact, h))) left is = inr (reads, intact, inr (h.1 left is ∙ h.0))
+
+-- a disk to whose records nothing was added, and what may be left of it
+nothing_added : (old new : View) (held : List ℕ → Type 0) → held old.seen → AreAmong old.images held → site.KeepsRecords [] old new → (left : List ℕ) → new.images left
+    → IsBare held old.seen left
+nothing_added old new held reads among (inl u) left is = inl (among left (u.1.1 left is))
+nothing_added old new held reads among (inr (intact, h)) left is = inr (reads, intact, h.1 left is ∙ (h.0 ∙ ap at_rest (append-nil (stored old.seen))))
 
 -- the limits that were asked for, with the number of a shelf
 asked_rules : (o : Options) (r : Rules) (k : ℕ) → AreAsked o r → rules_of (site.rules_for r k) ≡ rules_for o k
@@ -55,6 +63,7 @@ module _ {D N : Type 0} (view : D → View) (tells : Bool) (told : Type 0) (nonc
     opened = b.shelf.opened.again;
     stream = λ j. ap (λ (x : N). nonce x j) b.shelf.nonces_are ∙ ap (nonce n) (let same : j ≡ 0 + j = omega arith in same);
     own = λ t image. b.shelf.own (knows t) image;
+    own_if_empty = λ no none. b.shelf.own_if_empty no none;
   }
 
   -- the shelves of a site that was begun, from this number on
@@ -77,26 +86,26 @@ module _ {D N : Type 0} (view : D → View) (tells : Bool) (told : Type 0) (nonc
 
   -- nothing was lost on the disks of a site that was begun
   pub kept_from : (k : ℕ) (disks : List D) (nonces : List N) (homes : List (Home (Opening D N))) (holds : ℕ → List ℕ → Type 0) → length nonces ≡ length disks
-      → length homes ≡ length disks → IsTrue tells
+      → length homes ≡ length disks → IsTrue tells → ((d : D) → (view d).images (view d).seen)
       → ((i j : ℕ) (d : D) (n : N) (h : Home (Opening D N)) → j ≡ k + i → slice_get disks i ≡ Some d → slice_get nonces i ≡ Some n → slice_get homes i ≡ Some h
       → IsBegunAt view tells scripts rules j d n h × AreAmong (view d).images (holds j))
       → (i j : ℕ) (x : Opening D N) (read left : List ℕ) → j ≡ k + i → slice_get (openings_of homes) i ≡ Some x → slice_get (seen_on view disks) i ≡ Some read
       → (view x.shelf.value.journal.disk).images left → IsKept scripts j (holds j) read left
-  kept_from k [] nonces homes holds ns hs t each i j x read left is x_is read_is left_is = absurd (let no : ⊥ = cc read_is in no)
-  kept_from k (d ∷ disks) [] homes holds ns hs t each i j x read left is x_is read_is left_is = absurd (omega (arith, ns))
-  kept_from k (d ∷ disks) (n ∷ nonces) [] holds ns hs t each i j x read left is x_is read_is left_is = absurd (omega (arith, hs))
-  kept_from k (d ∷ disks) (n ∷ nonces) (h ∷ homes) holds ns hs t each zero j x read left is x_is read_is left_is =
+  kept_from k [] nonces homes holds ns hs t reads each i j x read left is x_is read_is left_is = absurd (let no : ⊥ = cc read_is in no)
+  kept_from k (d ∷ disks) [] homes holds ns hs t reads each i j x read left is x_is read_is left_is = absurd (omega (arith, ns))
+  kept_from k (d ∷ disks) (n ∷ nonces) [] holds ns hs t reads each i j x read left is x_is read_is left_is = absurd (omega (arith, hs))
+  kept_from k (d ∷ disks) (n ∷ nonces) (h ∷ homes) holds ns hs t reads each zero j x read left is x_is read_is left_is =
       let at = each 0 j d n h is refl refl refl in
       let b = at.0 in
       let first : Some b.opening ≡ Some x = ap (λ os. slice_get (os ++ openings_of homes) 0) (sym b.opening_is) ∙ x_is in
       let same : b.opening ≡ x = same_Some b.opening x first in
       let bytes : (view d).seen ≡ read = same_Some (view d).seen read read_is in
       subst (λ r. IsKept scripts j (holds j) r left) bytes
-      (nothing_lost scripts j (view d) (view b.opening.shelf.value.journal.disk) (holds j) at.1 (inr (b.shelf.keeps t)) left
+      (nothing_lost scripts j (view d) (view b.opening.shelf.value.journal.disk) (holds j) (at.1 (view d).seen (reads d)) at.1 (inr (b.shelf.keeps t)) left
       (subst (λ y. (view y.shelf.value.journal.disk).images left) (sym same) left_is))
-  kept_from k (d ∷ disks) (n ∷ nonces) (h ∷ homes) holds ns hs t each (suc i) j x read left is x_is read_is left_is =
+  kept_from k (d ∷ disks) (n ∷ nonces) (h ∷ homes) holds ns hs t reads each (suc i) j x read left is x_is read_is left_is =
       let b = (each 0 k d n h (omega arith) refl refl refl).0 in
-      kept_from (k + 1) disks nonces homes holds (omega (arith, ns)) (omega (arith, hs)) t
+      kept_from (k + 1) disks nonces homes holds (omega (arith, ns)) (omega (arith, hs)) t reads
       (λ a c y z w at y_is z_is w_is. each (suc a) c y z w (omega (arith, at)) y_is z_is w_is) i j x read left (omega (arith, is))
       (ap (λ os. slice_get (os ++ openings_of homes) (suc i)) (sym b.opening_is) ∙ x_is) read_is left_is
 
@@ -177,40 +186,63 @@ fit_front view scripts k (suc i) (x ∷ disks) fit =
     ap (λ f. found_unfit k f (first_unfit (unfit_left scripts) (k + 1) (take i (seen_on view disks))))
     (opens_fit view scripts k x first) ∙ rest
 
+-- nothing was added to the records on the disks of a site that was not begun, from the shelf on that was not opened, or behind it
+bare_at : {D N : Type 0} (view : D → View) (tells : Bool) (scripts : List Named) (disks : List D) (nonces : List N) (f : SiteFault D N)
+    (before after : RackView) → IsTrue tells → ((d : D) → (view d).images (view d).seen) → IsNotBegun view tells scripts disks nonces f
+    → ((k : ℕ) (d : D) → slice_get disks k ≡ Some d → AreAmong (view d).images (before.holds k))
+    → ((k : ℕ) (e : D) → slice_get f.disks.items k ≡ Some e → AreAmong (after.holds k) (view e).images)
+    → f.fault ≢ fault.Memory → (first : ℕ) → f.shelf ≤ first → (first ≡ f.shelf → f.fault ≢ fault.DiskFault) → AreBare before after (seen_on view disks) first
+bare_at view tells scripts disks nonces f before after t reads not held given why first low sound k read left from read_is left_is =
+    let d = map_get (λ x. (view x).seen) disks k read read_is in
+    let within = slice_get_within disks k d.0 d.1 in
+    let e = get_there f.disks.items k (let size = not.disks_back.returned.many in omega (arith, within, size)) in
+    let keeps = not.disks_back.bare t why k d.0 e.0 (omega (arith, low, from)) d.1 e.1 (λ here. sound (omega (arith, low, from, here))) in
+    subst (λ r. IsBare (before.holds k) r left) d.2
+    (nothing_added (view d.0) (view e.0) (before.holds k) (held k d.0 d.1 (view d.0).seen (reads d.0)) (held k d.0 d.1) keeps left (given k e.0 e.1 left left_is))
+
 -- a site was not begun, of which all disks had been taken
 pub refused_in_order : {D N : Type 0} (view : D → View) (tells : Bool) (scripts : List Named) (disks : List D) (nonces : List N) (f : SiteFault D N)
-    (before after : RackView) (count : ℕ) → IsTrue tells → IsNotBegun view tells scripts disks nonces f → length (seen_on view disks) ≡ count
-    → RefusesInOrder scripts before after count (seen_on view disks) f.shelf (cause_of (reopen_of f.fault))
-refused_in_order view tells scripts disks nonces f before after count t not many = by_fault f.fault
+    (before after : RackView) (count : ℕ) → IsTrue tells → ((d : D) → (view d).images (view d).seen) → IsNotBegun view tells scripts disks nonces f → length (seen_on view disks) ≡ count
+    → ((k : ℕ) (d : D) → slice_get disks k ≡ Some d → AreAmong (view d).images (before.holds k))
+    → ((k : ℕ) (e : D) → slice_get f.disks.items k ≡ Some e → AreAmong (after.holds k) (view e).images)
+    → AsksForFirst count before after → RefusesInOrder scripts before after count (seen_on view disks) f.shelf (cause_of (reopen_of f.fault))
+refused_in_order view tells scripts disks nonces f before after count t reads not many held given asked = by_fault f.fault refl
   where
-    by_fault : (e : BeginFault) → RefusesInOrder scripts before after count (seen_on view disks) f.shelf (cause_of (reopen_of e))
-    by_fault (fault.Damaged place) = many
-    by_fault (fault.Other place) = many
-    by_fault (fault.Full size) = many
-    by_fault fault.DiskFault =
+    bare : (e : BeginFault) → f.fault ≡ e → (e ≡ fault.Memory → ⊥) → (e ≡ fault.DiskFault → ⊥) → AreBare before after (seen_on view disks) f.shelf
+    bare e is memory disk =
+        bare_at view tells scripts disks nonces f before after t reads not held given (λ m. memory (sym is ∙ m)) f.shelf (omega arith) (λ here d. disk (sym is ∙ d))
+
+    by_fault : (e : BeginFault) → f.fault ≡ e → RefusesInOrder scripts before after count (seen_on view disks) f.shelf (cause_of (reopen_of e))
+    by_fault (fault.Damaged place) is = (asked, many, bare (fault.Damaged place) is (λ m. let no : ⊥ = cc m in no) (λ d. let no : ⊥ = cc d in no))
+    by_fault (fault.Other place) is = (asked, many, bare (fault.Other place) is (λ m. let no : ⊥ = cc m in no) (λ d. let no : ⊥ = cc d in no))
+    by_fault (fault.Full size) is = (asked, many, bare (fault.Full size) is (λ m. let no : ⊥ = cc m in no) (λ d. let no : ⊥ = cc d in no))
+    by_fault fault.DiskFault is =
         inr (
+          asked,
           many,
           fit_front view scripts 0 f.shelf disks
               (λ j m x low at x_is. let same : j ≡ m = omega (arith, at) in subst (λ n. Opens view scripts n x) same (not.disks_back.earlier t j x low x_is)),
+          bare_at view tells scripts disks nonces f before after t reads not held given
+              (λ m. let e : fault.DiskFault ≡ fault.Memory = sym is ∙ m in let no : ⊥ = cc e in no) (f.shelf + 1) (omega arith) (λ here. absurd (omega (arith, here))),
         )
-    by_fault fault.Memory = tt
+    by_fault fault.Memory is = tt
 
 -- ---- handed back
 
 -- nothing was lost on the disks of a site that was not begun, but on the one of which a call failed
 pub kept_at : {D N : Type 0} (view : D → View) (tells : Bool) (scripts : List Named) (told : Type 0) (disks : List D) (nonces : List N)
-    (f : SiteFault D N) (before after : ℕ → List ℕ → Type 0) → (told → IsTrue tells) → IsNotBegun view tells scripts disks nonces f
+    (f : SiteFault D N) (before after : ℕ → List ℕ → Type 0) → (told → IsTrue tells) → (told → (d : D) → (view d).images (view d).seen) → IsNotBegun view tells scripts disks nonces f
     → (told → (k : ℕ) (d : D) → slice_get disks k ≡ Some d → AreAmong (view d).images (before k))
     → (told → (k : ℕ) (e : D) → slice_get f.disks.items k ≡ Some e → AreAmong (after k) (view e).images)
     → told → (k : ℕ) (read left : List ℕ) → slice_get (seen_on view disks) k ≡ Some read → after k left → (cause_of (reopen_of f.fault) ≡ cause.Disk → k ≢ f.shelf)
     → IsKept scripts k (before k) read left
-kept_at view tells scripts told disks nonces f before after knows not held given t k read left read_is left_is but =
+kept_at view tells scripts told disks nonces f before after knows reads not held given t k read left read_is left_is but =
     let d = map_get (λ x. (view x).seen) disks k read read_is in
     let low = slice_get_within disks k d.0 d.1 in
     let e = get_there f.disks.items k (let size = not.disks_back.returned.many in omega (arith, low, size)) in
     let keeps = not.disks_back.keep (knows t) k d.0 e.0 d.1 e.1 (λ here why. but (ap (λ (e : BeginFault). cause_of (reopen_of e)) why) here) in
     subst (λ r. IsKept scripts k (before k) r left) d.2
-    (nothing_lost scripts k (view d.0) (view e.0) (before k) (held t k d.0 d.1) keeps left (given t k e.0 e.1 left left_is))
+    (nothing_lost scripts k (view d.0) (view e.0) (before k) (held t k d.0 d.1 (view d.0).seen (reads t d.0)) (held t k d.0 d.1) keeps left (given t k e.0 e.1 left left_is))
 
 -- ---- given back
 

@@ -34,7 +34,7 @@ use Rattle.server_command.specs.declared.program.Status.{Status}
 use Rattle.server_command.specs.declared.program.Status.TheVariants as status
 use Rattle.server_command.specs.declared.jobs.Job.{Job}
 use Rattle.server_command.specs.declared.jobs.Job.TheVariants as job
-use Rattle.server_command.specs.Racks.{Racks, AreTaken, AtRest, ShelfFailed, Unfit, first_unfit, unfit_new, unfit_left}
+use Rattle.server_command.specs.Racks.{Racks, AreTaken, AtRest, HaveBegun, ShelfFailed, Unfit, first_unfit, unfit_new, unfit_left}
 use Rattle.server_command.specs.Serving.{Serves, Faults, HaveRisen, RackFailed, LeavesInput, faults_of, outside, serves_over}
 use Rattle.server_command.specs.Order.{Asks, AsksInOrder, Both, asks_of}
 use Rattle.site_serving.specs.Serving.{Pasts, Views}
@@ -205,11 +205,12 @@ Settles rack _ = ⊤
 abbrev pub Known : Racks → Command → (bytes : List ℕ) → Type 0 → Type 0
 Known rack asked bytes P = Settles rack (with_setup asked (setup_of (ending_of asked) bytes)) → P
 
--- the disks that were given back stand for the books that the steps of a setup left, and each fault of one was counted; a check took none
+-- all shelves were begun, and the disks that were given back stand for the books that the steps of a setup left, and each fault of one was
+-- counted; a check asked for no disk
 abbrev pub StandFor : Racks → Command → Result Parsed Fault → Chances → Type 0
 StandFor rack (Play o) (Ok setup) chances =
     HoldTheBooks (run_of o setup.scripts (steps_for o setup) chances.fates).state rack.after.holds
-    × HaveFailed rack chances.fates 0
+    × HaveFailed rack chances.fates 0 × HaveBegun rack o.shelves
 StandFor rack Check setup chances = AtRest rack
 StandFor rack asked setup chances = ⊤
 
@@ -260,7 +261,7 @@ Comes asked chances status.Write met = HasDone asked chances status.Write met ×
 Comes asked chances status.Disk met = HasDone asked chances status.Disk met × RackFailed met.rack
 Comes asked chances status.Journal met = HasDone asked chances status.Journal met
 Comes asked chances status.Memory met =
-    IfSome met.input (λ bytes. Leaves met.rack asked bytes status.Memory chances met.output) × ConsumesSome met.input met.unread
+    ConsumesSome met.input met.unread × ((Prints met memory_line × AtRest met.rack) ⊎ HasDone asked chances status.Memory met)
 Comes asked chances status.Read met = IsUnread fault.Failed met
 Comes asked chances status.Long met = IsUnread fault.Long met
 Comes asked chances _ met = ⊥
@@ -280,7 +281,7 @@ ComesServing serves s chances status.Journal met = HasServed serves s chances st
 ComesServing serves s chances status.Door met = HasServed serves s chances status.Door met × HaveRisen met.door
 ComesServing serves s chances status.Key met = HasServed serves s chances status.Key met × HaveRisen met.seeds
 ComesServing serves s chances status.Memory met =
-    IsUnread fault.Memory met × (serves.unopened ⊎ HasServed serves s chances status.Memory met)
+    IsUnread fault.Memory met × ((serves.unopened × AtRest met.rack) ⊎ HasServed serves s chances status.Memory met)
 ComesServing serves s chances status.Read met = IsUnread fault.Failed met × serves.unopened
 ComesServing serves s chances status.Long met = IsUnread fault.Long met × serves.unopened
 ComesServing serves s chances _ met = ⊥

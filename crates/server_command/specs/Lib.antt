@@ -7,3 +7,4 @@ pub mod Order
 pub mod Command
 pub mod Telling
 pub mod Loading
+pub mod Vectors

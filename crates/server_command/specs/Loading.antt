@@ -19,7 +19,7 @@ use Rattle.measured_run.specs.Setups.{load_scripts}
 use Rattle.command_words.specs.declared.LoadOptions.{LoadOptions}
 use Rattle.server_command.specs.declared.program.Status.{Status}
 use Rattle.server_command.specs.declared.program.Status.TheVariants as status
-use Rattle.server_command.specs.Racks.{Racks, AreTaken, MayBeEmpty, ShelfFailed, disk_line, unfit_new}
+use Rattle.server_command.specs.Racks.{Racks, AreTaken, HaveBegun, ShelfFailed, disk_line, unfit_new}
 use Rattle.server_command.specs.Remains.{AreAllKept, AreLeft, HaveFailed, IsAny, IsFailed}
 use Rattle.server_command.specs.Output.{memory_line, Answers, BreaksOff, Chances, Output, PrintsTo, Sinks, desk_for, loaded, run_loaded}
 
@@ -39,13 +39,13 @@ pub record GivesLoad (rack : Racks) (l : LoadOptions) (chances : Chances) (statu
   pub answered : Answers (loaded l chances) status out
   pub taken : AreTaken unfit_new rack.before.holds l.options.shelves chances.disks
 
--- All steps of a measured run fit, the disks that were given back stand for the books that they left, and each fault of one was counted. At
--- first the disks may have held nothing.
+-- All steps of a measured run fit, the disks that were given back stand for the books that they left, and each fault of one was counted. All
+-- shelves had been begun.
 pub record HasLoaded (rack : Racks) (l : LoadOptions) (chances : Chances) : Type 0 where
   pub whole : (run_loaded l chances.fates).end ≡ done
   pub books : HoldTheBooks (run_loaded l chances.fates).state rack.after.holds
   pub counted : HaveFailed rack chances.fates 0
-  pub began : MayBeEmpty rack.before.holds l.options.shelves
+  pub began : HaveBegun rack l.options.shelves
 
 -- this shelf crashed at the step after some steps of a measured run, which left this desk, and was not opened again for this cause
 pub record IsLostBehind (rack : Racks) (l : LoadOptions) (chances : Chances) (shelf : ℕ) (why : Reopen) (last : Desk) : Type 0 where

@@ -1,5 +1,5 @@
 -- What opening the shelves of a server comes to.
-use Rattle.std.specs.Prelude.{⊤, ◌≡◌, ◌≢◌, ◌≤◌, ◌<◌, ◌+◌, ℕ, Bool, true, false, List, map, length, sum_by, Some, slice_get}
+use Rattle.std.specs.Prelude.{⊤, ◌≡◌, ◌≢◌, ◌⊎◌, ◌≤◌, ◌<◌, ◌+◌, ℕ, Bool, true, false, List, map, length, sum_by, Some, slice_get}
 use Rattle.web_disk.specs.View.{View, RackView, AreAmong}
 use Rattle.script_nodes.specs.Setup.{Named}
 use Rattle.replay_spec.specs.Rules.{Rules}
@@ -9,11 +9,12 @@ use Rattle.command_words.specs.declared.Options.{Options}
 use Rattle.server_command.specs.Output.{rules_for}
 use Rattle.play_steps.specs.Rules.{StaysUp}
 use Rattle.play_steps.specs.Played.{RoseBy}
+use Rattle.play_desk.specs.Asking.{AsksForFirst, AsksForNone, AsksUntil}
 use Rattle.play_desk.specs.Opening.{FailedFor, IsKept, cause_of, reopen_of}
 use Rattle.play_desk.specs.declared.opening.OpenCause.{OpenCause}
 use Rattle.play_desk.specs.declared.opening.OpenCause.TheVariants as cause
 use Rattle.play_desk.specs.declared.opening.OpenFault.{OpenFault}
-use Rattle.server_command.specs.Racks.{AreHeld, FailsInOrder, KeepsHome, damaged, other, full, first_unfit, unfit_left}
+use Rattle.server_command.specs.Racks.{AreBare, AreHeld, FailsInOrder, KeepsHome, damaged, other, full, first_unfit, unfit_left}
 use Rattle.server_command.specs.Serving.{AreOpened}
 
 -- what reads of disks give
@@ -44,18 +45,19 @@ pub record AreAsked (o : Options) (r : Limits) : Type 0 where
 abbrev pub AreRulesFor : Options → (number : ℕ) → Limits → Type 0
 AreRulesFor o number r = rules_of r ≡ rules_for o number
 
--- the disks of so many numbers came home, and no disk went out; and no count of faults fell
+-- the disks of so many numbers came home, and no disk went out or was asked for; and no count of faults fell
 pub record TakesBack (before after : RackView) (first count : ℕ) : Type 0 where
   pub home : KeepsHome before after
   pub back : AreHome after first count
   pub later : before.faults ≤ after.faults
   pub failed_later : StaysUp before.failed after.failed
+  pub asked : AsksForNone before after
 
 -- the disks of the numbers from this one on may hold nothing that they might not hold
 abbrev pub LeavesFrom : (first : ℕ) → (before after : RackView) → Type 0
 LeavesFrom first before after = (n : ℕ) → first ≤ n → AreAmong (after.holds n) (before.holds n)
 
--- The disks of so many numbers were taken, from 0 on, and hold these, where the rack and its disks tell that.
+-- The disks of so many numbers were asked for and taken, from 0 on and in order, and hold these, where the rack and its disks tell that.
 pub record HasTaken (told : Type 0) (before after : RackView) (count : ℕ) (images : List (List ℕ)) : Type 0 where
   pub many : length images ≡ count
   pub held : told → AreHeld before.holds 0 images
@@ -64,6 +66,7 @@ pub record HasTaken (told : Type 0) (before after : RackView) (count : ℕ) (ima
   pub rest : LeavesFrom count before after
   pub later : before.faults ≤ after.faults
   pub failed_later : StaysUp before.failed after.failed
+  pub asked : AsksForFirst count before after
 
 -- each of these disks holds what the disk of its number might hold in the rack
 abbrev pub AreFrom : {D : Type 0} → (D → View) → RackView → List D → Type 0
@@ -99,11 +102,24 @@ IsRefused told risen scripts images shelf (cause.Full length) =
     told → first_unfit (unfit_left scripts) 0 images ≡ Some (shelf, full length)
 IsRefused told risen scripts images shelf cause.Memory = ⊤
 
--- in which order disks were asked for until this shelf was not opened: all were taken before one was opened
+-- In which order disks were asked for until this shelf was not opened: all were taken, in order, before one was opened. Unless memory ended, nothing
+-- was added to the records on the disks behind it, nor on its own, but where a call of that failed.
 abbrev pub RefusesInOrder : List Named → (before after : RackView) → (count : ℕ) → (images : List (List ℕ)) → (shelf : ℕ) → OpenCause → Type 0
 RefusesInOrder scripts before after count images shelf cause.Disk = FailsInOrder scripts before after count images shelf
 RefusesInOrder scripts before after count images shelf cause.Memory = ⊤
-RefusesInOrder scripts before after count images shelf why = length images ≡ count
+RefusesInOrder scripts before after count images shelf why =
+    AsksForFirst count before after × (length images ≡ count) × AreBare before after images shelf
+
+-- the disks of the shelves up to this one were asked for, which was not taken; or none was, for want of memory
+abbrev pub AsksAsTaken : (before after : RackView) → (count shelf : ℕ) → OpenCause → Type 0
+AsksAsTaken before after count shelf why = AsksUntil count shelf before after ⊎ ((why ≡ cause.Memory) × AsksForNone before after)
+
+-- the disks that were asked for until a shelf was not opened for this: all, each once and in order; or up to its own, where that was not
+-- taken
+abbrev pub AsksByCause : (before after : RackView) → (count shelf : ℕ) → OpenCause → Type 0
+AsksByCause before after count shelf cause.Disk = AsksForFirst count before after ⊎ AsksUntil count shelf before after
+AsksByCause before after count shelf cause.Memory = ⊤
+AsksByCause before after count shelf why = AsksForFirst count before after
 
 -- each of these disks was given back to the place of its number: the rack holds what a crash may leave on it, where both tell
 -- that; and a fault of one is a fault of the rack, counted for its number
@@ -134,3 +150,4 @@ pub record RefusesOn (told : Type 0) (scripts : List Named) (count : ℕ) (befor
       → IsKept scripts k (before.holds k) read left
   pub unread : told → LeavesFrom (length images) before after
   pub home : KeepsHome before after
+  pub asked : AsksByCause before after count f.shelf f.why

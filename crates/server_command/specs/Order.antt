@@ -1,15 +1,17 @@
 -- In which order a command asks the outside. Behind its words and its input come the seeds, then the disks, then the door: what comes
 -- later is asked only where nothing before it ended the command. Want of memory may end it anywhere.
-use Rattle.std.specs.Prelude.{⊤, ◌≡◌, ℕ, List, length, Option, Some, Result, Err}
+use Rattle.std.specs.Prelude.{⊤, ◌≡◌, ◌⊎◌, ℕ, List, length, Option, Some, None, Result, Err}
 use Rattle.web_outside.specs.View.{DoorView, SeedsView}
 use Rattle.command_words.specs.declared.Command.{Command}
-use Rattle.command_words.specs.declared.Command.TheVariants.{Serve}
+use Rattle.command_words.specs.declared.Command.TheVariants.{Check, Serve}
 use Rattle.request_workers.specs.declared.tally.Tally.{Tally}
 use Rattle.site_serving.specs.Serving.{Pasts}
 use Rattle.server_command.specs.declared.program.Status.{Status}
 use Rattle.server_command.specs.declared.program.Status.TheVariants as status
 use Rattle.server_command.specs.declared.serving.ServeFault.{ServeFault}
 use Rattle.server_command.specs.declared.serving.ServeFault.TheVariants as fault
+use Rattle.play_desk.specs.Asking.{AsksForFirst, AsksUntil}
+use Rattle.server_command.specs.Opening.{AsksByCause}
 use Rattle.server_command.specs.Racks.{Racks, AtRest}
 use Rattle.server_command.specs.Serving.{AreDrawn}
 
@@ -47,19 +49,27 @@ pub record AreIdle (asks : Asks) (rack : Racks) : Type 0 where
   pub disks : AtRest rack
   pub door : asks.shut
 
+-- the disks of so many shelves were asked for, each once and in order, and no other
+abbrev pub AsksForDisks : Racks → (shelves : ℕ) → Type 0
+AsksForDisks rack shelves = AsksForFirst shelves rack.before rack.after
+
+-- of so many shelves, the disks of the first were asked for, up to one that was not taken
+abbrev pub AsksForSome : Racks → (shelves : ℕ) → Type 0
+AsksForSome rack shelves = (shelf : ℕ) × AsksUntil shelves shelf rack.before rack.after
+
 -- What was asked where a setup of so many shelves was to be served. Before the setup was read nothing was; where the seeds failed no disk
--- was taken; where a shelf was not opened the seeds had given a source for each, and the door was not asked.
+-- was asked for; where a shelf was not opened the seeds had given a source for each, and the door was not asked.
 abbrev pub ServesInOrder : Asks → Racks → (shelves : ℕ) → Status → Type 0
 ServesInOrder asks rack shelves status.Key = AtRest rack × asks.shut
-ServesInOrder asks rack shelves status.Disk = asks.drawn shelves × asks.shut
-ServesInOrder asks rack shelves status.Journal = asks.drawn shelves × asks.shut
-ServesInOrder asks rack shelves status.Door = asks.drawn shelves
-ServesInOrder asks rack shelves status.Done = asks.drawn shelves
-ServesInOrder asks rack shelves status.Write = asks.drawn shelves
+ServesInOrder asks rack shelves status.Disk = asks.drawn shelves × asks.shut × (AsksForDisks rack shelves ⊎ AsksForSome rack shelves)
+ServesInOrder asks rack shelves status.Journal = asks.drawn shelves × asks.shut × AsksForDisks rack shelves
+ServesInOrder asks rack shelves status.Door = asks.drawn shelves × AsksForDisks rack shelves
+ServesInOrder asks rack shelves status.Done = asks.drawn shelves × AsksForDisks rack shelves
+ServesInOrder asks rack shelves status.Write = asks.drawn shelves × AsksForDisks rack shelves
 ServesInOrder asks rack shelves status.Memory = ⊤
 ServesInOrder asks rack shelves _ = AreIdle asks rack
 
--- no disk was taken where the words, the input or the setup ended the command
+-- no disk was asked for where the words, the input or the setup ended the command
 abbrev pub RestsIfEarly : Racks → Status → Type 0
 RestsIfEarly rack status.Usage = AtRest rack
 RestsIfEarly rack status.Read = AtRest rack
@@ -67,14 +77,21 @@ RestsIfEarly rack status.Long = AtRest rack
 RestsIfEarly rack status.Setup = AtRest rack
 RestsIfEarly rack _ = ⊤
 
--- What was asked before a command ended so: the seeds and the door by a serving alone.
+-- a check takes no disk, however it ends; nor does a command that the words, the input or the setup ended
+abbrev pub RestsFor : Racks → Command → Status → Type 0
+RestsFor rack Check how = AtRest rack
+RestsFor rack asked how = RestsIfEarly rack how
+
+-- What was asked before a command ended so: the seeds and the door by a serving alone, and no disk by a check.
 abbrev pub AsksInOrder : Asks → Racks → Option Command → Status → Type 0
 AsksInOrder asks rack (Some (Serve s)) how = ServesInOrder asks rack s.options.shelves how
-AsksInOrder asks rack asked how = asks.undrawn × asks.shut × RestsIfEarly rack how
+AsksInOrder asks rack (Some asked) how = asks.undrawn × asks.shut × RestsFor rack asked how
+AsksInOrder asks rack None how = asks.undrawn × asks.shut × RestsIfEarly rack how
 
 -- what was asked before a serving came to its counts, or to none
 abbrev pub ComesInOrder : Asks → Racks → (shelves : ℕ) → Result Tally ServeFault → Type 0
 ComesInOrder asks rack shelves (Err fault.Key) = AtRest rack × asks.shut
 ComesInOrder asks rack shelves (Err fault.Memory) = ⊤
-ComesInOrder asks rack shelves (Err (fault.Shelf f)) = asks.drawn shelves × asks.shut
-ComesInOrder asks rack shelves outcome = asks.drawn shelves
+ComesInOrder asks rack shelves (Err (fault.Shelf f)) =
+    asks.drawn shelves × asks.shut × AsksByCause rack.before rack.after shelves f.shelf f.why
+ComesInOrder asks rack shelves outcome = asks.drawn shelves × AsksForDisks rack shelves

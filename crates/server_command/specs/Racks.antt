@@ -4,12 +4,14 @@ use Rattle.std.specs.Fmt.{decimal}
 use Rattle.web_disk.specs.View.{RackView, AreAmong}
 use Rattle.script_nodes.specs.Setup.{Named}
 use Rattle.setup_reader.specs.Texts.{setup_of_texts}
+use Rattle.page_journal.specs.Records.{Intact, records, at_rest, stored}
 use Rattle.replay_spec.specs.Book.{Book}
 use Rattle.journal_spec.specs.Before.{Made}
 use Rattle.journal_spec.specs.Making as making
 use Rattle.journal_spec.specs.Making.{Making, book_in_bytes}
 use Rattle.journal_spec.specs.Opening.{opened_on}
 use Rattle.journal_spec.specs.Standing.{Between, HoldIn, if_kept}
+use Rattle.play_desk.specs.Asking.{AsksForAll, AsksForFirst, AsksForNone, AsksUntil}
 use Rattle.play_desk.specs.Opening.{AreHome, FailedFor, IsKept}
 
 -- a rack and its disks: whether they tell their bytes, and what contracts see of the rack before and after
@@ -31,6 +33,7 @@ pub record AtRest (rack : Racks) : Type 0 where
   pub out : (number : ℕ) → rack.after.out number ≡ rack.before.out number
   pub holds : (number : ℕ) → AreAmong (rack.after.holds number) (rack.before.holds number)
   pub failed : (number : ℕ) → rack.after.failed number ≡ rack.before.failed number
+  pub asked : AsksForNone rack.before rack.after
 
 -- each disk is home, and the rack's count of faults did not fall
 pub record AreBack (old new : RackView) : Type 0 where
@@ -89,9 +92,10 @@ abbrev pub first_unfit : (ℕ → List ℕ → Option Unfit) → ℕ → List (L
 first_unfit unfit k [] = None
 first_unfit unfit k (image ∷ images) = found_unfit k (unfit k image) (first_unfit unfit (k + 1) images)
 
--- the disks of so many shelves may hold nothing
-abbrev pub MayBeEmpty : (holds : ℕ → List ℕ → Type 0) → (count : ℕ) → Type 0
-MayBeEmpty holds count = (k : ℕ) → k < count → holds k []
+-- the disks of so many shelves were asked for, in order, before any was asked for again, and each may have held nothing
+pub record HaveBegun (rack : Racks) (count : ℕ) : Type 0 where
+  pub empty : (k : ℕ) → k < count → rack.before.holds k []
+  pub asked : AsksForAll count rack.before rack.after
 
 -- these are what the disks of so many shelves hold when they are taken: of all, unless one of the shelves is not opened
 pub record AreTaken (unfit : ℕ → List ℕ → Option Unfit) (holds : ℕ → List ℕ → Type 0) (count : ℕ) (images : List (List ℕ)) : Type 0 where
@@ -107,12 +111,23 @@ abbrev pub AreKept : List Named → (before after : RackView) → (images : List
 AreKept scripts before after images =
     (k : ℕ) (read left : List ℕ) → slice_get images k ≡ Some read → after.holds k left → IsKept scripts k (before.holds k) read left
 
--- The disk of this shelf failed when it was taken, and nothing was written on any disk; or all disks had been taken, and the shelves
--- before this one were opened.
+-- What may be left of a disk to whose records nothing was added, and of which this was read: what it might hold before; or, where it might
+-- hold what was read, the records that were read, at rest.
+abbrev pub IsBare : (held : List ℕ → Type 0) → (read left : List ℕ) → Type 0
+IsBare held read left = held left ⊎ (held read × ((records read ≡ Intact (stored read)) ⊎ (read ≡ [])) × (left ≡ at_rest (stored read)))
+
+-- nothing was added to the records on the disks of which these were read, from this number on
+abbrev pub AreBare : (before after : RackView) → (images : List (List ℕ)) → (first : ℕ) → Type 0
+AreBare before after images first =
+    (k : ℕ) (read left : List ℕ) → first ≤ k → slice_get images k ≡ Some read → after.holds k left → IsBare (before.holds k) read left
+
+-- The disk of this shelf failed when it was taken, no other behind it was asked for, and nothing was written on any disk; or all disks had
+-- been asked for and taken, the shelves before this one were opened, and nothing was added to the records on the disks behind it.
 abbrev pub FailsInOrder : List Named → (before after : RackView) → (count : ℕ) → (images : List (List ℕ)) → (shelf : ℕ) → Type 0
 FailsInOrder scripts before after count images shelf =
-    ((number : ℕ) → AreAmong (after.holds number) (before.holds number))
-    ⊎ ((length images ≡ count) × (first_unfit (unfit_left scripts) 0 (take shelf images) ≡ None))
+    (AsksUntil count shelf before after × ((number : ℕ) → AreAmong (after.holds number) (before.holds number)))
+    ⊎ (AsksForFirst count before after × (length images ≡ count) × (first_unfit (unfit_left scripts) 0 (take shelf images) ≡ None)
+    × AreBare before after images (shelf + 1))
 
 -- ---- the lines
 

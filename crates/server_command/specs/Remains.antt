@@ -1,5 +1,5 @@
 -- What remains on disks after steps that were performed, and how often calls of these failed.
-use Rattle.std.specs.Prelude.{⊤, ◌≡◌, ◌≤◌, ◌<◌, ℕ, ◌+◌, List, [], ◌++◌, length, count_by, Option, Some, Result, Ok}
+use Rattle.std.specs.Prelude.{⊤, ◌≡◌, ◌⊎◌, ◌≤◌, ◌<◌, ℕ, ◌+◌, List, [], ◌++◌, length, count_by, Option, Some, Result, Ok, Err}
 use Rattle.std.specs.Io.KnownBytes.{Appends}
 use mathlib.Core.List.{IsPrefix}
 use Rattle.web_disk.specs.View.{AreAmong}
@@ -12,42 +12,50 @@ use Rattle.play_steps.specs.declared.stage.Reopen.TheVariants as reopen
 use Rattle.play_steps.specs.Played.{RoseBy}
 use Rattle.play_steps.specs.Transcript.{text_of}
 use Rattle.play_desk.specs.Desk.{Desk, is_fault}
+use Rattle.play_desk.specs.Asking.{AsksForFirst, AsksForNone}
 use Rattle.play_desk.specs.Opening.{AllKept, AllStayKept, HoldTheBooks, IsLeft, cause_of}
 use Rattle.play_desk.specs.declared.opening.OpenCause.{OpenCause}
 use Rattle.play_desk.specs.declared.opening.OpenCause.TheVariants as cause
 use Rattle.command_words.specs.declared.Command.{Command}
 use Rattle.command_words.specs.declared.Command.TheVariants.{Check, Play}
 use Rattle.command_words.specs.declared.Options.{Options}
-use Rattle.server_command.specs.Racks.{Racks, AtRest, MayBeEmpty, ShelfFailed, disk_line, full, unfit_line}
+use Rattle.server_command.specs.Racks.{Racks, AtRest, HaveBegun, ShelfFailed, disk_line, full, unfit_line}
 use Rattle.server_command.specs.Output.{Before, BeforeOpening, Chances, IsCrashOf, Replied, Sinks, Tells, ending_of, run_of, steps_for}
 
 -- The rack's count rose by one at least for each of these fates that is a fault of a disk, and by so many more.
 abbrev pub HaveFailed : Racks → List Fate → (more : ℕ) → Type 0
 HaveFailed rack fates more = RoseBy (count_by is_fault fates + more) rack.before.faults rack.after.faults
 
--- nothing was lost on any disk, and nothing was written on those behind so many that were taken
+-- nothing was lost on any disk, and so many were asked for, each once and in order; nothing was written on those behind them
 pub record AreAllKept (rack : Racks) (scripts : List Named) (taken : ℕ) : Type 0 where
+  pub asked : AsksForFirst taken rack.before rack.after
   pub kept : (n : ℕ) → AllKept scripts n (rack.before.holds n) [] (rack.after.holds n)
   pub behind : (n : ℕ) → taken ≤ n → AreAmong (rack.after.holds n) (rack.before.holds n)
 
--- a shelf was not opened at first, for this, and no step was performed: the disks before its own may hold nothing, and nothing was lost
--- on any, but on the one of which a call failed
+-- the disks up to that of this shelf were asked for, each once and in order, and no other; or none was, for want of memory
+abbrev pub AsksForShelf : Racks → (shelf : ℕ) → OpenCause → Type 0
+AsksForShelf rack shelf why =
+    AsksForFirst (shelf + 1) rack.before rack.after ⊎ ((why ≡ cause.Memory) × AsksForNone rack.before rack.after)
+
+-- a shelf was not opened at first, for this, and no step was performed: no disk behind its own was asked for, those before it may hold
+-- nothing, and nothing was lost on any, but on the one of which a call failed
 pub record IsUnopened (rack : Racks) (scripts : List Named) (shelf : ℕ) (why : OpenCause) : Type 0 where
+  pub asked : AsksForShelf rack shelf why
   pub before : (k : ℕ) → k < shelf → rack.before.holds k []
   pub failed : why ≡ cause.Disk → ShelfFailed rack shelf
   pub kept : AllStayKept scripts rack.before.holds rack.after.holds shelf why
 
--- What is left on the disks of so many shelves, by which one is told, and for which cause: that one was not opened at first; or each disk
--- stands for the book of its shelf, as the last of some steps left it; or that one crashed, and was not opened again: each disk stands for
--- the book that its shelf had before that crash. Steps are performed on disks that may hold nothing alone.
+-- What is left on the disks of so many shelves, by which one is told, and for which cause: that one was not opened at first; or none has to
+-- be told, and each disk stands for the book of its shelf, as the last of some steps left it; or that one crashed, and was not opened again:
+-- each disk stands for the book that its shelf had before that crash. Steps are performed where all shelves were begun.
 pub data AreLeft (rack : Racks) (count : ℕ) (scripts : List Named) (text : List ℕ) (IsTold : ℕ → OpenCause → Type 0) (IsLast : Desk → Type 0)
     (IsLost : ℕ → Reopen → Desk → Type 0) : Type 0 where
   unopened : (shelf : ℕ) (why : OpenCause) → IsTold shelf why → text ≡ [] → IsUnopened rack scripts shelf why
       → AreLeft rack count scripts text IsTold IsLast IsLost
-  performed : (last : Desk) → IsLast last → HoldTheBooks last rack.after.holds → MayBeEmpty rack.before.holds count
-      → AreLeft rack count scripts text IsTold IsLast IsLost
+  performed : (last : Desk) → ((shelf : ℕ) (why : OpenCause) → IsTold shelf why) → IsLast last → HoldTheBooks last rack.after.holds
+      → HaveBegun rack count → AreLeft rack count scripts text IsTold IsLast IsLost
   lost : (shelf : ℕ) (why : Reopen) (last : Desk) → IsTold shelf (cause_of why) → IsLost shelf why last → IsLeft rack.after last shelf why
-      → MayBeEmpty rack.before.holds count → AreLeft rack count scripts text IsTold IsLast IsLost
+      → HaveBegun rack count → AreLeft rack count scripts text IsTold IsLast IsLost
 
 -- any shelf may be meant, and any cause, where none is told
 abbrev pub IsAny : (shelf : ℕ) → OpenCause → Type 0
@@ -72,12 +80,13 @@ IsLostBehind o setup fates text shelf last =
     × ((run_of o setup.scripts replied.front fates).state ≡ last)
 
 -- what remains on the disks where the steps of a setup were told up to this text, and such a shelf, and so many calls failed besides; a
--- check takes no disks
+-- check takes no disks, nor are any taken where the input is no setup
 abbrev pub Remains : Racks → Command → Result Parsed Fault → Chances → (text : List ℕ) → (ℕ → OpenCause → Type 0) → (more : ℕ) → Type 0
 Remains rack (Play o) (Ok setup) chances text IsTold more =
     AreLeft rack o.shelves setup.scripts text IsTold (IsBehind o setup chances.fates text)
     (λ shelf why last. IsLostBehind o setup chances.fates text shelf last)
     × HaveFailed rack chances.fates more
+Remains rack (Play o) (Err e) chances text IsTold more = AtRest rack
 Remains rack Check setup chances text IsTold more = AtRest rack
 Remains rack asked setup chances text IsTold more = ⊤
 
@@ -85,7 +94,7 @@ Remains rack asked setup chances text IsTold more = ⊤
 abbrev pub RemainsUnwritten : Racks → Command → Result Parsed Fault → Chances → (old new : Option (List ℕ)) → Type 0
 RemainsUnwritten rack (Play o) (Ok setup) chances old new =
     (text : List ℕ) × (last : Desk) × Appends old new text × IsBehind o setup chances.fates text last × HoldTheBooks last rack.after.holds
-    × HaveFailed rack chances.fates 0 × MayBeEmpty rack.before.holds o.shelves
+    × HaveFailed rack chances.fates 0 × HaveBegun rack o.shelves
 RemainsUnwritten rack Check setup chances old new = AtRest rack
 RemainsUnwritten rack asked setup chances old new = ⊤
 
@@ -107,13 +116,13 @@ Loses rack asked input chances shelf out =
     × Remains rack asked (setup_of (ending_of asked) input) chances text (IsFailed shelf) 1
 
 -- A crash of this shelf, behind steps of which this is printed, left its journal without room for the setup that an edit had changed: it
--- would be so long. Each disk stands for the book that its shelf had before that crash, and may have held nothing at first.
+-- would be so long. Each disk stands for the book that its shelf had before that crash, and all shelves had been begun.
 pub record Outgrows (rack : Racks) (o : Options) (setup : Parsed) (chances : Chances) (shelf length : ℕ) (text : List ℕ) : Type 0 where
   pub last : Desk
   pub lost : IsLostBehind o setup chances.fates text shelf last
   pub left : IsLeft rack.after last shelf (reopen.Full length)
   pub counted : HaveFailed rack chances.fates 0
-  pub began : MayBeEmpty rack.before.holds o.shelves
+  pub began : HaveBegun rack o.shelves
 
 -- what the words ask for is a run of steps, and an edit outgrows the journal of a shelf
 abbrev pub HasOutgrown : Racks → Option (Command × Parsed) → Chances → Type 0

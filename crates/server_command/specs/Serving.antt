@@ -5,6 +5,7 @@ use Rattle.web_outside.specs.Causes.{Rose}
 use Rattle.web_outside.specs.View.{DoorView, SeedsView}
 use Rattle.web_disk.specs.View.{View}
 use Rattle.play_steps.specs.Played.{RoseBy}
+use Rattle.play_desk.specs.Asking.{AsksForFirst}
 use Rattle.play_desk.specs.Opening.{HoldsTheBook, IsKept}
 use Rattle.script_nodes.specs.Setup.{Named}
 use Rattle.command_words.specs.declared.Service.{Service}
@@ -36,7 +37,7 @@ use Rattle.play_desk.specs.declared.opening.OpenCause.TheVariants as cause
 use Rattle.server_command.specs.declared.serving.ServeFault.{ServeFault}
 use Rattle.server_command.specs.declared.serving.ServeFault.TheVariants as fault
 use Rattle.server_command.specs.Output.{memory_line, Chances, Output, Sinks, PrintsTo, Answers, BreaksOff, rules_for, served}
-use Rattle.server_command.specs.Racks.{Racks, AreHeld, AreKept, FailsInOrder, AreTaken, AtRest, ShelfFailed, StandsForSome, Unfit, damaged, other, full, disk_line, first_unfit, unfit_left, unfit_line}
+use Rattle.server_command.specs.Racks.{Racks, AreBare, AreHeld, AreKept, FailsInOrder, AreTaken, AtRest, ShelfFailed, StandsForSome, Unfit, damaged, other, full, disk_line, first_unfit, unfit_left, unfit_line}
 
 -- ---- what is told
 
@@ -81,7 +82,7 @@ watch_of s = record { port = s.port; workers = s.workers; connections = s.connec
 
 -- The shelf of this number was opened with this setup and under these rules, with nonces of this source: its book is what the bytes of
 -- its disk make, opened again with this setup, whatever setup they told last; and empty where they have no record. Where the records are
--- own ones, it was opened as an own shelf.
+-- own ones, it was opened as an own shelf; on a disk that tells no bytes it was where its book had no instance.
 pub record IsOpened {D N : Type 0} (view : D → View) (tells : Bool) (told : Type 0) (nonce : N → ℕ → ℕ) (rules : Rules)
     (scripts : List Named) (k : ℕ) (image : List ℕ) (source : N) (o : Opening D N) : Type 0 where
   pub setup : scripts_in o ≡ scripts
@@ -92,6 +93,7 @@ pub record IsOpened {D N : Type 0} (view : D → View) (tells : Bool) (told : Ty
   pub opened : book_in view o.shelf.value ≡ reopened (book_in view o.shelf.value)
   pub stream : HasGiven (nonce source) 0 (nonce o.shelf.value.nonces)
   pub own : told → IsOwnImage k image → IsOwnOpening view tells o
+  pub own_if_empty : (IsTrue tells → ⊥) → (book_in view o.shelf.value).instances ≡ [] → IsOwnOpening view tells o
 
 module _ {D N : Type 0} (view : D → View) (tells : Bool) where
   -- all shelves from this number on were opened with this setup, each on what its disk held and with nonces of its source
@@ -175,12 +177,13 @@ pub record NoneIsLost (rack : Racks) (scripts : List Named) (images : List (List
 abbrev pub KeepsAll : Racks → List Named → List (List ℕ) → Type 0
 KeepsAll rack scripts images = IsTrue rack.tells → NoneIsLost rack scripts images
 
--- all disks were taken, and this shelf is the first that was not opened, for what its disk held; and nothing was lost on any disk
+-- All disks were asked for and taken, and this shelf is the first that was not opened, for what its disk held. Nothing was lost on any disk, and nothing
+-- was added to the records on its own and on those behind it.
 abbrev pub Shuts : Racks → Service → List Named → List (List ℕ) → (shelf : ℕ) → Unfit → Type 0
 Shuts rack s scripts images shelf why =
     IsTrue rack.tells → AreTaken (unfit_left scripts) rack.before.holds s.options.shelves images
     × (first_unfit (unfit_left scripts) 0 images ≡ Some (shelf, why)) × NoneIsLost rack scripts images
-    × (length images ≡ s.options.shelves)
+    × AsksForFirst s.options.shelves rack.before rack.after × (length images ≡ s.options.shelves) × AreBare rack.before rack.after images shelf
 
 -- ---- how it ended
 

@@ -5,7 +5,7 @@ ghost use Rattle.setup_reader.specs.Views.{parsed_of};
 ghost use Rattle.command_words.specs.Plain.{AreInRange, IsInRange};
 ghost use Rattle.play_desk.specs.Opening.{AreHome};
 ghost use Rattle.server_command.specs.Command.{Came, Outputs, OutputsFor, PlaysSteps, asked_of, met_of};
-ghost use Rattle.server_command.specs.Order.{RestsIfEarly};
+ghost use Rattle.server_command.specs.Order.{RestsFor};
 ghost use Rattle.server_command.specs.Output.{Hands, ending_of, sinks_of};
 ghost use Rattle.server_command.specs.Racks.{AreBack, racks_of};
 ghost use Rattle.server_command.specs.Serving.{Faults};
@@ -139,8 +139,8 @@ pub(crate) fn run_job<I: Source, O: Sink, D: Disk, R: Rack<D>>(
         (met_of words (I.view input.old) (I.view input.new)
         (sinks_of (O.view output.old) (O.view output.new))
         (racks_of (R.tells && D.tells) (R.view rack.old) (R.view rack.new)) door seeds) }
-    ensures rests { RestsIfEarly
-        (racks_of (R.tells && D.tells) (R.view rack.old) (R.view rack.new)) result }
+    ensures rests { RestsFor (racks_of (R.tells && D.tells) (R.view rack.old) (R.view rack.new))
+        (asked_of job.now) result }
     ensures hands { Hands result (O.view output.old) (O.view output.new) }
     ensures back { AreBack (R.view rack.old) (R.view rack.new) }
     ensures input_later { (I.view input.old).faults ≤ (I.view input.new).faults }

@@ -8,7 +8,7 @@ ghost use Rattle.site_serving.specs.Serving.{openings_of};
 ghost use Rattle.command_words.specs.Plain.{AreInRange};
 ghost use Rattle.server_command.specs.Output.{rules_for};
 ghost use Rattle.server_command.specs.Racks.{KeepsHome};
-ghost use Rattle.server_command.specs.Opening.{AreAsked, AreFrom, AreGiven, FailsAt, AreRulesFor, AreUntaken, CanBegin, HasTaken, LeavesFrom, OpensOn, RefusesOn, TakesBack, seen_on, unopened_by};
+ghost use Rattle.server_command.specs.Opening.{AreAsked, AreFrom, AreGiven, AsksAsTaken, FailsAt, AreRulesFor, AreUntaken, CanBegin, HasTaken, LeavesFrom, OpensOn, RefusesOn, TakesBack, seen_on, unopened_by};
 
 use command_words::Options;
 use play_desk::{OpenCause, OpenFault};
@@ -80,6 +80,8 @@ fn take_all<D: Disk, R: Rack<D>>(
     ensures home { OnErr result (KeepsHome (R.view rack.old) (R.view rack.new)) }
     ensures refused { IfErr result
         (AreUntaken (FailsAt count (R.view rack.old) (R.view rack.new))) }
+    ensures asked { IfErr result (λ f.
+        AsksAsTaken (R.view rack.old) (R.view rack.new) count f.shelf f.why) }
     ensures later { (R.view rack.old).faults ≤ (R.view rack.new).faults }
 {
     let Ok(mut disks) = Vec::with_capacity(alloc, count as usize) else {

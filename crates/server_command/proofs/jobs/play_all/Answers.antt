@@ -5,6 +5,7 @@ use Rattle.play_steps.specs.Step.{steps_of}
 use Rattle.play_steps.specs.Transcript.{bad_line, done}
 use Rattle.play_steps.specs.declared.run.PlayEnd.TheVariants.{Reopen}
 use Rattle.play_desk.specs.Opening.{IsClosedBy, IsLeft}
+use Rattle.play_desk.proofs.Asking.{asked_through}
 use Rattle.play_desk.proofs.Closing.{left_home}
 use Rattle.server_command.specs.Output.{sinks_of}
 use Rattle.server_command.specs.Racks.{racks_of}
@@ -29,7 +30,7 @@ returns-in-Err-clause-outputs g c = λ bytes h.
     (λ t. let b = both_tell g.R.Rack.tells g.D.Disk.tells t in
     subst (λ n. IsClosedBy rack.before.holds n fault.shelf fault.why) c.rules_of-rules.ensures.asked.shelves (c.in-Err.ensures.closed b.0 b.1))
     c.in-Err.ensures.disk
-    (λ t. let b = both_tell g.R.Rack.tells g.D.Disk.tells t in c.in-Err.ensures.keeps b.0 b.1) c.in-Err.ensures.later
+    (λ t. let b = both_tell g.R.Rack.tells g.D.Disk.tells t in c.in-Err.ensures.keeps b.0 b.1) c.in-Err.ensures.asked_until.1 c.in-Err.ensures.later
     c.tell_unopened.ensures.tells
 
 pub returns-in-Done-clause-outputs : goal.returns-in-Done-clause-outputs
@@ -44,7 +45,8 @@ returns-in-Done-clause-outputs g c = λ bytes h.
     done_outputs rack o bytes (record { scripts = scripts; steps = c.args.steps.now }) c.hand_on.result old.written mid.written new.written old.faults mid.faults new.faults h
     (λ t. let b = both_tell g.R.Rack.tells g.D.Disk.tells t in
     ran rack o scripts c.args.steps.now done old.written mid.written _ _ _ _
-    (begins rack o scripts c.rules_of-rules.result _ c.rules_of-rules.ensures.asked (c.in-Ok.ensures.desk b.0 b.1) (c.in-Ok.ensures.empty b.0 b.1))
+    (begins rack o scripts c.rules_of-rules.result _ c.rules_of-rules.ensures.asked (c.in-Ok.ensures.desk b.0 b.1) (c.in-Ok.ensures.empty b.0 b.1)
+    (asked_through c.rules_of-rules.result.shelves rack.before (g.R.Rack.view c.open_desk.new.rack) (g.R.Rack.view c.play-end.new.devices) rack.after c.in-Ok.ensures.asked c.in-Done.ensures.asked c.close.ensures.asked))
     (c.in-Done.ensures.ended (told_by tells (steps_of c.args.steps.now) t) (c.in-Ok.ensures.own b.0 b.1))
     (c.close.ensures.books b.0 b.1 (c.in-Done.ensures.own (told_by tells (steps_of c.args.steps.now) t) (c.in-Ok.ensures.own b.0 b.1)))
     c.in-Ok.ensures.later_open c.close.ensures.later)
@@ -62,7 +64,8 @@ returns-in-Line-clause-outputs g c = λ bytes h.
     line_outputs rack o bytes (record { scripts = scripts; steps = c.args.steps.now }) c.in-Line.number c.tell_line.result old.written mid.written new.written old.faults mid.faults new.faults h
     (λ t. let b = both_tell g.R.Rack.tells g.D.Disk.tells t in
     ran rack o scripts c.args.steps.now (bad_line c.in-Line.number) old.written mid.written _ _ _ _
-    (begins rack o scripts c.rules_of-rules.result _ c.rules_of-rules.ensures.asked (c.in-Ok.ensures.desk b.0 b.1) (c.in-Ok.ensures.empty b.0 b.1))
+    (begins rack o scripts c.rules_of-rules.result _ c.rules_of-rules.ensures.asked (c.in-Ok.ensures.desk b.0 b.1) (c.in-Ok.ensures.empty b.0 b.1)
+    (asked_through c.rules_of-rules.result.shelves rack.before (g.R.Rack.view c.open_desk.new.rack) (g.R.Rack.view c.play-end.new.devices) rack.after c.in-Ok.ensures.asked c.in-Line.ensures.asked c.close.ensures.asked))
     (c.in-Line.ensures.ended (told_by tells (steps_of c.args.steps.now) t) (c.in-Ok.ensures.own b.0 b.1))
     (c.close.ensures.books b.0 b.1 (c.in-Line.ensures.own (told_by tells (steps_of c.args.steps.now) t) (c.in-Ok.ensures.own b.0 b.1)))
     c.in-Ok.ensures.later_open c.close.ensures.later)
@@ -79,7 +82,8 @@ returns-in-Write-clause-outputs g c = λ bytes h.
     write_outputs rack o bytes (record { scripts = scripts; steps = c.args.steps.now }) old.written mid.written old.faults mid.faults h
     (λ t. let b = both_tell g.R.Rack.tells g.D.Disk.tells t in
     halted rack o scripts c.args.steps.now old.written mid.written _ _ _ _
-    (begins rack o scripts c.rules_of-rules.result _ c.rules_of-rules.ensures.asked (c.in-Ok.ensures.desk b.0 b.1) (c.in-Ok.ensures.empty b.0 b.1))
+    (begins rack o scripts c.rules_of-rules.result _ c.rules_of-rules.ensures.asked (c.in-Ok.ensures.desk b.0 b.1) (c.in-Ok.ensures.empty b.0 b.1)
+    (asked_through c.rules_of-rules.result.shelves rack.before (g.R.Rack.view c.open_desk.new.rack) (g.R.Rack.view c.play-end.new.devices) rack.after c.in-Ok.ensures.asked c.in-Write.ensures.asked c.close.ensures.asked))
     (c.in-Write.ensures.ended (told_by tells (steps_of c.args.steps.now) t) (c.in-Ok.ensures.own b.0 b.1))
     (c.close.ensures.books b.0 b.1 (c.in-Write.ensures.own (told_by tells (steps_of c.args.steps.now) t) (c.in-Ok.ensures.own b.0 b.1)))
     c.in-Ok.ensures.later_open c.close.ensures.later)
@@ -97,7 +101,8 @@ returns-in-Memory-clause-outputs g c = λ bytes h.
     memory_outputs rack o bytes (record { scripts = scripts; steps = c.args.steps.now }) c.no_memory.result old.written mid.written new.written old.faults mid.faults new.faults h
     (λ t. let b = both_tell g.R.Rack.tells g.D.Disk.tells t in
     paused rack o scripts c.args.steps.now old.written mid.written _ _ _ _
-    (begins rack o scripts c.rules_of-rules.result _ c.rules_of-rules.ensures.asked (c.in-Ok.ensures.desk b.0 b.1) (c.in-Ok.ensures.empty b.0 b.1))
+    (begins rack o scripts c.rules_of-rules.result _ c.rules_of-rules.ensures.asked (c.in-Ok.ensures.desk b.0 b.1) (c.in-Ok.ensures.empty b.0 b.1)
+    (asked_through c.rules_of-rules.result.shelves rack.before (g.R.Rack.view c.open_desk.new.rack) (g.R.Rack.view c.play-end.new.devices) rack.after c.in-Ok.ensures.asked c.in-Memory.ensures.asked c.close.ensures.asked))
     (IsLeft (g.R.Rack.view c.play-end.new.devices))
     (λ d k w. left_home c.play-end.new.stage.staff.shelves.items (g.R.Rack.view c.play-end.new.devices) rack.after d k w c.play-end.ensures.home
     c.close.ensures.others c.close.ensures.home)
@@ -121,7 +126,8 @@ returns-in-Reopen-clause-outputs g c = λ bytes h.
     old.written mid.written new.written old.faults mid.faults new.faults h
     (λ t. let b = both_tell g.R.Rack.tells g.D.Disk.tells t in
     lost rack o scripts c.args.steps.now shelf why old.written mid.written _ _ _ _
-    (begins rack o scripts c.rules_of-rules.result _ c.rules_of-rules.ensures.asked (c.in-Ok.ensures.desk b.0 b.1) (c.in-Ok.ensures.empty b.0 b.1))
+    (begins rack o scripts c.rules_of-rules.result _ c.rules_of-rules.ensures.asked (c.in-Ok.ensures.desk b.0 b.1) (c.in-Ok.ensures.empty b.0 b.1)
+    (asked_through c.rules_of-rules.result.shelves rack.before (g.R.Rack.view c.open_desk.new.rack) (g.R.Rack.view c.play-end.new.devices) rack.after c.in-Ok.ensures.asked c.in-Reopen.ensures.asked c.close.ensures.asked))
     (IsLeft (g.R.Rack.view c.play-end.new.devices))
     (λ d k w. left_home c.play-end.new.stage.staff.shelves.items (g.R.Rack.view c.play-end.new.devices) rack.after d k w c.play-end.ensures.home
     c.close.ensures.others c.close.ensures.home)
@@ -136,3 +142,25 @@ returns-in-Reopen-clause-outputs g c = λ bytes h.
     (λ t place e. c.in-Reopen.ensures.other t shelf place (ap (λ w. Reopen shelf w) e))
     c.play-end.ensures.later
     (subst (λ w. TellsUnopened shelf w c.tell_unopened-in-Reopen.result (sinks_of mid new)) c.of-why.ensures c.tell_unopened-in-Reopen.ensures.tells)
+
+-- ---- the rack behind it
+
+pub returns-in-Done-clause-back : goal.returns-in-Done-clause-back
+returns-in-Done-clause-back g c =
+    record { home = c.close.ensures.home; later = omega (arith, c.in-Ok.ensures.later_open, c.in-Done.ensures.devices_later, c.close.ensures.later) }
+
+pub returns-in-Line-clause-back : goal.returns-in-Line-clause-back
+returns-in-Line-clause-back g c =
+    record { home = c.close.ensures.home; later = omega (arith, c.in-Ok.ensures.later_open, c.in-Line.ensures.devices_later, c.close.ensures.later) }
+
+pub returns-in-Write-clause-back : goal.returns-in-Write-clause-back
+returns-in-Write-clause-back g c =
+    record { home = c.close.ensures.home; later = omega (arith, c.in-Ok.ensures.later_open, c.in-Write.ensures.devices_later, c.close.ensures.later) }
+
+pub returns-in-Memory-clause-back : goal.returns-in-Memory-clause-back
+returns-in-Memory-clause-back g c =
+    record { home = c.close.ensures.home; later = omega (arith, c.in-Ok.ensures.later_open, c.in-Memory.ensures.devices_later, c.close.ensures.later) }
+
+pub returns-in-Reopen-clause-back : goal.returns-in-Reopen-clause-back
+returns-in-Reopen-clause-back g c =
+    record { home = c.close.ensures.home; later = omega (arith, c.in-Ok.ensures.later_open, c.in-Reopen.ensures.devices_later, c.close.ensures.later) }

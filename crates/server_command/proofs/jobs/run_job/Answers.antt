@@ -4,7 +4,7 @@ use Rattle.server_command.specs.Command.{Outputs, asked_of, met_of}
 use Rattle.server_command.specs.Output.{sinks_of}
 use Rattle.server_command.specs.Racks.{racks_of}
 use Rattle.server_command.proofs.Causes.{came, unread_by, unread_came}
-use Rattle.server_command.proofs.Endings.{at_rest, untouched}
+use Rattle.server_command.proofs.Endings.{at_rest}
 use Rattle.server_command.proofs.Orders.{job_rests, unread_rests}
 use Rattle.server_command.proofs.jobs.run_job.Goals as goal
 
@@ -20,12 +20,13 @@ returns-in-Ok-clause-comes g c = λ words door seeds.
 pub returns-in-Err-clause-comes : goal.returns-in-Err-clause-comes
 returns-in-Err-clause-comes g c = λ words door seeds.
     let is : c.read_all.result ≡ Err c.in-Err.fault = search rules in
-    unread_came _ _ _ c.in-Err.fault c.tell_unread.ensures.status (λ setup. untouched _ _ (asked_of c.args.job.now) setup)
+    unread_came _ _ _ c.in-Err.fault c.tell_unread.ensures.status
     (unread_by _ c.read_all.result c.in-Err.fault is c.tell_unread.ensures.line c.read_all.ensures.long c.read_all.ensures.failed c.read_all.ensures.short c.read_all.ensures.front
     (at_rest _ _))
+    (at_rest _ _)
 
 pub returns-in-Ok-clause-rests : goal.returns-in-Ok-clause-rests
 returns-in-Ok-clause-rests g c = job_rests _ (asked_of c.args.job.now) _ c.run_input.result _ c.run_input.ensures.outputs
 
 pub returns-in-Err-clause-rests : goal.returns-in-Err-clause-rests
-returns-in-Err-clause-rests g c = unread_rests _ c.in-Err.fault c.tell_unread.result c.tell_unread.ensures.status (at_rest _ _)
+returns-in-Err-clause-rests g c = unread_rests _ (asked_of c.args.job.now) c.in-Err.fault c.tell_unread.result c.tell_unread.ensures.status (at_rest _ _)

@@ -7,6 +7,7 @@ use Rattle.replay_spec.specs.Runs.{Shelf}
 use Rattle.script_nodes.specs.Views.{scripts_of}
 use Rattle.play_steps.specs.declared.performing.Halt.TheVariants.{Memory, Reopen}
 use Rattle.play_desk.specs.Opening.{AllStayKept, IsClosedBy, IsLeft}
+use Rattle.play_desk.proofs.Asking.{asked_through}
 use Rattle.play_desk.proofs.Closing.{left_home}
 use Rattle.play_steps.specs.declared.stage.Reopen.TheVariants as again
 use Rattle.play_desk.specs.Staff.{desk_of, faults_in, shelf_at, total}
@@ -41,7 +42,7 @@ returns-in-Err-clause-leaves g c =
     c.in-Err.ensures.disk
     (λ t. let b = both_tell g.R.Rack.tells g.D.Disk.tells t in
     subst (λ (ss : List Named). AllStayKept ss rack.before.holds rack.after.holds fault.shelf fault.why) c.in-Ok.ensures.scripts (c.in-Err.ensures.keeps b.0 b.1))
-    c.in-Err.ensures.later
+    c.in-Err.ensures.asked_until.1 c.in-Err.ensures.later
     c.tell_unopened.ensures.tells
 
 pub returns-in-Ok-end-clause-leaves : goal.returns-in-Ok-end-clause-leaves
@@ -57,7 +58,8 @@ returns-in-Ok-end-clause-leaves g c =
     (total (g.R.Rack.view c.load-end.new.devices).faults (faults_in g.D.Disk.view last.staff.shelves.items))
     (subst (λ (ss : List Named). Begins rack l.options ss (desk_of g.D.Disk.view (scripts_of first.setup) first.staff)) c.in-Ok.ensures.scripts
     (begins rack l.options (scripts_of c.in-Ok.setup) c.rules_of-rules.result (desk_of g.D.Disk.view (scripts_of first.setup) first.staff) c.rules_of-rules.ensures.asked
-    (c.in-Ok-open_desk.ensures.desk b.0 b.1) (c.in-Ok-open_desk.ensures.empty b.0 b.1)))
+    (c.in-Ok-open_desk.ensures.desk b.0 b.1) (c.in-Ok-open_desk.ensures.empty b.0 b.1)
+    (asked_through c.rules_of-rules.result.shelves rack.before (g.R.Rack.view c.open_desk.new.rack) (g.R.Rack.view c.load-end.new.devices) rack.after c.in-Ok-open_desk.ensures.asked c.in-Ok-end.ensures.asked c.close.ensures.asked)))
     (c.in-Ok-end.ensures.measured t (c.in-Ok-open_desk.ensures.own b.0 b.1)) (c.close.ensures.books b.0 b.1 (c.in-Ok-end.ensures.own t (c.in-Ok-open_desk.ensures.own b.0 b.1)))
     c.in-Ok-open_desk.ensures.later_open c.close.ensures.later)
     c.tell_measure.ensures.outputs
@@ -78,7 +80,8 @@ returns-in-Err-Memory-clause-leaves g c =
     (total (g.R.Rack.view c.load-end.new.devices).faults (faults_in g.D.Disk.view last.staff.shelves.items)) is
     (subst (λ (ss : List Named). Begins rack l.options ss (desk_of g.D.Disk.view (scripts_of first.setup) first.staff)) c.in-Ok.ensures.scripts
     (begins rack l.options (scripts_of c.in-Ok.setup) c.rules_of-rules.result (desk_of g.D.Disk.view (scripts_of first.setup) first.staff) c.rules_of-rules.ensures.asked
-    (c.in-Ok-open_desk.ensures.desk b.0 b.1) (c.in-Ok-open_desk.ensures.empty b.0 b.1)))
+    (c.in-Ok-open_desk.ensures.desk b.0 b.1) (c.in-Ok-open_desk.ensures.empty b.0 b.1)
+    (asked_through c.rules_of-rules.result.shelves rack.before (g.R.Rack.view c.open_desk.new.rack) (g.R.Rack.view c.load-end.new.devices) rack.after c.in-Ok-open_desk.ensures.asked c.load-end.ensures.asked c.close.ensures.asked)))
     (λ k s e. let x = map_get (shelf_at g.D.Disk.view) first.staff.shelves.items k s e in
     subst (λ (z : Shelf). z.book.length ≤ 2 ^ 30) x.2 (c.in-Ok-open_desk.ensures.sound.fit.in_order k x.0 x.1).sound)
     c.requires.range.options.shelves.0
@@ -106,7 +109,8 @@ returns-in-Err-Reopen-clause-leaves g c =
     (total (g.R.Rack.view c.load-end.new.devices).faults (faults_in g.D.Disk.view last.staff.shelves.items)) is
     (subst (λ (ss : List Named). Begins rack l.options ss (desk_of g.D.Disk.view (scripts_of first.setup) first.staff)) c.in-Ok.ensures.scripts
     (begins rack l.options (scripts_of c.in-Ok.setup) c.rules_of-rules.result (desk_of g.D.Disk.view (scripts_of first.setup) first.staff) c.rules_of-rules.ensures.asked
-    (c.in-Ok-open_desk.ensures.desk b.0 b.1) (c.in-Ok-open_desk.ensures.empty b.0 b.1)))
+    (c.in-Ok-open_desk.ensures.desk b.0 b.1) (c.in-Ok-open_desk.ensures.empty b.0 b.1)
+    (asked_through c.rules_of-rules.result.shelves rack.before (g.R.Rack.view c.open_desk.new.rack) (g.R.Rack.view c.load-end.new.devices) rack.after c.in-Ok-open_desk.ensures.asked c.load-end.ensures.asked c.close.ensures.asked)))
     (λ k s e. let x = map_get (shelf_at g.D.Disk.view) first.staff.shelves.items k s e in
     subst (λ (z : Shelf). z.book.length ≤ 2 ^ 30) x.2 (c.in-Ok-open_desk.ensures.sound.fit.in_order k x.0 x.1).sound)
     c.requires.range.options.shelves.0
@@ -119,3 +123,17 @@ returns-in-Err-Reopen-clause-leaves g c =
     (λ t place e. c.load-end.ensures.damaged t shelf place (error_is c.load-end.result shelf why (again.Damaged place) is e))
     (λ t place e. c.load-end.ensures.other t shelf place (error_is c.load-end.result shelf why (again.Other place) is e))
     (subst (λ w. TellsUnopened shelf w c.tell_unopened-in-Err-Reopen.result (sinks_of old new)) c.of-why.ensures c.tell_unopened-in-Err-Reopen.ensures.tells)
+
+-- ---- the rack behind it
+
+pub returns-in-Ok-end-clause-back : goal.returns-in-Ok-end-clause-back
+returns-in-Ok-end-clause-back g c =
+    record { home = c.close.ensures.home; later = omega (arith, c.in-Ok-open_desk.ensures.later_open, c.in-Ok-end.ensures.later, c.close.ensures.later) }
+
+pub returns-in-Err-Memory-clause-back : goal.returns-in-Err-Memory-clause-back
+returns-in-Err-Memory-clause-back g c =
+    record { home = c.close.ensures.home; later = omega (arith, c.in-Ok-open_desk.ensures.later_open, c.load-end.ensures.later, c.close.ensures.later) }
+
+pub returns-in-Err-Reopen-clause-back : goal.returns-in-Err-Reopen-clause-back
+returns-in-Err-Reopen-clause-back g c =
+    record { home = c.close.ensures.home; later = omega (arith, c.in-Ok-open_desk.ensures.later_open, c.load-end.ensures.later, c.close.ensures.later) }

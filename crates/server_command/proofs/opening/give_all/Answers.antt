@@ -17,7 +17,7 @@ giving-preserved g c =
     let front = c.pop.new.self.items in
     let disk = c.in-Some.disk in
     let number : c.len.result ≡ length front = c.len.ensures ∙ c.pop.new.self.ok.0 in
-    let gives = subst (λ n. Gives now after n (view disk).faults) number (record { home = c.give.ensures.home; others_out = c.give.ensures.others_out; counts = c.give.ensures.faults; counted = c.give.ensures.counted; others_counted = c.give.ensures.others_counted }) in
+    let gives = subst (λ n. Gives now after n (view disk).faults) number (record { home = c.give.ensures.home; others_out = c.give.ensures.others_out; counts = c.give.ensures.faults; counted = c.give.ensures.counted; others_counted = c.give.ensures.others_counted; asked = c.give.ensures.asked }) in
     let holds = subst (λ n. Holds (IsTrue g.R.Rack.tells) now after n (view disk).images) number (record { among = c.give.ensures.images; others = c.give.ensures.others }) in
     record {
       given = given_next view (IsTrue g.R.Rack.tells) c.args.disks.items c.giving.disks.items front disk (g.R.Rack.view c.args.rack.now) now after c.in-Some.ensures.items

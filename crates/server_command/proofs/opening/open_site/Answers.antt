@@ -7,7 +7,7 @@ use Rattle.play_desk.specs.declared.opening.OpenCause.TheVariants as cause
 use Rattle.play_desk.specs.declared.opening.OpenFault.{OpenFault}
 use Rattle.site_serving.specs.Shelves.{IsBegunAt}
 use Rattle.server_command.specs.Opening.{AreOut, FailsAt, HasTaken, IsRefused, RefusesInOrder, TakesBack, seen_on, unopened_by}
-use Rattle.server_command.proofs.Openings.{all_home, both_tell, failed_since, seen_size, untaken_in_order, untaken_refused}
+use Rattle.server_command.proofs.Openings.{all_home, both_tell, failed_since, given_asked, seen_size, taken_asked, untaken_asked, untaken_in_order, untaken_refused}
 use Rattle.server_command.proofs.Shelves.{kept_at, kept_from, opened_from, refused_at, refused_in_order}
 use Rattle.server_command.proofs.opening.open_site.Goals as goal
 
@@ -24,10 +24,11 @@ returns-in_err-disks-clause-refused g c =
       refused = untaken_refused (IsTrue (g.R.Rack.tells && g.D.Disk.tells)) (FailsAt shelves before last) (scripts_of c.args.setup) [] why.shelf why.why c.in_err-disks.ensures.refused;
       in_order = λ t.
           untaken_in_order (scripts_of c.args.setup) before last shelves (FailsAt shelves before last) why.shelf why.why c.in_err-disks.ensures.refused
-          (c.in_err-disks.ensures.kept (both_tell _ _ t).0);
+          c.in_err-disks.ensures.asked (c.in_err-disks.ensures.kept (both_tell _ _ t).0);
       kept = λ t k read left none. absurd (let no : ⊥ = cc none in no);
       unread = λ t. c.in_err-disks.ensures.kept (both_tell _ _ t).0;
       home = c.in_err-disks.ensures.home;
+      asked = untaken_asked before last shelves (FailsAt shelves before last) why.shelf why.why c.in_err-disks.ensures.refused c.in_err-disks.ensures.asked;
     })
 
 pub returns-in-Ok-clause-opened : goal.returns-in-Ok-clause-opened
@@ -48,6 +49,7 @@ returns-in-Ok-clause-opened g c =
       kept = λ t k x read left x_is read_is left_is.
           kept_from g.D.Disk.view g.D.Disk.tells told g.N.Nonces.nonce c.args.options.now (scripts_of c.args.setup) c.rules_of-rules.result 0 disks c.args.sources.items c.in-Ok.site.row.homes
           (g.R.Rack.view c.args.rack.now).holds (omega (arith, sources, taken.many, size)) begun.many (both_tell _ _ t).1
+          (λ d. g.met.D.Disk.reads_image d (both_tell _ _ t).1)
           (λ i j d n h at d_is n_is h_is. let same : i ≡ j = omega (arith, at) in (
             subst (λ m. IsBegunAt {D = g.row.D.Denot} {N = g.row.N.Denot} g.D.Disk.view g.D.Disk.tells (scripts_of c.args.setup) c.rules_of-rules.result m d n h) same (begun.each i d n h d_is n_is h_is),
             subst (λ m. AreAmong (g.D.Disk.view d).images ((g.R.Rack.view c.args.rack.now).holds m)) same (c.in_ok-disks.ensures.from (both_tell _ _ t).0 i d d_is),
@@ -75,6 +77,7 @@ returns-in-Err-clause-refused g c =
     let size = seen_size g.D.Disk.view disks in
     let many : length c.in-Err.field-0.disks.items ≡ c.args.options.now.shelves = omega (arith, not.disks_back.returned.many, size, taken.many) in
     let why : unopened_by c.in-Err.field-0.shelf c.in-Err.field-0.fault ≡ c.why_unopened.result = sym c.why_unopened.ensures in
+    let asked = given_asked c.args.options.now.shelves before middle last taken.asked c.give_all.ensures.back.asked in
     let refused = refused_at g.D.Disk.view g.D.Disk.tells scripts told disks c.args.sources.items c.in-Err.field-0 (λ k. FailedFor k before last)
     (λ t. (both_tell _ _ t).1) not
     (λ k e e_is some. failed_since k before middle last taken.later taken.failed_later (c.give_all.ensures.given.faults k e e_is some)) in
@@ -86,11 +89,14 @@ returns-in-Err-clause-refused g c =
       in_order = λ t.
           subst (λ (f : OpenFault). RefusesInOrder scripts before last c.args.options.now.shelves (seen_on g.D.Disk.view disks) f.shelf f.why) why
           (refused_in_order g.D.Disk.view g.D.Disk.tells scripts disks c.args.sources.items c.in-Err.field-0 before last c.args.options.now.shelves
-          (both_tell _ _ t).1 not taken.many);
+          (both_tell _ _ t).1 (λ d. g.met.D.Disk.reads_image d (both_tell _ _ t).1) not taken.many (c.in_ok-disks.ensures.from (both_tell _ _ t).0)
+          (λ j e e_is. c.give_all.ensures.given.held (both_tell _ _ t).0 (subst (AreOut middle) (sym many) taken.out) j e e_is)
+          asked);
       kept = λ t k read left read_is left_is but. kept_at g.D.Disk.view g.D.Disk.tells scripts told disks c.args.sources.items c.in-Err.field-0 before.holds last.holds
-          (λ u. (both_tell _ _ u).1) not (λ u. c.in_ok-disks.ensures.from (both_tell _ _ u).0)
+          (λ u. (both_tell _ _ u).1) (λ u d. g.met.D.Disk.reads_image d (both_tell _ _ u).1) not (λ u. c.in_ok-disks.ensures.from (both_tell _ _ u).0)
           (λ u j e e_is. c.give_all.ensures.given.held (both_tell _ _ u).0 (subst (AreOut middle) (sym many) taken.out) j e e_is)
           t k read left read_is left_is (subst (λ (f : OpenFault). f.why ≡ cause.Disk → k ≢ f.shelf) (sym why) but);
       unread = λ t n le image h. taken.rest n (omega (arith, size, taken.many, le)) image (c.give_all.ensures.given.others n (omega (arith, many, size, taken.many, le)) image h);
       home = all_home told before middle last c.args.options.now.shelves (seen_on g.D.Disk.view disks) taken (subst (TakesBack middle last 0) many c.give_all.ensures.back);
+      asked = taken_asked before last c.args.options.now.shelves c.why_unopened.result.shelf c.why_unopened.result.why asked;
     }

@@ -102,3 +102,4 @@ returns-in-Err-Memory-clause-order g c =
     (pasts_of (g.P.Past.told c.args.past.now) (g.P.Past.told c.args.past.now)) in
     let rack = racks_of (g.R.Rack.tells && g.D.Disk.tells) (g.R.Rack.view c.args.rack.now) (g.R.Rack.view c.args.rack.now) in
     unworded_order asks rack (asked_in (texts c.args.words.now)) c.no_memory.result c.no_memory.ensures.status refl (refl, refl)
+    (at_rest _ _)

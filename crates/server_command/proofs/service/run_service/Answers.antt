@@ -26,7 +26,7 @@ returns-in-Err-clause-comes g c = λ words.
     unread_served (serves_in a) c.args.service.now c.tell_unread.result (met_in a) c.in-Err.fault c.tell_unread.ensures.status
     (unread_by (met_in a) c.read_all.result c.in-Err.fault is c.tell_unread.ensures.line c.read_all.ensures.long c.read_all.ensures.failed
     c.read_all.ensures.short c.read_all.ensures.front (at_rest _ _))
-    (refl, refl)
+    (at_rest _ _) (refl, refl)
 
 pub returns-in-Err-clause-order : goal.returns-in-Err-clause-order
 returns-in-Err-clause-order g c =

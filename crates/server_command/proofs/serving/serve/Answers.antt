@@ -3,11 +3,12 @@ use Rattle.std.specs.Prelude.{IsTrue, ◌&&◌}
 use Rattle.script_nodes.specs.Views.{scripts_of}
 use Rattle.site_serving.specs.Serving.{ComesTo, openings_in, openings_of, pasts_of, views}
 use Rattle.server_command.specs.declared.serving.ServeFault.{ServeFault}
+use Rattle.play_desk.specs.Asking.{AsksForFirst}
 use Rattle.server_command.specs.Order.{ComesInOrder, asks_of, both}
 use Rattle.server_command.specs.Opening.{AreOut, TakesBack}
 use Rattle.server_command.specs.Racks.{racks_of}
 use Rattle.server_command.specs.Serving.{ServesBy, outside, serves_over}
-use Rattle.server_command.proofs.Openings.{all_home, both_tell}
+use Rattle.server_command.proofs.Openings.{all_home, both_tell, given_asked}
 use Rattle.server_command.proofs.Servings.{refuses_of, serves_of, undrawn}
 use Rattle.server_command.proofs.Endings.{at_rest}
 use Rattle.server_command.proofs.Orders.{told_order, undrawn_order}
@@ -70,7 +71,7 @@ returns-in_err-sources-clause-order g c =
 
 pub returns-in-Err-clause-order : goal.returns-in-Err-clause-order
 returns-in-Err-clause-order g c =
-    (record { sources = c.in_ok-sources.sources.items; many = c.in_ok-sources.ensures.count; drawn = c.in_ok-sources.ensures.drawn }, (refl, refl))
+    (record { sources = c.in_ok-sources.sources.items; many = c.in_ok-sources.ensures.count; drawn = c.in_ok-sources.ensures.drawn }, (refl, refl), c.in-Err.ensures.refused.asked)
 
 pub returns-clause-order : goal.returns-clause-order
 returns-clause-order g c =
@@ -80,7 +81,9 @@ returns-clause-order g c =
     let shelves = c.args.service.now.options.shelves in
     subst (ComesInOrder asks rack shelves) (sym c.told_as.ensures)
     (told_order asks rack shelves c.serve_site-disks.result.1
-    (record { sources = c.in_ok-sources.sources.items; many = c.in_ok-sources.ensures.count; drawn = c.in_ok-sources.ensures.drawn }))
+    (record { sources = c.in_ok-sources.sources.items; many = c.in_ok-sources.ensures.count; drawn = c.in_ok-sources.ensures.drawn })
+    (subst (λ n. AsksForFirst n rack.before rack.after) c.in_ok-sources.ensures.count
+    (given_asked (length c.in_ok-sources.sources.items) rack.before (g.R.Rack.view c.open_site.new.rack) rack.after c.in-Ok.ensures.opened.taken.asked c.give_all.ensures.back.asked)))
 
 pub returns-in_err-sources-clause-served : goal.returns-in_err-sources-clause-served
 returns-in_err-sources-clause-served g c =
