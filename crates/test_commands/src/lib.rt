@@ -4,6 +4,8 @@
 #[cfg(test)]
 mod endings;
 #[cfg(test)]
+mod full;
+#[cfg(test)]
 mod loading;
 mod outside;
 #[cfg(test)]

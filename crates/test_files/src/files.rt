@@ -126,6 +126,8 @@ struct Counter {
 impl Take for Counter {
     ghost takes = { λ old place body new. Unit {0} };
 
+    ghost ready = { λ old place. Unit {0} };
+
     fn body(&mut self, _place: u64, body: &[u8]) {
         let same = match BODIES.get(self.count) {
             Some(wanted) => *wanted == body,

@@ -6,6 +6,8 @@ mod files;
 #[cfg(test)]
 mod links;
 #[cfg(test)]
+mod memory;
+#[cfg(test)]
 mod servings;
 #[cfg(test)]
 mod streets;

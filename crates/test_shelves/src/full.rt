@@ -1,5 +1,5 @@
 //! The greatest length of a shelf's journal.
-ghost use Rattle.std.specs.Prelude.{◌≡◌, ◌^◌, false, length, IfOk};
+ghost use Rattle.std.specs.Prelude.{◌≡◌, ◌≤◌, false, length, IfOk};
 ghost use Rattle.script_nodes.specs.Views.{scripts_of};
 ghost use Rattle.setup_reader.specs.Texts.{IsReadSetup};
 ghost use Rattle.web_disk.specs.Repeated.{repeat_view};
@@ -19,32 +19,39 @@ const START: &str = "/servlets/s";
 
 const FIRST: &str = "/servlets/s;7*1*1*0000000000000000";
 
-// How a record of 1,048,576 bytes begins, its gate and length among them: segment 0 answered a page that is not there with a
-// text of 1,048,533 characters of code 0, and ended with a last page, without effects.
-const LONG: &[u8] = &[
-    1, 251, 255, 15, 0, 3, 0, 0, 0, 0, 0, 0, 0, 0, 0, 0, 0, 0, 0, 0, 0, 0, 0, 0, 0, 0, 0, 0, 0, 0,
-    3, 213, 255, 15, 0,
-];
-
-fn long_record(alloc: Global) -> Result<Vec<u8>, Fail>
-    ensures { IfOk result (λ block. length block.items ≡ 2 ^ 20) }
+/// A record of so many bytes, its gate and length among them: segment 0 answered a page that is not there with a text of
+/// characters of code 0, and ended with a last page, without effects.
+pub fn long_record(alloc: Global, size: u32) -> Result<Vec<u8>, Fail>
+    requires { 43 ≤ size }
+    ensures { IfOk result (λ bytes. length bytes.items ≡ size) }
 {
-    let mut record = LONG.to_vec(alloc)?;
-    record.resize(1_048_576, 0)?;
-    Ok(record)
+    let mut bytes = vec![in alloc; 1u8; 1]?;
+    bytes.extend_from_slice(&(size - 5).to_le_bytes())?;
+    bytes.push(3)?;
+    bytes.resize(30, 0)?;
+    bytes.push(3)?;
+    bytes.extend_from_slice(&(size - 43).to_le_bytes())?;
+    bytes.resize(size as usize, 0)?;
+    Ok(bytes)
 }
 
-// A disk of a new shelf, with 1,023 such records: it lacks 1,048,473 bytes of 2^30.
-fn long_disk(alloc: Global, setup: &Setup) -> Result<RepeatDisk, Fail>
+/// A disk of a new shelf, with 1,023 such records of 1,048,576 bytes and this behind them: it has 1,072,693,350 bytes more than this.
+pub fn disk_with(alloc: Global, setup: &Setup, last: Vec<u8>) -> Result<RepeatDisk, Fail>
     requires { IsReadSetup (scripts_of setup.now) }
 {
     let mut first = bytes_of(alloc, created(alloc, setup)?)?;
-    let gate = first.pop().ok_or("no gate")?;
+    let _gate = first.pop();
     if first.len() != 102 {
         return Err(Fail::from("another first record"));
     }
-    let last = vec![in alloc; gate; 1]?;
-    Ok(RepeatDisk::new(first, long_record(alloc)?, 1_023, last))
+    Ok(RepeatDisk::new(first, long_record(alloc, 1_048_576)?, 1_023, last))
+}
+
+// Such a disk with a closed gate at its end: it lacks 1,048,473 bytes of 2^30.
+fn long_disk(alloc: Global, setup: &Setup) -> Result<RepeatDisk, Fail>
+    requires { IsReadSetup (scripts_of setup.now) }
+{
+    disk_with(alloc, setup, vec![in alloc; 0; 1]?)
 }
 
 // Its shelf.

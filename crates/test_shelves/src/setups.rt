@@ -12,16 +12,25 @@ use script_value::Reply;
 use std::alloc::Global;
 use std::test::Fail;
 
-const OLD: &str = "(begin (send/suspend (lambda (u) \"a\")) (send/suspend (lambda (u) \"b\")))";
+/// A script with a page behind another.
+pub const OLD: &str = "(begin (send/suspend (lambda (u) \"a\")) (send/suspend (lambda (u) \"b\")))";
 
-const NEW: &str = "(begin (send/suspend (lambda (u) \"c\")) (send/suspend (lambda (u) \"d\")))";
+/// The same, with other pages.
+pub const NEW: &str = "(begin (send/suspend (lambda (u) \"c\")) (send/suspend (lambda (u) \"d\")))";
 
-const START: &str = "/servlets/s";
+/// The path of a start.
+pub const START: &str = "/servlets/s";
 
-const FIRST: &str = "/servlets/s;7*0*0*0000000000000000";
+/// The page that the first start of a shelf shows.
+pub const FIRST: &str = "/servlets/s;7*0*0*0000000000000000";
 
-// Refuses a shelf on which a path shows another page.
-fn expect_page(alloc: Global, shelf: &mut MemoryShelf, path: &str, page: &str) -> Result<(), Fail>
+/// Refuses a shelf on which a path shows another page.
+pub fn expect_page(
+    alloc: Global,
+    shelf: &mut MemoryShelf,
+    path: &str,
+    page: &str,
+) -> Result<(), Fail>
     requires { IsInOrder memory_view true shelf.old }
     ensures { IsInOrder memory_view true shelf.new }
 {
@@ -36,8 +45,8 @@ fn expect_page(alloc: Global, shelf: &mut MemoryShelf, path: &str, page: &str) -
     }
 }
 
-// What stands on the disk of a new shelf of this setup behind a start.
-fn started(alloc: Global, setup: &Setup) -> Result<Vec<u8>, Fail>
+/// What stands on the disk of a new shelf of this setup behind a start.
+pub fn started(alloc: Global, setup: &Setup) -> Result<Vec<u8>, Fail>
     requires { IsReadSetup (scripts_of setup.now) }
 {
     let mut shelf = created(alloc, setup)?;
@@ -45,8 +54,8 @@ fn started(alloc: Global, setup: &Setup) -> Result<Vec<u8>, Fail>
     bytes_of(alloc, shelf)
 }
 
-// What stands on a disk of these bytes once a shelf of this setup was opened on it, and closed.
-fn opened(alloc: Global, bytes: Vec<u8>, setup: &Setup) -> Result<Vec<u8>, Fail>
+/// What stands on a disk of these bytes once a shelf of this setup was opened on it, and closed.
+pub fn opened(alloc: Global, bytes: Vec<u8>, setup: &Setup) -> Result<Vec<u8>, Fail>
     requires { IsReadSetup (scripts_of setup.now) }
 {
     bytes_of(alloc, reopened(alloc, bytes, setup)?)

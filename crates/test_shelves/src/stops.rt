@@ -107,8 +107,8 @@ const SHOWN: &[Shown] = &[
     },
 ];
 
-// How far what was not synced is on the disk, the byte in lost places, and whether those at the end are gone.
-const WRECKS: &[Wreck] = &[
+/// How far what was not synced is on the disk, the byte in lost places, and whether those at the end are gone.
+pub const WRECKS: &[Wreck] = &[
     Wreck {
         reached: u64::MAX,
         fill: 0,

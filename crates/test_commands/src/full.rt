@@ -1,0 +1,187 @@
+//! A run whose journal comes to its greatest length.
+ghost use Rattle.std.specs.Prelude.{◌≡◌, IfOk, false};
+ghost use Rattle.web_disk.specs.Repeated.{repeat_view};
+
+use crate::outside::{Machine, PLAY};
+use crate::texts::{input_of, repeated};
+use server_command::{NoPast, command};
+use std::alloc::{AllocError, Global};
+use std::test::Fail;
+use web_disk::{Asked, Disk, Failures, Rack, RackFault, RepeatDisk};
+use web_outside::{ListDoor, ListSeeds, OpenGate, SetClock, TextSink, TextSource};
+
+const PAGES: &str = "(begin (send/suspend (lambda (u) \"a\")) (send/suspend (lambda (u) \"b\")))";
+
+// How the journal of a shelf of this script begins: the header, and the record of the shelf's number and its scripts up to the
+// length of the text, which stands behind it.
+const FIRST: &[u8] = &[
+    75, 83, 87, 69, 66, 0, 0, 6, 1, 89, 0, 0, 0, 1, 0, 0, 0, 0, 1, 0, 0, 0, 1, 0, 0, 0, b's', 71,
+    0, 0, 0,
+];
+
+// How a record of 1,048,576 bytes begins, its gate and length among them: segment 0 answered a page that is not there with a
+// text of 1,048,533 characters of code 0, and ended with a last page, without effects.
+const LONG: &[u8] = &[
+    1, 251, 255, 15, 0, 3, 0, 0, 0, 0, 0, 0, 0, 0, 0, 0, 0, 0, 0, 0, 0, 0, 0, 0, 0, 0, 0, 0, 0, 0,
+    3, 213, 255, 15, 0,
+];
+
+fn first_part(alloc: Global) -> Result<Vec<u8>, AllocError> {
+    let mut first = FIRST.to_vec(alloc)?;
+    first.extend_from_slice(PAGES.as_bytes())?;
+    Ok(first)
+}
+
+fn long_record(alloc: Global) -> Result<Vec<u8>, AllocError> {
+    let mut record = LONG.to_vec(alloc)?;
+    record.resize(1_048_576, 0)?;
+    Ok(record)
+}
+
+// A disk with nothing on it.
+fn empty_disk(alloc: Global) -> RepeatDisk
+    ensures { (repeat_view result).faults ≡ 0 }
+{
+    RepeatDisk::new(Vec::new(alloc), Vec::new(alloc), 0, Vec::new(alloc))
+}
+
+// A disk of the shelf, with 1,023 such records: it lacks 1,048,473 bytes of 2^30.
+fn long_disk(alloc: Global) -> Result<RepeatDisk, AllocError>
+    ensures { IfOk result (λ disk. (repeat_view disk).faults ≡ 0) }
+{
+    let first = first_part(alloc)?;
+    let record = long_record(alloc)?;
+    if first.len() != 102 || record.len() != 1_048_576 {
+        return Err(AllocError);
+    }
+    let gate = vec![in alloc; 0; 1]?;
+    Ok(RepeatDisk::new(first, record, 1_023, gate))
+}
+
+// A rack whose one disk, of number 0, is empty when it is taken first, and nearly full when it is taken again.
+#[derive(Drop)]
+struct FillingRack {
+    taken: bool,
+    lent: bool,
+    faults: u64,
+    failed: Failures,
+    asked: Asked,
+}
+
+impl FillingRack {
+    fn new() -> FillingRack
+        ensures lent { result.lent ≡ false }
+    {
+        FillingRack {
+            taken: false,
+            lent: false,
+            faults: 0,
+            failed: Failures::new(),
+            asked: Asked::new(),
+        }
+    }
+}
+
+impl Rack<RepeatDisk> for FillingRack {
+    ghost use Rattle.std.specs.Prelude.{false, ◌==◌, ◌&&◌};
+    ghost use Rattle.web_disk.specs.Asked.{asked_in};
+    ghost use Rattle.web_disk.specs.Failures.{failed_in};
+
+    ghost tells = { false };
+
+    // Nothing is told of what a disk may hold.
+    ghost view = { λ rack. record {
+      holds = λ n image. ⊥;
+      out = λ n. rack.lent && (n == 0);
+      faults = rack.faults;
+      failed = λ n. failed_in rack.failed n;
+      asked = asked_in rack.asked;
+    } };
+
+    fn faults(&self) -> u64 {
+        self.faults
+    }
+
+    fn take(
+        &mut self,
+        alloc: Global,
+        _directory: &str,
+        number: u32,
+    ) -> Result<RepeatDisk, RackFault> {
+        self.asked.note(number);
+        if number != 0 || self.lent {
+            return Err(RackFault::Memory);
+        }
+        let disk = if self.taken {
+            long_disk(alloc)
+        } else {
+            Ok(empty_disk(alloc))
+        };
+        let Ok(disk) = disk else {
+            return Err(RackFault::Memory);
+        };
+        self.taken = true;
+        self.lent = true;
+        Ok(disk)
+    }
+
+    fn give(&mut self, number: u32, disk: RepeatDisk) {
+        let faults = disk.faults();
+        self.faults = self.faults.saturating_add(faults);
+        self.failed.count(number, faults);
+        if number == 0 {
+            self.lent = false;
+        }
+    }
+}
+
+// The status of a run over this input and such a rack, and what it wrote.
+fn ran_full<R: Machine>(rt: &R, input: &str) -> Result<(u8, String), Fail> {
+    let alloc = rt.alloc();
+    let input = input.as_bytes().to_vec(alloc)?;
+    let mut source = TextSource::new(input, Vec::new(alloc), 4096);
+    let mut sink = TextSink::new(alloc, 1_000, Vec::new(alloc))?;
+    let mut rack = FillingRack::new();
+    let mut door = ListDoor::new(alloc, 0, Vec::new(alloc), Vec::new(alloc));
+    let mut seeds = ListSeeds::new(Vec::new(alloc));
+    let status = command(
+        rt,
+        alloc,
+        PLAY,
+        &mut source,
+        &mut sink,
+        &mut rack,
+        &mut door,
+        &SetClock::new(0),
+        &mut seeds,
+        &OpenGate,
+        &mut NoPast,
+    );
+    let text = String::from_str(alloc, str::from_utf8(sink.bytes())?)?;
+    Ok((status, text))
+}
+
+// A visit whose record has a text of so many zeros, and then one with a shorter text.
+fn full_steps(alloc: Global) -> Result<String, Fail> {
+    let steps = repeated(
+        alloc,
+        "crash 0\nget 0 /servlets/s\nget 0 /servlets/s;0*1*1*0000000000000000?n=",
+        "0",
+        1_048_400,
+        "\nget 0 /servlets/s;0*1*1*0000000000000000?n=1\n",
+    )?;
+    input_of(alloc, &[("s", PAGES)], steps.as_str())
+}
+
+// After the start the journal lacks 1,048,397 bytes of its greatest length: the first answer has a record of more.
+#[test]
+fn a_full_journal_takes_what_still_fits(rt: HostRuntime) -> Result<(), Fail> {
+    let input = full_steps(rt.alloc())?;
+    let (status, text) = ran_full(&rt, input.as_str())?;
+    assert_eq!(rt; status, 0);
+    assert_eq!(rt;
+        text.as_str(),
+        "shelf 0 live 0\n0 200 1\na\n0 503 journal-full\n0 200 1\nb\n"
+    );
+    Ok(())
+}
