@@ -9,10 +9,10 @@ use Rattle.instance_book.specs.declared.in_order.InOrder.{InOrder}
 use Rattle.instance_book.specs.declared.book.Book as kept
 use Rattle.instance_book.specs.Makes.{count_of}
 use Rattle.instance_book.specs.Views.{no_journal, instance_of}
-use Rattle.instance_book.specs.Admissions.{book_under}
+use Rattle.instance_book.specs.Standing.{book_under}
 use Rattle.instance_book.specs.Swept.{IsEmpty}
-use Rattle.instance_book.specs.Prepares.{rules_with}
-use Rattle.instance_book.specs.Redo.{told_of, names_told}
+use Rattle.instance_book.specs.Makes.{rules_with}
+use Rattle.book_redo.specs.Redo.{told_of, names_told}
 use Rattle.instance_book.proofs.Seen.{length_seen, length_mend, length_put, length_kept}
 use Rattle.journal_records.specs.Records.{Record, begins, changes, renews, draws}
 use Rattle.book_recovery.specs.declared.found.Found.{Found}

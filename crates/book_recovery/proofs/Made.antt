@@ -21,8 +21,9 @@ use Rattle.instance_book.specs.Orders.{numbers_of}
 use Rattle.instance_book.specs.Places.{given}
 use Rattle.instance_book.specs.Makes.{HasPlaces}
 use Rattle.instance_book.specs.Views.{Beside, no_journal, book_of, instances_of}
-use Rattle.instance_book.specs.Admissions.{book_under}
-use Rattle.instance_book.specs.Redo.{told_of, HasToldStates, is_read, names_told, IsFree, IsUntold, file_with, beside_with, IsRedone, Reopens}
+use Rattle.instance_book.specs.Standing.{book_under}
+use Rattle.book_redo.specs.Redo.{told_of, HasToldStates, is_read, names_told, IsFree, IsUntold, file_with, beside_with, IsRedone}
+use Rattle.instance_book.specs.Makes.{Reopens}
 use Rattle.journal_records.specs.Records.{Record, begins, changes, renews, draws}
 use Rattle.journal_records.specs.Reading.{read_record}
 use Rattle.setup_reader.specs.Texts.{setup_of_texts}

@@ -15,7 +15,7 @@ use Rattle.instance_book.specs.declared.instance.KeptInstance.{KeptInstance}
 use Rattle.instance_book.specs.Places.{IsPlaced}
 use Rattle.instance_book.specs.Views.{no_journal, script_in, instance_of, instances_of, book_of}
 use Rattle.instance_book.proofs.Seen.{all_at}
-use Rattle.instance_book.specs.Admissions.{book_under}
+use Rattle.instance_book.specs.Standing.{book_under}
 use Rattle.journal_records.specs.Records.{Record, begins, changes, renews, draws}
 use Rattle.journal_records.specs.Reading.{read_record}
 use Rattle.setup_reader.specs.Texts.{setup_of_texts}

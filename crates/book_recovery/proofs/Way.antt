@@ -16,9 +16,10 @@ use Rattle.instance_book.specs.declared.book.Book as kept
 use Rattle.instance_book.specs.Places.{given, own}
 use Rattle.instance_book.specs.Makes.{HasPlaces, HasItsStates}
 use Rattle.instance_book.specs.Views.{Beside, no_journal, book_of, instances_of}
-use Rattle.instance_book.specs.Admissions.{book_under}
+use Rattle.instance_book.specs.Standing.{book_under}
 use Rattle.instance_book.specs.Swept.{begun as begun_beside}
-use Rattle.instance_book.specs.Redo.{no_rules, told_of, HasToldStates, names_told, beside_with, IsRedone, Reopens}
+use Rattle.book_redo.specs.Redo.{no_rules, told_of, HasToldStates, names_told, beside_with, IsRedone}
+use Rattle.instance_book.specs.Makes.{Reopens}
 use Rattle.journal_records.specs.Records.{Record, begins, changes, renews, draws, body_of}
 use Rattle.journal_records.specs.Reading.{read_record}
 use Rattle.setup_reader.specs.Texts.{setup_of_texts}

@@ -8,7 +8,7 @@ use Rattle.replay_spec.specs.Invariant.{IsOrderly}
 use Rattle.instance_book.specs.declared.book.Book.{Book}
 use Rattle.instance_book.specs.Views.{Beside, book_of}
 use Rattle.instance_book.specs.Makes.{HasPlaces, HasSomeStates, HasItsStates}
-use Rattle.instance_book.specs.Redo.{HasToldStates}
+pub use Rattle.book_redo.specs.Redo.{HasToldStates}
 use Rattle.setup_reader.specs.Texts.{setup_of_texts}
 use Rattle.journal_spec.specs.Before.{Made}
 use Rattle.journal_spec.specs.Making.{Making, nothing, damaged, other, made_in}

@@ -14,8 +14,8 @@ use Rattle.instance_book.specs.Orders.{numbers_of}
 use Rattle.instance_book.specs.Makes.{count_of, HasPlaces, HasItsStates, HasWhatIsGiven}
 use Rattle.instance_book.specs.Swept.{IsEmpty}
 use Rattle.instance_book.specs.Views.{book_of}
-use Rattle.instance_book.specs.Admissions.{book_under}
-use Rattle.instance_book.specs.Redo.{HasToldStates, number_by, IsRedoneBy}
+use Rattle.instance_book.specs.Standing.{book_under}
+use Rattle.book_redo.specs.Redo.{HasToldStates, number_by, IsRedoneBy}
 use Rattle.machine_states.specs.Machine.{Suspended}
 use Rattle.journal_records.specs.Records.{Record, begins, changes, renews, draws}
 use Rattle.journal_records.specs.Reading.{read_record}

@@ -2,7 +2,7 @@ ghost use Rattle.std.specs.Prelude.{◌≡◌, ◌<◌, ◌≤◌, ◌+◌, ◌*
 ghost use Rattle.script_nodes.specs.Views.{library_of};
 ghost use Rattle.replay_spec.specs.Recovery.{is_repeated};
 ghost use Rattle.instance_book.specs.Makes.{count_of, HasPlaces};
-ghost use Rattle.instance_book.specs.Redo.{number_by};
+ghost use Rattle.book_redo.specs.Redo.{number_by};
 ghost use Rattle.journal_records.specs.Records.{IsInGrammar};
 ghost use Rattle.journal_records.specs.Views.{logged_of, script_of};
 ghost use Rattle.book_recovery.specs.Found.{HasStates};
@@ -11,6 +11,7 @@ ghost use Rattle.book_recovery.specs.declared.found.Found.TheVariants as found;
 
 use crate::found::Found;
 use crate::setup_scripts::told_setup;
+use book_redo::redo;
 use instance_book::{Book, InOrder, Numbered};
 use journal_records::{Logged, Origin, decode, records_are_exact};
 use script_nodes::{Library, ScriptText};
@@ -106,7 +107,7 @@ impl Reader {
     {
         let seen = self.sees(number_of(&logged))?;
         let mut book = book;
-        if book.redo(self.alloc, library, logged, seen)? {
+        if redo(self.alloc, &mut book, library, logged, seen)? {
             Ok(Some(book))
         } else {
             Ok(None)

@@ -2,13 +2,8 @@ pub mod Orders
 pub mod Lists
 pub mod Seen
 pub mod Marking
-pub mod Picked
 pub mod States
 pub mod Given
 pub mod Behind
-pub mod Lands
-pub mod Timely
-pub mod Itself
-pub mod Admitted
 pub mod Whole
 pub mod Redone

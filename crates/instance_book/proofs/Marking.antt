@@ -1,8 +1,7 @@
 -- Marks of pages that are kept in order.
-use Rattle.std.proofs.Common.{◌≡◌, ◌∙◌, ap, sym, subst, ℕ, zero, suc, ◌<◌, ◌+◌, ◌==◌, max, List, [], ◌∷◌, ◌++◌, ◌≤◌, append_assoc, append-nil, drop, map, get_or, set, length, Option, Some, None, Bool, true, false, refl, if◌then◌else◌, arith}
+use Rattle.std.proofs.Common.{◌≡◌, ◌∙◌, ap, sym, subst, ℕ, zero, suc, ◌<◌, ◌+◌, ◌==◌, max, List, [], ◌∷◌, drop, map, get_or, set, length, Option, Some, None, Bool, true, false, refl, if◌then◌else◌, arith}
 use Rattle.std.specs.List.{AllByRecursion, list_all}
 use Rattle.std.proofs.lemmas.Bool.{and_parts}
-use Rattle.std.proofs.lemmas.Option.{same_Some, none-some}
 use Rattle.std.proofs.lemmas.Bool.Decides.{nat_tests}
 use Rattle.replay_spec.specs.Book.{Use, Page, page_at, is_expired, is_evicted, is_over}
 use Rattle.replay_spec.specs.Change.{put_in_order, put_use, used_by, used_in, unless_gone, evict}
@@ -18,7 +17,7 @@ use Rattle.instance_book.specs.declared.page.KeptPage.{KeptPage}
 use Rattle.instance_book.specs.Orders.{Rises, IsAt, numbers_of}
 use Rattle.instance_book.specs.Views.{page_of, mark_of, marks_of, used_of, evicted_of}
 use Rattle.instance_book.specs.Places.{ChangesMarks}
-use Rattle.instance_book.specs.Uses.{use_if, used_one, unless_went, use_after, is_gone, is_over_by}
+use Rattle.instance_book.specs.Uses.{use_if, is_gone, is_over_by}
 use Rattle.instance_book.proofs.Orders.{Ascends, rises, ascends, number_at, length_numbers}
 use Rattle.instance_book.proofs.Lists.{first_at}
 use Rattle.instance_book.proofs.Seen.{seen_some}
@@ -253,70 +252,6 @@ module _ (ms : List Mark) (rising : IsRising number_of ms) (m : Mark) (o : Optio
       ∙ ap (evict m.number gone) (evictions_if o m.number ms rising))
 
 -- ---- uses one by one
-
-apart_used : (p n m : ℕ) (us : List Use) → p ≡ m → AreAbove (λ (u : Use). u.page) m us → us ≡ map (used_one p n) us
-apart_used p n m [] e h = refl
-apart_used p n m (u ∷ us) e h =
-    let low = h.0 in
-    let other : (u.page == p) ≡ false = grind (arith, nat_tests, low, e) in
-    let rest = apart_used p n m us e h.1 in grind (arith, other, rest)
-
-used_each : (p n : ℕ) (us : List Use) → IsRising (λ (u : Use). u.page) us → used_by p n us ≡ map (used_one p n) us
-used_each p n [] rising = refl
-used_each p n (u ∷ us) rising = by_test (u.page == p) refl (used_each p n us rising.1)
-  where
-    by_test : (b : Bool) → (u.page == p) ≡ b → used_by p n us ≡ map (used_one p n) us → used_by p n (u ∷ us) ≡ map (used_one p n) (u ∷ us)
-    by_test true e rest =
-        let same : p ≡ u.page = grind (arith, nat_tests, e) in
-        let apart = apart_used p n u.page us same rising.0 in grind (arith, e, apart)
-    by_test false e rest = grind (arith, e, rest)
-
-above_uses : (n : ℕ) (ms : List Mark) → AreAbove number_of n ms → AreAbove (λ (u : Use). u.page) n (uses_of ms)
-above_uses n [] h = tt
-above_uses n (m ∷ ms) h = by_gone m.gone refl (above_uses n ms h.1)
-  where
-    by_gone : (o : Option ℕ) → m.gone ≡ o → AreAbove (λ (u : Use). u.page) n (uses_of ms) → AreAbove (λ (u : Use). u.page) n (uses_of (m ∷ ms))
-    by_gone None f rest = let low = h.0 in grind (arith, f, rest, low)
-    by_gone (Some b) f rest = grind (arith, f, rest)
-
-uses_rise : (ms : List Mark) → IsRising number_of ms → IsRising (λ (u : Use). u.page) (uses_of ms)
-uses_rise [] h = tt
-uses_rise (m ∷ ms) h = by_gone m.gone refl (above_uses m.number ms h.0) (uses_rise ms h.1)
-  where
-    by_gone : (o : Option ℕ) → m.gone ≡ o → AreAbove (λ (u : Use). u.page) m.number (uses_of ms) → IsRising (λ (u : Use). u.page) (uses_of ms) → IsRising (λ (u : Use). u.page) (uses_of (m ∷ ms))
-    by_gone None f above rest = grind (arith, f, above, rest)
-    by_gone (Some b) f above rest = grind (arith, f, rest)
-
-pub used_of_each : (p n : ℕ) (ms : List Mark) → IsRising number_of ms → used_by p n (uses_of ms) ≡ map (used_one p n) (uses_of ms)
-used_of_each p n ms rising = used_each p n (uses_of ms) (uses_rise ms rising)
-
--- one page after the other
-pub used_more : (p n : ℕ) (x : Numbered KeptPage) (xs : List (Numbered KeptPage)) (us : List Use) → use_after p n (mark_of x) ≡ None
-    → us ++ map (used_one p n) (uses_of (map mark_of (x ∷ xs))) ≡ us ++ map (used_one p n) (uses_of (map mark_of xs))
-used_more p n x xs us none = by_gone x.item.gone refl none
-  where
-    by_gone : (o : Option ℕ) → x.item.gone ≡ o → use_after p n (mark_of x) ≡ None → us ++ map (used_one p n) (uses_of (map mark_of (x ∷ xs))) ≡ us ++ map (used_one p n) (uses_of (map mark_of xs))
-    by_gone None f e = absurd (none-some (used_one p n (use_of (mark_of x))) (sym e ∙ ap (λ (o : Option ℕ). unless_went o (used_one p n (use_of (mark_of x)))) f))
-    by_gone (Some b) f e = grind (arith, f)
-
-pub used_pushed : (p n : ℕ) (x : Numbered KeptPage) (xs : List (Numbered KeptPage)) (us : List Use) (u : Use) → use_after p n (mark_of x) ≡ Some u
-    → us ++ map (used_one p n) (uses_of (map mark_of (x ∷ xs))) ≡ (us ++ u ∷ []) ++ map (used_one p n) (uses_of (map mark_of xs))
-used_pushed p n x xs us u some = by_gone x.item.gone refl some
-  where
-    by_gone : (o : Option ℕ) → x.item.gone ≡ o → use_after p n (mark_of x) ≡ Some u → us ++ map (used_one p n) (uses_of (map mark_of (x ∷ xs))) ≡ (us ++ u ∷ []) ++ map (used_one p n) (uses_of (map mark_of xs))
-    by_gone None f e =
-        let its : used_one p n (use_of (mark_of x)) ≡ u = same_Some _ u (sym (ap (λ (o : Option ℕ). unless_went o (used_one p n (use_of (mark_of x)))) f) ∙ e) in
-        let seen : uses_of (map mark_of (x ∷ xs)) ≡ use_of (mark_of x) ∷ uses_of (map mark_of xs) = grind (arith, f) in
-        ap (λ (vs : List Use). us ++ map (used_one p n) vs) seen
-        ∙ (ap (λ (v : Use). us ++ v ∷ map (used_one p n) (uses_of (map mark_of xs))) its
-        ∙ sym (append_assoc us (u ∷ []) (map (used_one p n) (uses_of (map mark_of xs)))))
-    by_gone (Some b) f e = absurd (none-some u (sym (ap (λ (o : Option ℕ). unless_went o (used_one p n (use_of (mark_of x)))) f) ∙ e))
-
-pub used_up : (p n : ℕ) (xs : List (Numbered KeptPage)) (k : ℕ) (us : List Use) → length xs ≤ k → us ++ map (used_one p n) (uses_of (map mark_of (drop k xs))) ≡ us
-used_up p n [] zero us h = append-nil us
-used_up p n [] (suc k) us h = append-nil us
-used_up p n (x ∷ xs) zero us h = absurd (omega arith)
-used_up p n (x ∷ xs) (suc k) us h = used_up p n xs k us (omega arith)
 
 -- where no page is, there is no mark
 pub none_marked : (xs : List (Numbered KeptPage)) → map page_of xs ≡ [] → map mark_of xs ≡ []

@@ -240,3 +240,8 @@ length_put i (j ∷ js) = grind (arith, nat_tests, length_put i js)
 pub length_kept : {A : Type 0} (p : A → Bool) (is : List A) → length (filter p is) ≤ length is
 length_kept p [] = omega arith
 length_kept p (i ∷ is) = grind (arith, nat_tests, length_kept p is)
+
+-- two changes of the instance that is there which agree on it
+pub mend_agrees : (n : ℕ) (f g : Instance → Instance) (is : List Instance) (i : Instance) → instance_at n is ≡ Some i → f i ≡ g i → mend n f is ≡ mend n g is
+mend_agrees n f g [] i h e = refl
+mend_agrees n f g (j ∷ js) i h e = grind (arith, nat_tests, h, e, mend_agrees n f g js i)

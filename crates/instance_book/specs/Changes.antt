@@ -1,32 +1,29 @@
--- What a prepared visit makes of the book.
-use Rattle.std.specs.Prelude.{◌≡◌, ◌+◌, ◌^◌, ◌<◌, ℕ, max, List, [], ◌∷◌, length, Option, Some, None, ⊤}
+-- What a change makes of the book.
+use Rattle.std.specs.Prelude.{◌≡◌, ◌+◌, ◌^◌, ◌<◌, ℕ, List, [], ◌∷◌, length, Option, Some, None, ⊤}
 use Rattle.script_value.specs.declared.outcome.TxName.{TxName}
 use Rattle.script_nodes.specs.Setup.{Named, Library}
 use Rattle.replay_spec.specs.Book as spec
 use Rattle.replay_spec.specs.Book.{at_number}
 use Rattle.replay_spec.specs.Change.{put_page, put_instance, put_use, used_by, used_in, unless_gone, evict, mend, without}
-use Rattle.replay_spec.specs.Step as step
-use Rattle.replay_spec.specs.Step.{Decision, replies, records}
 use Rattle.page_marks.specs.Marks.{use_of, uses_of, evictions_of}
-use Rattle.machine_states.specs.Views.{suspended_of}
-use Rattle.frame_codec.specs.Spelling.{StateHasBytes}
 use Rattle.journal_records.specs.Views.{page_change, ending_of, finish_of}
 use Rattle.instance_book.specs.declared.numbered.Numbered.{Numbered}
 use Rattle.instance_book.specs.declared.in_order.InOrder.{InOrder}
 use Rattle.instance_book.specs.declared.instance.KeptInstance.{KeptInstance}
 use Rattle.instance_book.specs.declared.after.After.{After}
 use Rattle.instance_book.specs.declared.after.Show.{Show}
-use Rattle.instance_book.specs.declared.prepared.Opening.{Opening}
-use Rattle.instance_book.specs.declared.prepared.Extension.{Extension}
-use Rattle.instance_book.specs.declared.prepared.Change.{Change}
-use Rattle.instance_book.specs.declared.prepared.Change.TheVariants.{Opens, Extends, Ends, Finishes}
-use Rattle.instance_book.specs.declared.prepared.Prepared.{Prepared}
+use Rattle.instance_book.specs.declared.change.Opening.{Opening}
+use Rattle.instance_book.specs.declared.change.Extension.{Extension}
+use Rattle.instance_book.specs.declared.change.Change.{Change}
+use Rattle.instance_book.specs.declared.change.Change.TheVariants.{Opens, Extends, Ends, Finishes}
 use Rattle.instance_book.specs.declared.book.Book.{Book}
 use Rattle.instance_book.specs.Orders.{numbers_of}
 use Rattle.instance_book.specs.Lists.{HasRoom}
-use Rattle.instance_book.specs.Views.{page_of, pages_of, mark_of, script_in, instance_with, instance_of, instances_of, reply_of}
-use Rattle.instance_book.specs.Places.{CanTake, Source, own, source_in, kept_at, shown_in, HasState, IsNextAt}
+use Rattle.instance_book.specs.Views.{page_of, pages_of, mark_of, script_in, instance_with, instance_of, instances_of}
+use Rattle.instance_book.specs.Places.{CanTake, Source, source_in, kept_at, shown_in, HasState, IsNextAt}
 use Rattle.instance_book.specs.Makes.{shelf_from, HasStatesFrom, HasPlaces}
+use Rattle.script_value.specs.Val.{Val}
+use Rattle.instance_cells.specs.Cells.{Effect, commit}
 
 -- the one that came anew, or else what there is
 abbrev pub renewed : {A : Type 0} → A → Option A → A
@@ -81,15 +78,6 @@ inside_of (Extends x) = x.show.page.item.inside.items
 inside_of (Ends e) = e.inside.items
 inside_of (Finishes f) = f.inside.items
 
--- the decision of this reply and of this change, if there is one
-abbrev pub decision_by : step.Reply → Option Change → Decision
-decision_by r None = replies r
-decision_by r (Some c) = records r (change_of c) (inside_of c)
-
--- the decision that is prepared
-abbrev pub decision_of : Prepared → Decision
-decision_of p = decision_by (reply_of p.reply) p.change
-
 -- the instance that an opening begins, with its page alone
 abbrev pub begun_with : List Named → Opening → spec.Instance
 begun_with all o = record (instance_with all o.page.number o.instance) {
@@ -122,21 +110,6 @@ instances_after all (Some c) is = instances_with all c is
 abbrev pub changed_by : Library → Option Change → spec.Book → spec.Book
 changed_by library c b = record b { instances = instances_after library.all c b.instances }
 
--- the book after all that is prepared: the change, if there is one, and what is logged
-abbrev pub put_into : Library → Prepared → spec.Book → spec.Book
-put_into library p b =
-    record (changed_by library p.change b) { logged = max b.logged p.logged }
-
--- the deadline of the page that a change shows, if any, is below the end of those that can be told
-abbrev pub HasDeadlineIn : Change → Type 0
-HasDeadlineIn (Opens o) = o.record.deadline < 2 ^ 63
-HasDeadlineIn (Extends x) = x.record.deadline < 2 ^ 63
-HasDeadlineIn _ = ⊤
-
-abbrev pub HasDeadlineBy : Option Change → Type 0
-HasDeadlineBy None = ⊤
-HasDeadlineBy (Some c) = HasDeadlineIn c
-
 -- the new instance has room for its page, and the book for the instance
 pub record HasRoomToOpen (o : Opening) (b : Book) : Type 0 where
   pub page : HasRoom o.instance.pages
@@ -152,11 +125,6 @@ CanShow s gone i = CanTake s.page gone i.pages
 abbrev pub CanShowAt : (instance : ℕ) → Show → (gone : List ℕ) → InOrder KeptInstance → Type 0
 CanShowAt n s gone is =
     (i : Numbered KeptInstance) → at_number (λ j. j.number) n is.things.items ≡ Some i → CanShow s gone i.item
-
--- a fact of the extension that a change is, if it is one
-abbrev pub IfExtends : Option Change → (Extension → Type 0) → Type 0
-IfExtends (Some (Extends x)) P = P x
-IfExtends _ P = ⊤
 
 -- the book has the room that a change takes, and the page that it shows can be shown there
 abbrev pub HasRoomWith : Change → Book → Type 0
@@ -189,10 +157,6 @@ abbrev pub HasStateFrom : List Named → Source ℕ → List spec.Instance → O
 HasStateFrom all shelf is None = ⊤
 HasStateFrom all shelf is (Some c) = HasStateIn all shelf is c
 
--- the page that a change shows, if any, has the state of its chain
-abbrev pub HasStateBy : List Named → (shelf : ℕ) → List spec.Instance → Option Change → Type 0
-HasStateBy all shelf is c = HasStateFrom all (own shelf) is c
-
 -- an instance that a change opens is of one of the scripts
 abbrev pub IsPlacedIn : List Named → Change → Type 0
 IsPlacedIn all (Opens o) = o.instance.script < length all
@@ -207,18 +171,21 @@ IsPlacedBy all (Some c) = IsPlacedIn all c
 abbrev pub KeepsPlacesBy : Option Change → (old new : Book) → Type 0
 KeepsPlacesBy c old new = (all : List Named) → IsPlacedBy all c → HasPlaces all old → HasPlaces all new
 
--- the state of a change's new page has a spelling
-abbrev pub IsSpelledIn : Change → Type 0
-IsSpelledIn (Opens o) = StateHasBytes (suspended_of o.state)
-IsSpelledIn (Extends x) = StateHasBytes (suspended_of x.state)
-IsSpelledIn _ = ⊤
-
-abbrev pub IsSpelledBy : Option Change → Type 0
-IsSpelledBy None = ⊤
-IsSpelledBy (Some c) = IsSpelledIn c
-
 -- where the change's new page has its state, each page of the book goes on to have its own
 abbrev pub KeepsStatesBy : Option Change → (old new : Book) → Type 0
 KeepsStatesBy c old new =
     (source : Source ⊤) (all : List Named) → HasStateFrom all (shelf_from source old.shelf) (instances_of all old.instances) c
     → HasStatesFrom source all old → HasStatesFrom source all new
+
+-- the instance that a start of the script of this place begins over these cells, without its first page
+abbrev pub begun_at : List Named → (place : ℕ) → (cells : List Val) → (number : ℕ) → List Effect → (left : List TxName) → spec.Instance
+begun_at all place cells n effects left = record {
+  number = n;
+  script = script_in all place;
+  cells = commit effects cells;
+  closed = left;
+  revoked = [];
+  used = [];
+  evicted = [];
+  pages = [];
+}

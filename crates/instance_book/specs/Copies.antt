@@ -1,8 +1,7 @@
--- Copies of what is prepared.
-use Rattle.std.specs.Prelude.{◌≡◌, ℕ, List, Option}
+-- Copies of what is kept and of changes.
+use Rattle.std.specs.Prelude.{◌≡◌, ℕ, List}
 use Rattle.script_nodes.specs.Setup.{Named}
 use Rattle.replay_spec.specs.Book as spec
-use Rattle.replay_spec.specs.Step as step
 use Rattle.machine_states.specs.Views.{suspended_of}
 use Rattle.journal_records.specs.Views.{page_change}
 use Rattle.journal_records.specs.declared.records.PageRecord.{PageRecord}
@@ -10,13 +9,12 @@ use Rattle.instance_book.specs.declared.in_order.InOrder.{InOrder}
 use Rattle.instance_book.specs.declared.page.KeptPage.{KeptPage}
 use Rattle.instance_book.specs.declared.instance.KeptInstance.{KeptInstance}
 use Rattle.instance_book.specs.declared.after.Show.{Show}
-use Rattle.instance_book.specs.declared.prepared.Opening.{Opening}
-use Rattle.instance_book.specs.declared.prepared.Extension.{Extension}
-use Rattle.instance_book.specs.declared.prepared.Prepared.{Prepared}
-use Rattle.instance_book.specs.declared.prepared.Change.{Change}
+use Rattle.instance_book.specs.declared.change.Opening.{Opening}
+use Rattle.instance_book.specs.declared.change.Extension.{Extension}
+use Rattle.instance_book.specs.declared.change.Change.{Change}
 use Rattle.instance_book.specs.declared.book.Book.{Book}
 use Rattle.instance_book.specs.Views.{page_of, pages_of, mark_of, marks_of, instance_with}
-use Rattle.instance_book.specs.Changes.{shown_with, begun_with, change_of, inside_of, decision_by, decision_of, instances_after, HasRoomWith, HasRoomFor, HasStateIn, HasStateFrom, instances_with}
+use Rattle.instance_book.specs.Changes.{shown_with, begun_with, change_of, inside_of, HasRoomWith, HasStateIn, instances_with}
 use Rattle.instance_book.specs.Places.{Source, kept_at, shown_in}
 
 -- a copy stands for the same instance, under each number and list of scripts
@@ -69,21 +67,3 @@ pub record IsSameChange (c copy : Change) : Type 0 where
   pub instances : (all : List Named) (is : List spec.Instance) → instances_with all copy is ≡ instances_with all c is
   pub room : (b : Book) → HasRoomWith c b → HasRoomWith copy b
   pub states : (all : List Named) (shelf : Source ℕ) (is : List spec.Instance) → HasStateIn all shelf is c → HasStateIn all shelf is copy
-
--- a copy of a change, if there is one, is the same decision and makes the same of the instances; where the one has its room, and its page
--- its state, so has the copy
-pub record IsSameIf (c copy : Option Change) : Type 0 where
-  pub decision : (r : step.Reply) → decision_by r copy ≡ decision_by r c
-  pub instances : (all : List Named) (is : List spec.Instance) → instances_after all copy is ≡ instances_after all c is
-  pub room : (b : Book) → HasRoomFor c b → HasRoomFor copy b
-  pub states : (all : List Named) (shelf : Source ℕ) (is : List spec.Instance) → HasStateFrom all shelf is c → HasStateFrom all shelf is copy
-
--- a copy of what is prepared has the same reply and decision and makes the same of the instances; where the one has its room, and its page
--- its state, so has the copy
-pub record IsSame (p copy : Prepared) : Type 0 where
-  pub reply : copy.reply ≡ p.reply
-  pub logged : copy.logged ≡ p.logged
-  pub decision : decision_of copy ≡ decision_of p
-  pub instances : (all : List Named) (is : List spec.Instance) → instances_after all copy.change is ≡ instances_after all p.change is
-  pub room : (b : Book) → HasRoomFor p.change b → HasRoomFor copy.change b
-  pub states : (all : List Named) (shelf : Source ℕ) (is : List spec.Instance) → HasStateFrom all shelf is p.change → HasStateFrom all shelf is copy.change

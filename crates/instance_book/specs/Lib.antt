@@ -7,12 +7,7 @@ pub mod Fronts
 pub mod Makes
 pub mod Fits
 pub mod Changes
-pub mod Admissions
-pub mod Homes
+pub mod Standing
 pub mod Swept
-pub mod Prepares
 pub mod Segments
 pub mod Copies
-pub mod Laws
-pub mod Before
-pub mod Redo

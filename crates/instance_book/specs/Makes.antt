@@ -1,5 +1,5 @@
 -- What a call makes of a book, and of a list of instances.
-use Rattle.std.specs.Prelude.{◌≡◌, ℕ, List, length, Option, option_map, IfSome, ⊤}
+use Rattle.std.specs.Prelude.{◌≡◌, ℕ, List, length, Option, option_map, IfSome, ⊤, None, ◌≤◌, ◌^◌, max}
 use Rattle.std.specs.Borrow.{Bor}
 use Rattle.script_nodes.specs.Setup.{Named, Library}
 use Rattle.replay_spec.specs.Book as spec
@@ -12,6 +12,8 @@ use Rattle.instance_book.specs.declared.book.Book.{Book}
 use Rattle.instance_book.specs.Views.{instance_of, instances_of, Beside, book_of}
 use Rattle.machine_states.specs.Machine.{Suspended}
 use Rattle.instance_book.specs.Places.{Source, own, given, seen_from, IsKept, AreKept, IsPlaced, ArePlaced, IsNextAt}
+use Rattle.replay_spec.specs.Rules.{Rules}
+use Rattle.replay_spec.specs.Book.{reopened}
 
 -- whatever the scripts, f made the new instances of the old ones
 abbrev pub AllBecome : (List spec.Instance → List spec.Instance) → (old new : InOrder KeptInstance) → Type 0
@@ -88,3 +90,22 @@ KeepsStates old new =
 abbrev pub StayKeptNext : (instance : ℕ) → Numbered KeptPage → (old new : InOrder KeptInstance) → Type 0
 StayKeptNext n p old new =
     (all : List Named) (shelf : Source ℕ) → IsNextAt shelf (instances_of all old) n p → AreKept all shelf old → AreKept all shelf new
+
+-- what a visit runs under beside no journal: its record is measured by whoever keeps one
+abbrev pub rules_with : (fuel life instances pages : ℕ) → Rules
+rules_with fuel life instances pages =
+    record { fuel = fuel; life = life; instances = instances; pages = pages; journal = None }
+
+-- the book is made so, as after a crash, and its pages stay
+pub record Reopens (f : spec.Book → spec.Book) (old new : Book) : Type 0 where
+  pub book : (library : Library) (beside : Beside)
+      → book_of library (record beside { down = None }) new ≡ reopened (f (book_of library beside old))
+  pub states : KeepsStates old new
+
+-- the number that is counted stays one that can be drawn
+abbrev pub StaysLow : (old new : Book) → Type 0
+StaysLow old new = old.logged ≤ 2 ^ 62 → new.logged ≤ 2 ^ 62
+
+-- the book where records count up to this number
+abbrev pub logged_to : ℕ → spec.Book → spec.Book
+logged_to n b = record b { logged = max b.logged n }

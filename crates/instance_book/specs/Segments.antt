@@ -1,4 +1,4 @@
--- What the program makes of a segment: of its effects, of the transactions inside which its page is, and of those that it left.
+-- What the program makes of a segment that a record tells: of its effects, of its page, and of the transactions that it left.
 use Rattle.std.specs.Prelude.{◌≡◌, ℕ, List, [], ◌∷◌, map, Option, Some, None}
 use Rattle.script_value.specs.Val.{Val, list, no_vals}
 use Rattle.script_value.specs.declared.outcome.TxName.{TxName}
@@ -10,8 +10,7 @@ use Rattle.instance_cells.specs.declared.effect.Effect.{Effect}
 use Rattle.instance_cells.specs.Views.{effect_of}
 use Rattle.machine_states.specs.Views.{suspended_of}
 use Rattle.replay_spec.specs.Book as spec
-use Rattle.replay_spec.specs.Change.{revoked_by, done, shown_by, ended_by}
-use Rattle.replay_spec.specs.Eviction.{goes_for}
+use Rattle.replay_spec.specs.Change.{revoked_by, done, shown_by}
 use Rattle.kept_states.specs.Kept.{Kept, kept_of}
 use Rattle.journal_records.specs.declared.records.PageRecord.{PageRecord}
 use Rattle.instance_book.specs.declared.numbered.Numbered.{Numbered}
@@ -19,17 +18,12 @@ use Rattle.instance_book.specs.declared.in_order.InOrder.{InOrder}
 use Rattle.instance_book.specs.declared.page.KeptPage.{KeptPage}
 use Rattle.instance_book.specs.declared.instance.KeptInstance.{KeptInstance}
 use Rattle.instance_book.specs.declared.after.After.{After}
-use Rattle.instance_book.specs.declared.prepared.Opening.{Opening}
-use Rattle.instance_book.specs.declared.prepared.Extension.{Extension}
-use Rattle.instance_book.specs.declared.prepared.Prepared.{Prepared}
-use Rattle.instance_book.specs.declared.ticket.Ticket.{Ticket}
-use Rattle.instance_book.specs.declared.shown.ShownPage.{ShownPage}
+use Rattle.instance_book.specs.declared.change.Opening.{Opening}
+use Rattle.instance_book.specs.declared.change.Extension.{Extension}
 use Rattle.instance_book.specs.declared.shown.ShownState.{ShownState}
-use Rattle.instance_book.specs.declared.prepare.Done.{Done}
-use Rattle.instance_book.specs.Views.{page_of, pages_of, mark_of, used_of, instance_with, instance_of}
-use Rattle.instance_book.specs.Places.{CanFollow, kept_at, shown_in}
-use Rattle.instance_book.specs.Changes.{IfExtends, renewed_by, left_with, shown_with, begun_with, gone_in}
-use Rattle.instance_book.specs.Prepares.{begun_at, next_page, ending_by, IsOpening, IsExtension, IsEnding, IsFinish, OpensTo, ExtendsTo}
+use Rattle.instance_book.specs.Views.{page_of, pages_of, mark_of, instance_with}
+use Rattle.instance_book.specs.Places.{kept_at, shown_in}
+use Rattle.instance_book.specs.Changes.{renewed_by, left_with, shown_with, begun_with, gone_in, begun_at}
 
 -- the numbers that are revoked after a page of this kind, whichever were before
 abbrev pub Revokes : SendKind → InOrder KeptPage → Option (InOrder (Unit {0})) → Type 0
@@ -98,53 +92,3 @@ pub record IsExtendedBy (r : PageRecord) (parent : ℕ) (answer : Val) (p : Show
       → shown_with x.show (gone_in x) (instance_with all n i.item)
       ≡ shown_by (effects_in r) r.left.items r.kind r.evicted.items (new_in r (Some parent) answer p.inside.items) (instance_with all n i.item)
   pub state : suspended_of x.state ≡ suspended_of p.state
-
--- ---- of a ticket
-
--- what the segment of a page, for which these went, makes of an instance whose page it answered
-abbrev pub gone_on : Ticket → (parent : ℕ) → ShownPage → (gone : List ℕ) → spec.Instance → spec.Instance
-gone_on t parent p gone i =
-    let effects = map effect_of p.effects.items in
-    shown_by effects p.left.items p.kind gone (next_page t parent effects p.inside.items p.deadline) i
-
--- the pages of an instance that go for the page of an answer, where so many may be left with it
-abbrev pub goers : (limit : ℕ) → Ticket → (parent : ℕ) → Numbered KeptInstance → List ℕ
-goers limit t parent i = goes_for limit parent t.number (used_of i.item.pages)
-
--- what is prepared for a page that an answer showed, where so many pages may be left
-abbrev pub Shows : Ticket → (parent : ℕ) → (bytes : List ℕ) → ShownPage → (limit : ℕ) → Numbered KeptInstance → Prepared → Type 0
-Shows t parent bytes p limit i made =
-    let gone = goers limit t parent i in
-    (all : List Named)
-    → IsExtension made t (instance_of all i) parent bytes (map effect_of p.effects.items) p.inside.items p.left.items p.kind p.deadline gone (gone_on t parent p gone)
-
--- the extension that is prepared, if it is one, has a page that can follow those of the instance
-abbrev pub CanBeShown : Numbered KeptInstance → Prepared → Type 0
-CanBeShown i p =
-    IfExtends p.change (λ x. CanFollow x.show.page (gone_in x) (pages_of i.item.pages) (used_of i.item.pages))
-
--- what is prepared for a page with which an answer ended
-abbrev pub EndsOn : Ticket → (parent : ℕ) → (bytes : List ℕ) → Done → Numbered KeptInstance → Prepared → Type 0
-EndsOn t parent bytes d i p =
-    let effects = map effect_of d.effects.items in
-    (all : List Named)
-    → IsEnding p t (instance_of all i) parent bytes effects d.inside.items d.left.items (ended_by (ending_by t i.number parent effects d.left.items))
-
--- what is prepared for a page with which an answer finished
-abbrev pub FinishesOn : Ticket → (instance parent : ℕ) → (bytes : List ℕ) → List Effect → (inside : List TxName) → Prepared → Type 0
-FinishesOn t instance parent bytes effects inside p = IsFinish p t instance parent bytes (map effect_of effects) inside
-
--- what is prepared for a page that a start showed
-abbrev pub OpensOn : Ticket → (bytes : List ℕ) → ShownPage → Prepared → Type 0
-OpensOn t bytes page p =
-    IsOpening p t bytes (map effect_of page.effects.items) page.inside.items page.left.items page.kind page.deadline
-
--- the first page of an instance that is prepared has the state of the page that was shown
-abbrev pub KeepsFirstState : Ticket → ShownPage → Prepared → Type 0
-KeepsFirstState t page p =
-    OpensTo t (map effect_of page.effects.items) page.inside.items (suspended_of page.state) p.change
-
--- the page that is prepared for an answer has the state of the page that was shown
-abbrev pub KeepsNextState : Ticket → (instance answered : ℕ) → ShownPage → Prepared → Type 0
-KeepsNextState t instance answered page p =
-    ExtendsTo t instance answered (map effect_of page.effects.items) page.inside.items (suspended_of page.state) p.change

@@ -6,7 +6,7 @@ use Rattle.replay_spec.specs.Book as spec
 use Rattle.replay_spec.specs.Book.{at_number, is_live}
 use Rattle.replay_spec.specs.Rules.{Journal, Rules, begun_length, first_file, empty_book}
 use Rattle.instance_book.specs.declared.book.Book.{Book}
-use Rattle.instance_book.specs.Views.{pages_of, Beside, book_of}
+use Rattle.instance_book.specs.Views.{Beside, book_of}
 
 -- the book at this tick, without the instances whose pages are all expired or evicted
 abbrev pub swept : ℕ → spec.Book → spec.Book
@@ -19,10 +19,6 @@ cells_in n b = option_map (λ i. i.cells) (spec.instance_at n b.instances)
 -- the cells that the program keeps of the instance of a number, if there is one
 abbrev pub cells_at : ℕ → Book → Option (List Val)
 cells_at n b = option_map (λ i. i.item.cells) (at_number (λ i. i.number) n b.instances.things.items)
-
--- the pages that the program keeps of the instance of a number, if there is one
-abbrev pub pages_at : ℕ → Book → Option (List spec.Page)
-pages_at n b = option_map (λ i. pages_of i.item.pages) (at_number (λ i. i.number) n b.instances.things.items)
 
 -- beside a book with nothing in it: its journal has this setup alone
 abbrev pub begun : Option Journal → List Named → Beside

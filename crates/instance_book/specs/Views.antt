@@ -1,26 +1,17 @@
 -- What the program's book stands for in the definitions.
 use Rattle.std.specs.Prelude.{◌≡◌, ℕ, List, [], map, get_or, Option, Some, None}
 use Rattle.script_value.specs.Val.{list, no_vals}
-use Rattle.script_value.specs.Views.{meaning}
-use Rattle.script_value.specs.declared.outcome.Reply.{Reply}
-use Rattle.script_value.specs.declared.outcome.Reply.TheVariants as reply
-use Rattle.script_value.specs.declared.value.Value.{Value}
 use Rattle.script_nodes.specs.Core.{lit, no_cores}
 use Rattle.script_nodes.specs.Setup.{Named, Library}
-use Rattle.page_names.specs.Views.{target_of}
-use Rattle.page_names.specs.declared.names.Target.{Target}
 use Rattle.replay_spec.specs.Book as spec
 use Rattle.replay_spec.specs.Book.{at_number, Doubt, File}
 use Rattle.replay_spec.specs.Rules.{first_file}
-use Rattle.replay_spec.specs.Next as next
-use Rattle.replay_spec.specs.Step as step
 use Rattle.page_marks.specs.Marks.{Mark, uses_of, evictions_of}
 use Rattle.instance_book.specs.declared.numbered.Numbered.{Numbered}
 use Rattle.instance_book.specs.declared.in_order.InOrder.{InOrder}
 use Rattle.instance_book.specs.declared.page.KeptPage.{KeptPage}
 use Rattle.instance_book.specs.declared.instance.KeptInstance.{KeptInstance}
 use Rattle.instance_book.specs.declared.book.Book.{Book}
-use Rattle.instance_book.specs.declared.ticket.Ticket.{Ticket}
 use Rattle.instance_book.specs.Orders.{numbers_of}
 use Rattle.instance_book.specs.Lists.{HasRoom}
 
@@ -105,33 +96,7 @@ book_of library beside b = record {
   instances = instances_of library.all b.instances;
 }
 
-abbrev pub ticket_of : Ticket → next.Ticket
-ticket_of t = record { target = target_of t.target; answer = meaning t.answer; number = t.number; nonce = t.nonce }
-
--- the ticket of a take
-abbrev pub ticket_for : Target → Value → (number nonce : ℕ) → next.Ticket
-ticket_for target answer number nonce =
-    record { target = target_of target; answer = meaning answer; number = number; nonce = nonce }
-
-abbrev pub IsTicketFor : Target → Value → (number nonce : ℕ) → Ticket → Type 0
-IsTicketFor target answer number nonce t = ticket_of t ≡ ticket_for target answer number nonce
-
 -- there is room for one page more in the instance of a number
 abbrev pub HasRoomAt : ℕ → InOrder KeptInstance → Type 0
 HasRoomAt n is =
     (i : Numbered KeptInstance) → at_number (λ j. j.number) n is.things.items ≡ Some i → HasRoom i.item.pages
-
-abbrev pub reply_of : Reply → step.Reply
-reply_of (reply.Page bytes url) = step.shown bytes url
-reply_of (reply.Finished bytes) = step.finished bytes
-reply_of (reply.Ended bytes) = step.ended bytes
-reply_of (reply.Refused r) = step.refusal r
-reply_of (reply.Fault f) = step.fault f
-reply_of (reply.Fuel cost) = step.out_of_fuel cost
-reply_of (reply.ShelfFull count) = step.shelf_full count
-reply_of (reply.Oversize length) = step.oversize length
-reply_of (reply.JournalFull length) = step.journal_full length
-reply_of (reply.DiskFault count) = step.disk_failed count
-reply_of (reply.Down count) = step.down count
-reply_of reply.Worn = step.worn
-reply_of reply.Memory = step.memory

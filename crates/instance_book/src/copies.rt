@@ -4,15 +4,15 @@ ghost use Rattle.instance_book.specs.Lists.{HasRoom};
 ghost use Rattle.instance_book.specs.Views.{page_of, mark_of};
 ghost use Rattle.instance_book.specs.Places.{kept_at, StayPlaced, StayKept};
 ghost use Rattle.instance_book.specs.Makes.{AllBecome, StaysSame, KeepsPlaces, KeepsStates};
-ghost use Rattle.instance_book.specs.Copies.{IsSamePages, IsSameInstance, BeginsAlike, IsSameShow, IsSamePage, IsSameExtension, IsSameChange, IsSameIf, IsSame, TellsAlike, BeginsOverSame};
+ghost use Rattle.instance_book.specs.Copies.{IsSamePages, IsSameInstance, BeginsAlike, IsSameShow, IsSamePage, IsSameExtension, IsSameChange, TellsAlike, BeginsOverSame};
 
 use crate::after::{After, Show};
 use crate::book::Book;
+use crate::change::{Change, Ending, Extension, Finish, Opening};
 use crate::in_order::InOrder;
 use crate::instance::KeptInstance;
 use crate::numbered::Numbered;
 use crate::page::KeptPage;
-use crate::prepared::{Change, Ending, Extension, Finish, Opening, Prepared};
 use crate::records::{clone_ended, clone_finish, clone_page};
 use std::alloc::{AllocError, Global};
 
@@ -68,9 +68,7 @@ impl KeptInstance {
             pages: self.pages.try_clone(alloc)?,
         })
     }
-}
 
-impl KeptInstance {
     // A copy, with room for one page more.
     fn clone_with_room(&self, alloc: Global) -> Result<KeptInstance, AllocError>
         ensures instance { IfOk result (IsSameInstance self.now) }
@@ -222,32 +220,6 @@ impl Change {
             Change::Ends(ending) => Ok(Change::Ends(ending.try_clone(alloc)?)),
             Change::Finishes(finish) => Ok(Change::Finishes(finish.try_clone(alloc)?)),
         }
-    }
-}
-
-// A copy of a change, where there is one.
-fn clone_change(alloc: Global, change: &Option<Change>) -> Result<Option<Change>, AllocError>
-    ensures { IfOk result (IsSameIf change.now) }
-{
-    let Some(change) = change else {
-        return Ok(None);
-    };
-    let copy = change.try_clone(alloc)?;
-    Ok(Some(copy))
-}
-
-impl Prepared {
-    /// A copy, equal to its source: where there is room for the one, there is for the other.
-    pub fn try_clone(&self, alloc: Global) -> Result<Prepared, AllocError>
-        ensures { IfOk result (IsSame self.now) }
-    {
-        let reply = self.reply.try_clone(alloc)?;
-        let change = clone_change(alloc, &self.change)?;
-        Ok(Prepared {
-            reply,
-            logged: self.logged,
-            change,
-        })
     }
 }
 

@@ -1,7 +1,8 @@
-ghost use Rattle.std.specs.Prelude.{filter, OnOk};
+ghost use Rattle.std.specs.Prelude.{◌≡◌, filter, OnOk};
+ghost use Rattle.std.specs.Option.{option_copied};
 ghost use Rattle.replay_spec.specs.Book.{is_live};
 ghost use Rattle.replay_spec.specs.Change.{mend, without};
-ghost use Rattle.instance_book.specs.Lists.{HasRoom};
+ghost use Rattle.instance_book.specs.Lists.{HasRoom, thing_at};
 ghost use Rattle.instance_book.specs.Views.{HasRoomAt};
 ghost use Rattle.instance_book.specs.Places.{StayKept, StayKeptWith, StayPlaced, StayPlacedWith};
 ghost use Rattle.instance_book.specs.Makes.{AllBecome, PutsInstance, IsInstanceAt, IsPlacedAmong, IsKeptAmong, StayKeptNext};
@@ -16,6 +17,7 @@ use std::alloc::AllocError;
 impl InOrder<KeptInstance> {
     /// The instance of a number.
     pub fn instance(&self, number: u64) -> Option<&Numbered<KeptInstance>>
+        ensures thing { option_copied result ≡ thing_at number self.now }
         ensures instance { IsInstanceAt number self.now result }
         ensures placed { IsPlacedAmong self.now result }
         ensures states { IsKeptAmong self.now result }

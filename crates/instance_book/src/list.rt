@@ -2,6 +2,7 @@ ghost use Rattle.std.specs.Prelude.{◌≡◌, [], length, IfOk, IfSome, IfNone,
 ghost use Rattle.std.specs.Option.{option_copied};
 ghost use Rattle.replay_spec.specs.Admission.{is_one};
 ghost use Rattle.instance_book.specs.Orders.{Rises, IsAt, Finds, numbers_of};
+ghost use Rattle.instance_book.specs.Lists.{HasRoom, HasNone, HasNumbersOf, thing_at, things_with, things_without};
 
 use crate::in_order::InOrder;
 use crate::numbered::Numbered;
@@ -17,8 +18,6 @@ fn search<T: Drop>(things: &[Numbered<T>], number: u64) -> Result<usize, usize>
 }
 
 impl<T: Drop> InOrder<T> {
-    ghost use Rattle.instance_book.specs.Lists.{HasRoom, HasNone, HasNumbersOf, thing_at, things_with, things_without};
-
     /// Nothing; it takes no memory.
     pub fn new(alloc: Global) -> InOrder<T>
         ensures { result.things.items ≡ [] }
@@ -43,6 +42,13 @@ impl<T: Drop> InOrder<T> {
         ensures { result ≡ length self.now.things.items }
     {
         self.things.len()
+    }
+
+    /// The things, in the order of their numbers.
+    pub fn as_slice(&self) -> &[Numbered<T>]
+        ensures { result.now ≡ self.now.things.items }
+    {
+        self.things.as_slice()
     }
 
     /// The thing of a number.

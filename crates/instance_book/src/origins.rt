@@ -54,8 +54,8 @@ fn front_of(
     }
 }
 
-// The state of a page.
-pub(crate) fn state_of(
+/// The state of a page.
+pub fn state_of(
     alloc: Global,
     script: &NamedScript,
     pages: &InOrder<KeptPage>,

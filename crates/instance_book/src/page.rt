@@ -1,3 +1,6 @@
+ghost use Rattle.std.specs.Prelude.{◌≡◌, Some, max};
+ghost use Rattle.instance_book.specs.Uses.{is_over_by};
+
 use expiry::expired;
 use kept_states::KeptState;
 use script_value::TxName;
@@ -26,9 +29,6 @@ pub struct KeptPage {
 }
 
 impl KeptPage {
-    ghost use Rattle.std.specs.Prelude.{◌≡◌, Some, max};
-    ghost use Rattle.instance_book.specs.Uses.{is_over_by};
-
     /// A segment of this number answered the page.
     pub fn answer(&mut self, number: u64)
         ensures { self.new ≡ record (self.old) { last = max self.old.last number } }

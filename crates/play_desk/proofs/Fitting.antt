@@ -12,8 +12,7 @@ use Rattle.script_nodes.specs.declared.library.Library.{Library}
 use Rattle.replay_spec.specs.Book.{Book, draw, spend}
 use Rattle.replay_spec.specs.Step.{sweep}
 use Rattle.replay_spec.proofs.Stand.{among_of}
-use Rattle.instance_book.specs.Fits.{IsRunnable}
-use Rattle.instance_book.specs.declared.ticket.Ticket.{Ticket}
+use Rattle.shelf.specs.Visits.{IsRunnable, Ticket}
 use Rattle.shelf.specs.declared.shelf.Shelf.{Shelf}
 use Rattle.shelf.specs.Views.{book_in, library_in, swept_of, HasTargetScript, IsInOrder}
 use Rattle.shelf.specs.declared.rules.Rules.{Rules}

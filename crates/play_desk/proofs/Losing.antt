@@ -4,8 +4,7 @@ use Rattle.std.proofs.lemmas.Bool.{cases_eq}
 use Rattle.std.proofs.lemmas.List.{length-map, length-set}
 use Rattle.std.proofs.lemmas.Option.{slice_get-map, slice_get_within}
 use Rattle.replay_spec.specs.Next as next
-use Rattle.instance_book.specs.Views.{ticket_of}
-use Rattle.instance_book.specs.declared.ticket.Ticket.{Ticket}
+use Rattle.shelf.specs.Visits.{ticket_of, Ticket}
 use Rattle.play_desk.specs.Desk.{left_of, without_shelf}
 use Rattle.play_desk.specs.Staff.{KeepsOthers, place_of}
 use Rattle.play_desk.proofs.Places.{get_other, get_set, same_Some}

@@ -9,8 +9,7 @@ use Rattle.replay_spec.specs.Book.{Book}
 use Rattle.replay_spec.specs.Admission.{admit}
 use Rattle.replay_spec.specs.Laws.{Moment, then_book, book_after, AreLawful, IsLawful, Leads}
 use Rattle.replay_spec.proofs.Stand.{among_of}
-use Rattle.instance_book.specs.Fits.{FitsAs}
-use Rattle.instance_book.specs.declared.ticket.Ticket.{Ticket}
+use Rattle.shelf.specs.Visits.{FitsAs, Ticket}
 use Rattle.shelf.specs.Going.{TicketsGoOnToFit}
 use Rattle.shelf.specs.Views.{book_in, library_in}
 use Rattle.shelf.specs.declared.shelf.Shelf.{Shelf}

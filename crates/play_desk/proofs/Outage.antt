@@ -15,8 +15,7 @@ use Rattle.replay_spec.specs.Step as spec
 use Rattle.replay_spec.specs.Step.{Fate, crash}
 use Rattle.replay_spec.specs.Runs as runs
 use Rattle.replay_spec.specs.Runs.{drawn_by}
-use Rattle.instance_book.specs.Views.{ticket_of}
-use Rattle.instance_book.specs.declared.ticket.Ticket.{Ticket}
+use Rattle.shelf.specs.Visits.{ticket_of, Ticket}
 use Rattle.shelf.specs.declared.rules.Rules.{Rules}
 use Rattle.shelf.specs.Opening.{IsCrashed}
 use Rattle.shelf.specs.Views.{book_in, rules_of}

@@ -14,9 +14,7 @@ use Rattle.replay_spec.specs.Invariant.{IsOrderly}
 use Rattle.replay_spec.specs.Laws.{IsLawful, Leads}
 use Rattle.replay_spec.specs.Step as spec
 use Rattle.replay_spec.specs.Step.{Event, take, publish, sweep, taken}
-use Rattle.instance_book.specs.Fits.{FitsAs}
-use Rattle.instance_book.specs.Views.{ticket_of, reply_of}
-use Rattle.instance_book.specs.declared.ticket.Ticket.{Ticket}
+use Rattle.shelf.specs.Visits.{FitsAs, ticket_of, reply_of, Ticket}
 use Rattle.shelf.specs.Going.{TicketsGoOnToFit}
 use Rattle.shelf.specs.declared.shelf.Shelf.{Shelf}
 use Rattle.shelf.specs.Views.{book_in, library_in, swept_of, IsOwnShelf}

@@ -20,8 +20,7 @@ use Rattle.replay_spec.specs.Step as spec
 use Rattle.replay_spec.specs.Runs.{Shelf}
 use Rattle.replay_spec.specs.Laws as laws
 use Rattle.replay_spec.proofs.Admitted.{admit_drawn}
-use Rattle.instance_book.specs.Views.{ticket_of, reply_of}
-use Rattle.instance_book.specs.declared.ticket.Ticket.{Ticket}
+use Rattle.shelf.specs.Visits.{ticket_of, reply_of, Ticket}
 use Rattle.shelf.specs.declared.shelf.Shelf as code
 use Rattle.shelf.specs.Views.{fate_by, swept_of}
 use Rattle.play_steps.specs.Rules.{Call, Comes, answered, event}

@@ -13,9 +13,7 @@ use Rattle.replay_spec.specs.Admission.{admit, refusal_of}
 use Rattle.replay_spec.specs.Invariant.{IsOrderly}
 use Rattle.replay_spec.specs.Laws.{Leads}
 use Rattle.replay_spec.specs.Runs as runs
-use Rattle.instance_book.specs.Fits.{FitsAs, IsRunnable}
-use Rattle.instance_book.specs.Views.{ticket_of}
-use Rattle.instance_book.specs.declared.ticket.Ticket.{Ticket}
+use Rattle.shelf.specs.Visits.{FitsAs, IsRunnable, ticket_of, Ticket}
 use Rattle.replay_spec.specs.Next as next
 use Rattle.shelf.specs.Views.{book_in, library_in, shelf_of, HasTargetScript, IsInOrder, IsOut, IsOwnShelf}
 use Rattle.shelf.specs.declared.shelf.Shelf.{Shelf}

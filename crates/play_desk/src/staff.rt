@@ -1,8 +1,7 @@
 ghost use Rattle.std.specs.Prelude.{◌≡◌, ◌≢◌, ◌<◌, ◌^◌, IfOk, IfSome, is_some, length, map, option_map, replicate, slice_get, slice_set, Some, None};
 ghost use Rattle.script_nodes.specs.Views.{library_of};
 ghost use Rattle.page_names.specs.Views.{target_of};
-ghost use Rattle.instance_book.specs.Fits.{IsRunnable};
-ghost use Rattle.instance_book.specs.Views.{ticket_of};
+ghost use Rattle.shelf.specs.Visits.{IsRunnable, ticket_of};
 ghost use Rattle.play_desk.specs.Staff.{KeepsOthers};
 ghost use Rattle.shelf.specs.Views.{IsRunIfAny};
 ghost use Rattle.play_desk.specs.Desk as spec;
@@ -12,13 +11,12 @@ ghost use Rattle.play_desk.specs.Staff.{HoldsTicket, IsFit, KeepsOwn, PublishesT
 
 use crate::answer::answer_to;
 use http_forms::path_and_query;
-use instance_book::Ticket;
 use machine_states::Segment;
 use page_names::{Target, parse_target};
 use replay_spec::refused_is_unchanged;
 use script_nodes::Library;
 use script_value::{Refusal, Reply};
-use shelf::{Shelf, run_ticket, tickets_go_on_to_fit};
+use shelf::{Shelf, Ticket, run_ticket, tickets_go_on_to_fit};
 use std::alloc::Global;
 use std::mem;
 use web_disk::Disk;

@@ -15,18 +15,19 @@ use Rattle.journal_spec.specs.Keeping.{Keeps}
 use Rattle.instance_book.specs.declared.book.Book.{Book}
 use Rattle.instance_book.specs.declared.in_order.InOrder.{InOrder}
 use Rattle.instance_book.specs.declared.instance.KeptInstance.{KeptInstance}
-use Rattle.instance_book.specs.declared.prepared.Change.{Change}
-use Rattle.instance_book.specs.declared.prepared.Prepared.{Prepared}
-use Rattle.instance_book.specs.declared.ticket.Ticket.{Ticket}
+use Rattle.instance_book.specs.declared.change.Change.{Change}
+use Rattle.book_visits.specs.declared.prepared.Prepared.{Prepared}
+use Rattle.book_visits.specs.declared.ticket.Ticket.{Ticket}
 use Rattle.instance_book.specs.Views.{instances_of}
 use Rattle.instance_book.specs.Places.{given}
 use Rattle.instance_book.specs.Makes.{KeepsStates}
-use Rattle.instance_book.specs.Changes.{change_of, HasStateIn, HasStateFrom, IsSpelledIn, HasRoomFor, KeepsStatesBy}
-use Rattle.instance_book.specs.Prepares.{HasItsScript}
+use Rattle.instance_book.specs.Changes.{change_of, HasStateIn, HasStateFrom, HasRoomFor, KeepsStatesBy}
+use Rattle.book_visits.specs.Changes.{IsSpelledIn}
+use Rattle.book_visits.specs.Prepares.{HasItsScript}
 use Rattle.shelf.specs.declared.doubt.Doubt as doubt_type
 use Rattle.shelf.specs.declared.shelf.Shelf.{Shelf}
 use Rattle.shelf.specs.Views.{doubt_of, library_in, beside_of, book_in, IsInOrder}
-use Rattle.instance_book.specs.Redo.{HasToldStates}
+use Rattle.book_recovery.specs.Found.{HasToldStates}
 use Rattle.shelf.specs.Holding.{IsWholeIn}
 use Rattle.shelf.specs.Preparing.{CanBeLanded}
 use Rattle.shelf.specs.Recording.{state_in, told_in, BindsIn, GoesOnAsGiven}

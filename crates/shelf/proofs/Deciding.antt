@@ -11,14 +11,15 @@ use Rattle.replay_spec.proofs.Stand.{among_of}
 use Rattle.instance_book.specs.declared.book.Book as kept
 use Rattle.instance_book.specs.declared.numbered.Numbered.{Numbered}
 use Rattle.instance_book.specs.declared.instance.KeptInstance.{KeptInstance}
-use Rattle.instance_book.specs.declared.ticket.Ticket.{Ticket}
-use Rattle.instance_book.specs.Admissions.{book_under}
+use Rattle.book_visits.specs.declared.ticket.Ticket.{Ticket}
+use Rattle.instance_book.specs.Standing.{book_under}
 use Rattle.instance_book.proofs.Seen.{instance_some}
 use Rattle.replay_spec.specs.Step as step
 use Rattle.replay_spec.specs.Step.{Decision, plain}
-use Rattle.instance_book.specs.declared.prepared.Prepared.{Prepared}
-use Rattle.instance_book.specs.Views.{pages_of, instance_of, reply_of}
-use Rattle.instance_book.specs.Prepares.{Prepares, IsOfRun, WantsRoom, IsNewBy}
+use Rattle.book_visits.specs.declared.prepared.Prepared.{Prepared}
+use Rattle.instance_book.specs.Views.{pages_of, instance_of}
+use Rattle.book_visits.specs.Views.{reply_of}
+use Rattle.book_visits.specs.Prepares.{Prepares, IsOfRun, WantsRoom, IsNewBy}
 use Rattle.shelf.specs.declared.rules.Rules as limits_of
 use Rattle.shelf.specs.Views.{unmeasured, fate_by}
 use Rattle.shelf.specs.Preparing.{Decides, TellsOfRun}

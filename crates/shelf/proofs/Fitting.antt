@@ -6,22 +6,23 @@ use Rattle.page_names.specs.Names.{Destination, start, page}
 use Rattle.replay_spec.specs.Book.{Book, draw}
 use Rattle.replay_spec.specs.Admission.{Admission, begins, resumes, refused, refusal_of, admit}
 use Rattle.replay_spec.proofs.Admitted.{start_is_no_page, admit_drawn}
-use Rattle.instance_book.specs.declared.ticket.Ticket.{Ticket}
-use Rattle.instance_book.specs.Fits.{FitsAs, FitsIfStart}
-use Rattle.instance_book.specs.Prepares.{rules_with, HasItsScript, IsCarriedOut}
+use Rattle.book_visits.specs.declared.ticket.Ticket.{Ticket}
+use Rattle.book_visits.specs.Fits.{FitsAs, FitsIfStart}
+use Rattle.instance_book.specs.Makes.{rules_with}
+use Rattle.book_visits.specs.Prepares.{HasItsScript, IsCarriedOut}
 use Rattle.instance_book.specs.Places as sources
 use Rattle.instance_book.specs.Makes.{StaysSame, KeepsStates}
 use Rattle.instance_book.specs.Swept.{cells_in, cells_at}
-use Rattle.instance_book.specs.declared.prepared.Prepared.{Prepared}
+use Rattle.book_visits.specs.declared.prepared.Prepared.{Prepared}
 use Rattle.instance_book.proofs.Seen.{cells_seen}
 use Rattle.machine_states.specs.Views.{segment_of}
 use Rattle.script_value.specs.Val.{Val}
 use Rattle.instance_cells.specs.Cells.{Effect}
 use Rattle.page_names.specs.Views.{target_of}
 use Rattle.instance_book.specs.declared.book.Book as rust
-use Rattle.instance_book.specs.declared.prepared.Change as prepared
+use Rattle.instance_book.specs.declared.change.Change as prepared
 use Rattle.instance_book.specs.Views as kept
-use Rattle.instance_book.specs.Changes.{decision_of, HasStateBy}
+use Rattle.book_visits.specs.Changes.{decision_of, HasStateBy}
 use Rattle.web_disk.specs.View.{View}
 use Rattle.page_journal.specs.declared.journal.Journal.{Journal}
 use Rattle.journal_spec.specs.Standing.{if_kept, Throughout}
@@ -29,8 +30,8 @@ use Rattle.replay_spec.specs.Runs as runs
 use Rattle.replay_spec.specs.Step as step
 use Rattle.shelf.specs.declared.rules.Rules as limits_of
 use Rattle.shelf.specs.declared.shelf.Shelf.{Shelf}
-use Rattle.instance_book.specs.Admissions.{book_under}
-use Rattle.instance_book.specs.Laws.{KeepsStateAs}
+use Rattle.instance_book.specs.Standing.{book_under}
+use Rattle.book_visits.specs.Laws.{KeepsStateAs}
 use Rattle.shelf.specs.Views.{rules_of, library_in, book_in, shelf_of, HasGiven, IsStep, IsEvent, IsOwnShelf}
 use Rattle.journal_spec.specs.Laws.{MeasuresDoubt}
 use Rattle.shelf.specs.Owning.{StaysOwnThroughout, StandsOwn}

@@ -10,9 +10,9 @@ use Rattle.replay_spec.specs.Admission.{◌>>=◌, Place, place_at, unless_why, 
 use Rattle.replay_spec.specs.Next.{start_visit, page_visit}
 use Rattle.replay_spec.specs.Invariant.{IsOrderly}
 use Rattle.replay_spec.specs.Laws.{Leads, OrderlyBooksStay, PagesStay}
-use Rattle.instance_book.specs.declared.ticket.Ticket.{Ticket}
-use Rattle.instance_book.specs.Views.{ticket_of}
-use Rattle.instance_book.specs.Fits.{IsFor, FitsAs}
+use Rattle.book_visits.specs.declared.ticket.Ticket.{Ticket}
+use Rattle.book_visits.specs.Views.{ticket_of}
+use Rattle.book_visits.specs.Fits.{IsFor, FitsAs}
 use Rattle.shelf.specs.Going.{TicketsGoOnToFit}
 
 -- a start is for the same visit on each book of the shelf with this setup

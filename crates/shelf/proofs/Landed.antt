@@ -35,7 +35,7 @@ use Rattle.instance_book.specs.Makes.{HasSomeStates}
 use Rattle.shelf.specs.declared.doubt.Doubt as doubt_type
 use Rattle.shelf.specs.declared.shelf.Shelf.{Shelf}
 use Rattle.shelf.specs.Views.{doubt_of, library_in, book_in, IsInOrder}
-use Rattle.instance_book.specs.Redo.{HasToldStates}
+use Rattle.book_recovery.specs.Found.{HasToldStates}
 use Rattle.shelf.specs.Events.{HasMoments}
 use Rattle.shelf.proofs.Standing.{OnlyNow, CountsNow, IsQuietCall, throughout_alike}
 use Rattle.shelf.proofs.Order.{order_of}

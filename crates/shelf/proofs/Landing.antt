@@ -42,19 +42,22 @@ use Rattle.journal_records.specs.Reading.{change_from}
 use Rattle.journal_records.specs.Views.{origin_of as origin_in, page_change}
 use Rattle.journal_records.specs.declared.records.PageRecord.{PageRecord}
 use Rattle.instance_book.specs.declared.book.Book.{Book}
-use Rattle.instance_book.specs.declared.prepared.Change.{Change}
-use Rattle.instance_book.specs.declared.prepared.Change.TheVariants.{Opens, Extends, Ends, Finishes}
-use Rattle.instance_book.specs.declared.prepared.Prepared.{Prepared}
-use Rattle.instance_book.specs.declared.ticket.Ticket.{Ticket}
+use Rattle.instance_book.specs.declared.change.Change.{Change}
+use Rattle.instance_book.specs.declared.change.Change.TheVariants.{Opens, Extends, Ends, Finishes}
+use Rattle.book_visits.specs.declared.prepared.Prepared.{Prepared}
+use Rattle.book_visits.specs.declared.ticket.Ticket.{Ticket}
 use Rattle.instance_book.specs.declared.in_order.InOrder.{InOrder}
 use Rattle.instance_book.specs.Lists.{HasRoom}
 use Rattle.instance_book.specs.declared.instance.KeptInstance.{KeptInstance}
-use Rattle.instance_book.specs.Views.{Beside, no_journal, book_of, instances_of, ticket_of, reply_of}
+use Rattle.instance_book.specs.Views.{Beside, no_journal, book_of, instances_of}
+use Rattle.book_visits.specs.Views.{ticket_of, reply_of}
 use Rattle.instance_book.specs.Places.{given}
-use Rattle.instance_book.specs.Changes.{HasStateIn, change_of, inside_of, gone_in, decision_by, put_into, HasDeadlineIn, HasDeadlineBy, HasRoomFor, CanShowAt, IsSpelledIn}
-use Rattle.instance_book.specs.Fits.{FitsAs}
+use Rattle.instance_book.specs.Changes.{HasStateIn, change_of, inside_of, gone_in, HasRoomFor, CanShowAt}
+use Rattle.book_visits.specs.Changes.{decision_by, put_into, HasDeadlineIn, HasDeadlineBy, IsSpelledIn}
+use Rattle.book_visits.specs.Fits.{FitsAs}
 use Rattle.instance_book.specs.Makes.{Makes, MakesUnder}
-use Rattle.instance_book.specs.Prepares.{rules_with, KeepsStateOf, IsChangeBy, IsDecisionBy, IsCarriedOut, HasItsScript}
+use Rattle.instance_book.specs.Makes.{rules_with}
+use Rattle.book_visits.specs.Prepares.{KeepsStateOf, IsChangeBy, IsDecisionBy, IsCarriedOut, HasItsScript}
 use Rattle.shelf.specs.declared.shelf.Shelf.{Shelf}
 use Rattle.shelf.specs.declared.doubt.Doubt as doubt_type
 use Rattle.shelf.specs.Views.{unmeasured, rules_of, doubt_of, doubt_by, library_in, beside_of, book_in, fate_by, IsInOrder}

@@ -26,16 +26,17 @@ use Rattle.journal_spec.specs.Owning.{IsOwnBefore}
 use Rattle.journal_spec.specs.Retaking as books_told
 use Rattle.journal_spec.specs.Laws.{EventsAreKept, EventsStandBetween, LandingsAreKept, LandingsStandBetween}
 use Rattle.instance_book.specs.declared.book.Book as kept
-use Rattle.instance_book.specs.declared.ticket.Ticket.{Ticket}
-use Rattle.instance_book.specs.declared.prepared.Prepared.{Prepared}
-use Rattle.instance_book.specs.declared.prepared.Change.{Change}
+use Rattle.book_visits.specs.declared.ticket.Ticket.{Ticket}
+use Rattle.book_visits.specs.declared.prepared.Prepared.{Prepared}
+use Rattle.instance_book.specs.declared.change.Change.{Change}
 use Rattle.instance_book.specs.Places as sources
 use Rattle.instance_book.specs.Places.{Source}
 use Rattle.instance_book.specs.Makes.{Makes, MakesUnder, StaysSame, HasStatesFrom, HasSomeStates, HasItsStates, KeepsStates}
-use Rattle.instance_book.specs.Views.{ticket_of, reply_of}
-use Rattle.instance_book.specs.Changes.{change_of, inside_of, put_into, HasStateBy, IsSpelledIn, IsSpelledBy, HasRoomFor, KeepsStatesBy}
-use Rattle.instance_book.specs.Fits.{FitsAs}
-use Rattle.instance_book.specs.Prepares.{HasItsScript}
+use Rattle.book_visits.specs.Views.{ticket_of, reply_of}
+use Rattle.instance_book.specs.Changes.{change_of, inside_of, HasRoomFor, KeepsStatesBy}
+use Rattle.book_visits.specs.Changes.{put_into, HasStateBy, IsSpelledIn, IsSpelledBy}
+use Rattle.book_visits.specs.Fits.{FitsAs}
+use Rattle.book_visits.specs.Prepares.{HasItsScript}
 use Rattle.shelf.specs.declared.doubt.Doubt as doubt_type
 use Rattle.shelf.specs.declared.shelf.Shelf.{Shelf}
 use Rattle.shelf.specs.declared.file.FilePast.{FilePast}

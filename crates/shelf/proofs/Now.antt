@@ -21,11 +21,11 @@ use Rattle.replay_spec.proofs.Admitted.{page_stands, start_is_no_page, page_is_n
 use Rattle.replay_spec.proofs.Second.{pages_past}
 use Rattle.machine_states.specs.Views.{segment_of}
 use Rattle.machine_states.specs.declared.segment.Segment.{Segment}
-use Rattle.instance_book.specs.declared.ticket.Ticket.{Ticket}
-use Rattle.instance_book.specs.Views.{ticket_of}
+use Rattle.book_visits.specs.declared.ticket.Ticket.{Ticket}
+use Rattle.book_visits.specs.Views.{ticket_of}
 use Rattle.instance_book.specs.Swept.{cells_in}
-use Rattle.instance_book.specs.Fits.{IsFor, FitsAs}
-use Rattle.instance_book.specs.Laws.{KeepsStateAs}
+use Rattle.book_visits.specs.Fits.{IsFor, FitsAs}
+use Rattle.book_visits.specs.Laws.{KeepsStateAs}
 use Rattle.shelf.specs.Runs.{IsRunOver}
 use Rattle.shelf.proofs.Replayed.{IsLike, run_like}
 use Rattle.shelf.specs.Views.{HoldIn, IsSegmentOf, HaveTheirCells}

@@ -34,7 +34,7 @@ use Rattle.book_recovery.specs.Found.{FindsBook, beside_file}
 use Rattle.shelf.specs.Files.{file_in, read_file}
 use Rattle.shelf.specs.Opening.{making_of}
 use Rattle.shelf.specs.Views.{TellsStates}
-use Rattle.instance_book.specs.Redo.{HasToldStates}
+use Rattle.book_recovery.specs.Found.{HasToldStates}
 
 -- ---- what records make is nothing just where there is none
 

@@ -19,11 +19,11 @@ use Rattle.journal_spec.specs.Spelling.{IsInRange, GivesTick}
 use Rattle.journal_spec.proofs.Ranges.{ranges_kept}
 use Rattle.instance_book.specs.Makes.{HasSomeStates}
 use Rattle.instance_book.proofs.Given.{places_of}
-use Rattle.instance_book.specs.Views.{reply_of}
+use Rattle.book_visits.specs.Views.{reply_of}
 use Rattle.shelf.specs.declared.rules.Rules as limits_of
 use Rattle.shelf.specs.declared.shelf.Shelf.{Shelf}
 use Rattle.shelf.specs.Ranges.{AreInRange}
-use Rattle.instance_book.specs.Admissions.{HasFew}
+use Rattle.book_visits.specs.Admissions.{HasFew}
 use Rattle.script_nodes.specs.Views.{library_of}
 use Rattle.script_nodes.specs.declared.library.Library.{Library}
 use Rattle.shelf.specs.Views.{rules_of, library_in, book_in, shelf_of, fate_by, TellsStates, IsInOrder, IsEvent}

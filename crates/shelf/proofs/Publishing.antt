@@ -12,12 +12,13 @@ use Rattle.replay_spec.specs.Step as step
 use Rattle.replay_spec.specs.Step.{Decision, replies, records, compacts, publish_comes}
 use Rattle.journal_records.specs.Records.{changes, record_length}
 use Rattle.journal_spec.specs.Lengths.{state_told}
-use Rattle.instance_book.specs.declared.prepared.Change.{Change as RustChange}
-use Rattle.instance_book.specs.declared.prepared.Prepared.{Prepared}
-use Rattle.instance_book.specs.declared.ticket.Ticket.{Ticket}
-use Rattle.instance_book.specs.Views.{ticket_of, reply_of}
-use Rattle.instance_book.specs.Changes.{change_of, inside_of, decision_by}
-use Rattle.instance_book.specs.Prepares.{IsRecord, IsCarriedOut, Prepares}
+use Rattle.instance_book.specs.declared.change.Change.{Change as RustChange}
+use Rattle.book_visits.specs.declared.prepared.Prepared.{Prepared}
+use Rattle.book_visits.specs.declared.ticket.Ticket.{Ticket}
+use Rattle.book_visits.specs.Views.{ticket_of, reply_of}
+use Rattle.instance_book.specs.Changes.{change_of, inside_of}
+use Rattle.book_visits.specs.Changes.{decision_by}
+use Rattle.book_visits.specs.Prepares.{IsRecord, IsCarriedOut, Prepares}
 use Rattle.shelf.specs.declared.rules.Rules as limits_of
 use Rattle.shelf.specs.Views.{unmeasured, rules_of, fate_by}
 use Rattle.shelf.specs.Preparing.{Decides, TellsOfRun}

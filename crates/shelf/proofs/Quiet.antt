@@ -4,10 +4,11 @@ use Rattle.script_value.specs.declared.outcome.Reply.{Reply}
 use Rattle.script_value.specs.declared.outcome.Reply.TheVariants as reply
 use Rattle.web_disk.specs.View.{View}
 use Rattle.replay_spec.specs.Step as step
-use Rattle.instance_book.specs.declared.prepared.Change.{Change}
-use Rattle.instance_book.specs.Changes.{change_of, inside_of, decision_by}
-use Rattle.instance_book.specs.Prepares.{AnswersWithPage}
-use Rattle.instance_book.specs.Views.{reply_of}
+use Rattle.instance_book.specs.declared.change.Change.{Change}
+use Rattle.instance_book.specs.Changes.{change_of, inside_of}
+use Rattle.book_visits.specs.Changes.{decision_by}
+use Rattle.book_visits.specs.Prepares.{AnswersWithPage}
+use Rattle.book_visits.specs.Views.{reply_of}
 use Rattle.shelf.specs.Events.{IsLeftAlone, LeavesDisk}
 
 -- nothing was done

@@ -43,7 +43,7 @@ use Rattle.shelf.specs.Files.{file_in, read_file}
 use Rattle.shelf.specs.Opening.{making_of, opening_bodies, HasOwnRecords, OpensOwn, TellsSetup, TellsFull, IsLibraryOf, Opens, Renews, IsMadeOf, IsDoneUnlessOutside, with_book}
 use Rattle.shelf.specs.Owning.{StaysOwnThroughout}
 use Rattle.shelf.specs.Views.{TellsStates}
-use Rattle.instance_book.specs.Redo.{HasToldStates}
+use Rattle.book_recovery.specs.Found.{HasToldStates}
 use Rattle.shelf.specs.Faults.{IsReadFaultOf}
 use Rattle.shelf.specs.declared.begin.BeginFault.{BeginFault}
 use Rattle.shelf.specs.declared.begin.BeginFault.TheVariants as fault

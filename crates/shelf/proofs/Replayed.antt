@@ -31,15 +31,16 @@ use Rattle.machine_states.specs.declared.segment.Outcome.{Outcome}
 use Rattle.machine_states.specs.declared.segment.Outcome.TheVariants.{Shown, Finished, Ended, Faulted, Fuel}
 use Rattle.machine_states.specs.declared.segment.Segment.{Segment}
 use Rattle.send_suspend.specs.Segments.{newest, FitsFrom, IsLastOver, Replays, bindings_in, AreBindings, IsConsistent}
-use Rattle.instance_book.specs.declared.ticket.Ticket.{Ticket}
-use Rattle.instance_book.specs.Views.{ticket_of}
+use Rattle.book_visits.specs.declared.ticket.Ticket.{Ticket}
+use Rattle.book_visits.specs.Views.{ticket_of}
 use Rattle.script_nodes.proofs.Scripts.{arena_again}
 use Rattle.instance_book.specs.Places.{arena_of}
 use Rattle.instance_book.specs.declared.book.Book as kept
 use Rattle.instance_book.specs.Swept.{cells_at}
-use Rattle.instance_book.specs.Prepares.{HasItsScript, AreOnBy}
-use Rattle.instance_book.specs.Fits.{GoesOnFrom, IsFor, FitsScript, IsStoredScript, IsRunnable}
-use Rattle.instance_book.specs.Laws.{KeepsStateOver}
+use Rattle.book_visits.specs.Prepares.{HasItsScript, AreOnBy}
+use Rattle.book_visits.specs.Fits.{GoesOnFrom, IsFor, IsRunnable}
+use Rattle.instance_book.specs.Fits.{FitsScript, IsStoredScript}
+use Rattle.book_visits.specs.Laws.{KeepsStateOver}
 use Rattle.shelf.specs.Runs.{IsRunFrom, IsRunOver, IsRunAs}
 use Rattle.shelf.specs.Holding.{AreHeld, AreHeldBy, IsWhole, ShowsWholeFrom}
 

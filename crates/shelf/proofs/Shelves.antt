@@ -33,14 +33,14 @@ use Rattle.instance_book.specs.Views.{book_of}
 use Rattle.script_nodes.specs.Setup.{Named}
 use Rattle.script_nodes.specs.Views.{library_of}
 use Rattle.script_nodes.specs.declared.library.Library.{Library}
-use Rattle.instance_book.specs.Admissions.{HasFew}
+use Rattle.book_visits.specs.Admissions.{HasFew}
 use Rattle.shelf.specs.declared.rules.Rules as limits_of
 use Rattle.shelf.specs.declared.shelf.Shelf.{Shelf}
 use Rattle.shelf.specs.Ranges.{AreInRange}
 use Rattle.shelf.specs.declared.doubt.Doubt as doubt_type
 use Rattle.shelf.specs.Files.{file_of}
 use Rattle.shelf.specs.Views.{rules_of, doubt_of, library_in, book_in, TellsStates, IsInOrder, IsOwnShelf}
-use Rattle.instance_book.specs.Redo.{HasToldStates}
+use Rattle.book_recovery.specs.Found.{HasToldStates}
 use Rattle.shelf.specs.Owning.{StandsOwn}
 use Rattle.shelf.specs.Events.{HasMoments, HasOwnMoments}
 use Rattle.shelf.proofs.Standing.{OnlyNow, CountsNow, IsQuietCall, quiet_fit, quiet_moments, own_alike, measured_alike}

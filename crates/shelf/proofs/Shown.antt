@@ -27,24 +27,24 @@ use Rattle.journal_spec.specs.Before.{state_at, Earlier, links_behind, before_to
 use Rattle.instance_book.specs.declared.book.Book as kept
 use Rattle.instance_book.specs.declared.in_order.InOrder.{InOrder}
 use Rattle.instance_book.specs.declared.instance.KeptInstance.{KeptInstance}
-use Rattle.instance_book.specs.declared.prepared.Opening.{Opening}
-use Rattle.instance_book.specs.declared.prepared.Extension.{Extension}
-use Rattle.instance_book.specs.declared.prepared.Change.{Change}
-use Rattle.instance_book.specs.declared.prepared.Change.TheVariants.{Opens, Extends, Ends, Finishes}
-use Rattle.instance_book.specs.declared.ticket.Ticket.{Ticket}
+use Rattle.instance_book.specs.declared.change.Opening.{Opening}
+use Rattle.instance_book.specs.declared.change.Extension.{Extension}
+use Rattle.instance_book.specs.declared.change.Change.{Change}
+use Rattle.instance_book.specs.declared.change.Change.TheVariants.{Opens, Extends, Ends, Finishes}
+use Rattle.book_visits.specs.declared.ticket.Ticket.{Ticket}
 use Rattle.kept_states.specs.Kept.{IsKeptFrom}
 use Rattle.instance_book.specs.Places.{given, arena_of, kept_at}
-use Rattle.instance_book.specs.Admissions.{script_at}
+use Rattle.instance_book.specs.Standing.{script_at}
 use Rattle.instance_book.specs.Views.{Beside, book_of, instances_of}
 use Rattle.instance_book.specs.Changes.{change_of, HasStateIn, OpensKept}
-use Rattle.instance_book.specs.Fits.{GoesOnGiven}
+use Rattle.book_visits.specs.Fits.{GoesOnGiven}
 use Rattle.instance_book.specs.Makes.{HasStatesFrom}
 use Rattle.instance_book.specs.Places.{IsNextAt}
-use Rattle.instance_book.specs.Prepares.{OpensAs, ExtendsAs, OpensFrom, ExtendsFrom, extension_by, IsStartBy, IsAnswerBy, IsChangeBy, HasItsScript, KeepsStateOf, IsKeptOfTicket}
-use Rattle.instance_book.proofs.States.{first_kept, next_kept}
+use Rattle.book_visits.specs.Prepares.{OpensAs, ExtendsAs, OpensFrom, ExtendsFrom, extension_by, IsStartBy, IsAnswerBy, IsChangeBy, HasItsScript, KeepsStateOf, IsKeptOfTicket}
+use Rattle.book_visits.proofs.States.{first_kept, next_kept}
 use Rattle.shelf.specs.Holding.{IsWhole, IsWholeIn, IsWholeFrom, ShowsWhole, ShowsWholeFrom}
 use Rattle.shelf.specs.Recording.{state_in, behind_in, answered_in, IsKeptIn, GoesOnFromBook, GoesOnAsGiven}
-use Rattle.instance_book.specs.Changes.{IsSpelledIn}
+use Rattle.book_visits.specs.Changes.{IsSpelledIn}
 use Rattle.shelf.proofs.Now.{of_some}
 use Rattle.shelf.proofs.Stated.{place_found, start_shows, answer_shows}
 use Rattle.shelf.proofs.Taken.{page_there}

@@ -11,7 +11,7 @@ use Rattle.replay_spec.specs.Step as step
 use Rattle.replay_spec.specs.Step.{most_of_record, most_of_journal}
 use Rattle.journal_records.specs.Records.{changes, body_of, record_length}
 use Rattle.journal_spec.proofs.Brief.{length_short, short_measured}
-use Rattle.instance_book.specs.Views.{reply_of}
+use Rattle.book_visits.specs.Views.{reply_of}
 use Rattle.shelf.specs.Events.{TellsCount}
 use Rattle.shelf.specs.Recording.{refusal_of_size, IsShort, IsWritten}
 

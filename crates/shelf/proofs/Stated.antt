@@ -36,16 +36,17 @@ use Rattle.journal_spec.specs.Before.{links_behind}
 use Rattle.journal_spec.specs.Lengths.{kept_at, kept_by, state_over, state_by, chain_tape, own_state, own_before}
 use Rattle.journal_spec.specs.Whole.{IsWhole, HasWholeScripts}
 use Rattle.instance_book.specs.declared.book.Book as kept
-use Rattle.instance_book.specs.declared.prepared.Opening.{Opening}
-use Rattle.instance_book.specs.declared.prepared.Extension.{Extension}
-use Rattle.instance_book.specs.declared.prepared.Change.{Change}
-use Rattle.instance_book.specs.declared.prepared.Change.TheVariants.{Opens, Extends, Ends, Finishes}
-use Rattle.instance_book.specs.declared.ticket.Ticket.{Ticket}
-use Rattle.instance_book.specs.Views.{Beside, ticket_of, book_of}
+use Rattle.instance_book.specs.declared.change.Opening.{Opening}
+use Rattle.instance_book.specs.declared.change.Extension.{Extension}
+use Rattle.instance_book.specs.declared.change.Change.{Change}
+use Rattle.instance_book.specs.declared.change.Change.TheVariants.{Opens, Extends, Ends, Finishes}
+use Rattle.book_visits.specs.declared.ticket.Ticket.{Ticket}
+use Rattle.instance_book.specs.Views.{Beside, book_of}
+use Rattle.book_visits.specs.Views.{ticket_of}
 use Rattle.instance_book.specs.Changes.{change_of}
-use Rattle.instance_book.specs.Fits.{IsStateBehind, GoesOnFrom, FitsAs}
-use Rattle.instance_book.specs.Laws.{KeepsStateAs}
-use Rattle.instance_book.specs.Prepares.{opening_by, extension_by, IsStartBy, IsAnswerBy, IsChangeBy, OpensFrom, ExtendsFrom, KeepsStateOf}
+use Rattle.book_visits.specs.Fits.{IsStateBehind, GoesOnFrom, FitsAs}
+use Rattle.book_visits.specs.Laws.{KeepsStateAs}
+use Rattle.book_visits.specs.Prepares.{opening_by, extension_by, IsStartBy, IsAnswerBy, IsChangeBy, OpensFrom, ExtendsFrom, KeepsStateOf}
 use Rattle.shelf.specs.Recording.{state_in, behind_in}
 
 -- ---- the state that is kept over a tape is the one that the script leaves

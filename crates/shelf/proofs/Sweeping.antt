@@ -11,7 +11,7 @@ use Rattle.replay_spec.specs.Step as step
 use Rattle.replay_spec.specs.Step.{freed}
 use Rattle.journal_records.specs.Records.{changes, record_length}
 use Rattle.instance_book.specs.Swept.{swept}
-use Rattle.instance_book.specs.Views.{reply_of}
+use Rattle.book_visits.specs.Views.{reply_of}
 use Rattle.shelf.specs.declared.rules.Rules as limits_of
 use Rattle.shelf.specs.Views.{rules_of, fate_by}
 use Rattle.shelf.specs.Recording.{IsWritten}

@@ -34,19 +34,20 @@ use Rattle.journal_spec.specs.Lengths.{told_bytes, told_own}
 use Rattle.journal_spec.specs.Keeping.{IsTakenAs}
 use Rattle.journal_spec.proofs.Retaken.{held_fits}
 use Rattle.instance_book.specs.declared.book.Book as kept
-use Rattle.instance_book.specs.declared.prepared.Opening.{Opening}
-use Rattle.instance_book.specs.declared.prepared.Extension.{Extension}
-use Rattle.instance_book.specs.declared.prepared.Change.{Change}
-use Rattle.instance_book.specs.declared.prepared.Change.TheVariants.{Opens, Extends, Ends, Finishes}
-use Rattle.instance_book.specs.declared.ticket.Ticket.{Ticket}
-use Rattle.instance_book.specs.Admissions.{script_at}
+use Rattle.instance_book.specs.declared.change.Opening.{Opening}
+use Rattle.instance_book.specs.declared.change.Extension.{Extension}
+use Rattle.instance_book.specs.declared.change.Change.{Change}
+use Rattle.instance_book.specs.declared.change.Change.TheVariants.{Opens, Extends, Ends, Finishes}
+use Rattle.book_visits.specs.declared.ticket.Ticket.{Ticket}
+use Rattle.instance_book.specs.Standing.{script_at}
 use Rattle.instance_book.specs.Swept.{cells_at}
 use Rattle.instance_book.specs.Views.{Beside, book_of, instance_of, instances_of}
 use Rattle.instance_book.specs.declared.numbered.Numbered.{Numbered}
 use Rattle.instance_book.specs.declared.in_order.InOrder.{InOrder}
 use Rattle.instance_book.specs.declared.instance.KeptInstance.{KeptInstance}
-use Rattle.instance_book.specs.Changes.{change_of, inside_of, gone_in, IsSpelledIn, CanShowAt, HasRoomFor}
-use Rattle.instance_book.specs.Prepares.{opening_by, extension_by, ending_by, finish_by, IsStartBy, IsAnswerBy, IsChangeBy, OpensFrom, ExtendsFrom, KeepsStateOf, HasItsScript}
+use Rattle.instance_book.specs.Changes.{change_of, inside_of, gone_in, CanShowAt, HasRoomFor}
+use Rattle.book_visits.specs.Changes.{IsSpelledIn}
+use Rattle.book_visits.specs.Prepares.{opening_by, extension_by, ending_by, finish_by, IsStartBy, IsAnswerBy, IsChangeBy, OpensFrom, ExtendsFrom, KeepsStateOf, HasItsScript}
 use Rattle.instance_book.proofs.Seen.{instance_some, instance_none, cells_seen}
 use Rattle.shelf.specs.Holding.{AreHeld, AreHeldBy, IsWhole, IsWholeIn}
 use Rattle.shelf.specs.Recording.{state_in, behind_in, told_in, BindsIn}

@@ -25,7 +25,7 @@ use Rattle.journal_spec.proofs.Retaken.{held_script}
 use Rattle.journal_spec.proofs.Taking.{IsNew, there, moved_in}
 use Rattle.instance_book.specs.declared.book.Book as kept
 use Rattle.instance_book.proofs.Given.{more_given}
-use Rattle.instance_book.specs.Redo.{HasToldStates}
+use Rattle.book_recovery.specs.Found.{HasToldStates}
 
 -- ---- states are told of numbers that were seen
 

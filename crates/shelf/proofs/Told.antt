@@ -19,11 +19,11 @@ use Rattle.journal_records.proofs.Measured.{value_shallow}
 use Rattle.journal_spec.specs.Lengths.{is_shallow_frame, is_shallow_state, told_bytes}
 use Rattle.machine_states.specs.Views.{suspended_of}
 use Rattle.instance_book.specs.declared.book.Book.{Book}
-use Rattle.instance_book.specs.declared.prepared.Change.{Change}
-use Rattle.instance_book.specs.declared.prepared.Change.TheVariants.{Opens, Extends, Ends, Finishes}
-use Rattle.instance_book.specs.declared.ticket.Ticket.{Ticket}
-use Rattle.instance_book.specs.Admissions.{script_at}
-use Rattle.instance_book.specs.Fits.{IsRunnable}
+use Rattle.instance_book.specs.declared.change.Change.{Change}
+use Rattle.instance_book.specs.declared.change.Change.TheVariants.{Opens, Extends, Ends, Finishes}
+use Rattle.book_visits.specs.declared.ticket.Ticket.{Ticket}
+use Rattle.instance_book.specs.Standing.{script_at}
+use Rattle.book_visits.specs.Fits.{IsRunnable}
 use Rattle.instance_book.specs.Places.{arena_of}
 use Rattle.instance_book.specs.Views.{script_in, no_script}
 use Rattle.shelf.specs.Holding.{IsWhole, IsWholeFrom, IsWholeIn, IsOfItsScript}

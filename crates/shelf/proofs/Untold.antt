@@ -11,14 +11,15 @@ use Rattle.machine_states.specs.Machine.{Suspended}
 use Rattle.instance_book.specs.declared.book.Book.{Book}
 use Rattle.instance_book.specs.declared.in_order.InOrder.{InOrder}
 use Rattle.instance_book.specs.declared.instance.KeptInstance.{KeptInstance}
-use Rattle.instance_book.specs.declared.prepared.Change.{Change}
-use Rattle.instance_book.specs.declared.prepared.Prepared.{Prepared}
-use Rattle.instance_book.specs.declared.ticket.Ticket.{Ticket}
+use Rattle.instance_book.specs.declared.change.Change.{Change}
+use Rattle.book_visits.specs.declared.prepared.Prepared.{Prepared}
+use Rattle.book_visits.specs.declared.ticket.Ticket.{Ticket}
 use Rattle.instance_book.specs.Views.{instances_of}
 use Rattle.instance_book.specs.Places.{given}
 use Rattle.instance_book.specs.Makes.{KeepsStates, HasStatesFrom, HasSomeStates}
-use Rattle.instance_book.specs.Changes.{HasStateIn, HasStateFrom, IsSpelledIn, HasRoomFor, KeepsStatesBy}
-use Rattle.instance_book.specs.Prepares.{HasItsScript}
+use Rattle.instance_book.specs.Changes.{HasStateIn, HasStateFrom, HasRoomFor, KeepsStatesBy}
+use Rattle.book_visits.specs.Changes.{IsSpelledIn}
+use Rattle.book_visits.specs.Prepares.{HasItsScript}
 use Rattle.instance_book.proofs.Given.{other_given}
 use Rattle.shelf.specs.declared.shelf.Shelf.{Shelf}
 use Rattle.shelf.specs.Views.{library_in, beside_of, book_in, IsInOrder}

@@ -11,10 +11,10 @@ use Rattle.frame_codec.specs.Deltas.{Shares, IsDelta}
 use Rattle.frame_codec.specs.DeltaViews.{delta_of}
 use Rattle.frame_codec.specs.declared.difference.Delta as declared
 use Rattle.instance_book.specs.declared.book.Book.{Book}
-use Rattle.instance_book.specs.declared.prepared.Change.{Change}
-use Rattle.instance_book.specs.declared.prepared.Change.TheVariants.{Opens, Extends, Ends, Finishes}
-use Rattle.instance_book.specs.declared.ticket.Ticket.{Ticket}
-use Rattle.instance_book.specs.Before.{IsBefore}
+use Rattle.instance_book.specs.declared.change.Change.{Change}
+use Rattle.instance_book.specs.declared.change.Change.TheVariants.{Opens, Extends, Ends, Finishes}
+use Rattle.book_visits.specs.declared.ticket.Ticket.{Ticket}
+use Rattle.book_visits.specs.Before.{IsBefore}
 use Rattle.machine_states.specs.declared.segment.Origin.{Origin}
 use Rattle.shelf.specs.Recording.{told_in, IsStateFor, AreAsLong, IsAllShared, AnswersGiven, GoesOnFrom}
 

@@ -18,12 +18,13 @@ use Rattle.replay_spec.specs.Book as spec
 use Rattle.replay_spec.specs.Admission.{or_else, refusal_of, admit}
 use Rattle.replay_spec.specs.Step as step
 use Rattle.replay_spec.specs.Step.{Decision, replies, records, compacts, take, publish, sweep, down_by, refused_by, no_take, publish_comes}
-use Rattle.instance_book.specs.declared.ticket.Ticket.{Ticket}
-use Rattle.instance_book.specs.declared.prepared.Prepared.{Prepared}
-use Rattle.instance_book.specs.declared.prepared.Change.{Change}
-use Rattle.instance_book.specs.Changes.{HasStateBy, IsSpelledBy}
-use Rattle.instance_book.specs.Views.{instances_of, ticket_of, ticket_for, reply_of}
-use Rattle.instance_book.specs.Prepares.{IsCarriedOut}
+use Rattle.book_visits.specs.declared.ticket.Ticket.{Ticket}
+use Rattle.book_visits.specs.declared.prepared.Prepared.{Prepared}
+use Rattle.instance_book.specs.declared.change.Change.{Change}
+use Rattle.book_visits.specs.Changes.{HasStateBy, IsSpelledBy}
+use Rattle.instance_book.specs.Views.{instances_of}
+use Rattle.book_visits.specs.Views.{ticket_of, ticket_for, reply_of}
+use Rattle.book_visits.specs.Prepares.{IsCarriedOut}
 use Rattle.shelf.specs.declared.shelf.Shelf.{Shelf}
 use Rattle.shelf.specs.Views.{unmeasured, rules_of, library_in, book_in, taken_of, swept_of, IsEvent, HoldNow}
 

@@ -6,8 +6,8 @@ use Rattle.replay_spec.specs.Book.{Book}
 use Rattle.replay_spec.specs.Admission.{admit, refusal_of}
 use Rattle.replay_spec.specs.Invariant.{IsOrderly}
 use Rattle.replay_spec.specs.Laws.{Leads}
-use Rattle.instance_book.specs.declared.ticket.Ticket.{Ticket}
-use Rattle.instance_book.specs.Fits.{FitsAs}
+use Rattle.book_visits.specs.declared.ticket.Ticket.{Ticket}
+use Rattle.book_visits.specs.Fits.{FitsAs}
 
 -- A ticket of an admitted target that fits an orderly book fits each book of the same setup that lawful events lead to, crashes
 -- among them. It names its script among all that were told.

@@ -17,10 +17,11 @@ use Rattle.machine_states.specs.declared.segment.Segment.{Segment}
 use Rattle.frame_codec.specs.Spelling.{StateHasBytes}
 use Rattle.frame_codec.specs.Stored.{IsStored}
 use Rattle.instance_book.specs.declared.book.Book.{Book}
-use Rattle.instance_book.specs.declared.prepared.Change.{Change}
-use Rattle.instance_book.specs.declared.prepared.Change.TheVariants.{Opens, Extends}
-use Rattle.instance_book.specs.declared.ticket.Ticket.{Ticket}
-use Rattle.instance_book.specs.Admissions.{refusal_for, FitsIn, script_at}
+use Rattle.instance_book.specs.declared.change.Change.{Change}
+use Rattle.instance_book.specs.declared.change.Change.TheVariants.{Opens, Extends}
+use Rattle.book_visits.specs.declared.ticket.Ticket.{Ticket}
+use Rattle.book_visits.specs.Admissions.{refusal_for, FitsIn}
+use Rattle.instance_book.specs.Standing.{script_at}
 use Rattle.instance_book.specs.Places.{arena_of}
 use Rattle.instance_book.specs.Views.{script_in}
 use Rattle.instance_book.specs.Swept.{cells_at}

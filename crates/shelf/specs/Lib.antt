@@ -11,3 +11,4 @@ pub mod Opening
 pub mod Preparing
 pub mod Recording
 pub mod Runs
+pub mod Visits

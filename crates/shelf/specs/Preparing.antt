@@ -10,14 +10,16 @@ use Rattle.replay_spec.specs.Book as spec
 use Rattle.replay_spec.specs.Rules as spec_rules
 use Rattle.replay_spec.specs.Step.{Decision, plain, publish_comes}
 use Rattle.instance_book.specs.declared.book.Book.{Book}
-use Rattle.instance_book.specs.declared.ticket.Ticket.{Ticket}
-use Rattle.instance_book.specs.declared.prepared.Prepared.{Prepared}
-use Rattle.instance_book.specs.Admissions.{book_under, admission_for, refusal_for, FitsIn}
-use Rattle.instance_book.specs.Views.{instances_of, ticket_of, reply_of, Beside, book_of}
+use Rattle.book_visits.specs.declared.ticket.Ticket.{Ticket}
+use Rattle.book_visits.specs.declared.prepared.Prepared.{Prepared}
+use Rattle.instance_book.specs.Standing.{book_under}
+use Rattle.book_visits.specs.Admissions.{admission_for, refusal_for, FitsIn}
+use Rattle.instance_book.specs.Views.{instances_of, Beside, book_of}
+use Rattle.book_visits.specs.Views.{ticket_of, reply_of}
 use Rattle.machine_states.specs.Views.{segment_of}
-use Rattle.instance_book.specs.Changes.{HasDeadlineBy, HasStateBy, IsSpelledBy}
-use Rattle.instance_book.specs.Prepares.{Prepares, IsOfSegment, KeepsItsState}
-use Rattle.instance_book.specs.Laws.{KeepsStateAs}
+use Rattle.book_visits.specs.Changes.{HasDeadlineBy, HasStateBy, IsSpelledBy}
+use Rattle.book_visits.specs.Prepares.{Prepares, IsOfSegment, KeepsItsState}
+use Rattle.book_visits.specs.Laws.{KeepsStateAs}
 use Rattle.shelf.specs.declared.rules.Rules.{Rules}
 use Rattle.shelf.specs.Views.{unmeasured, fate_by, HoldNow}
 use Rattle.shelf.specs.Holding.{AreHeldNow, ShowsWholeFrom}

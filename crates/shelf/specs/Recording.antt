@@ -13,16 +13,16 @@ use Rattle.replay_spec.specs.Book.{Change as SpecChange, opens, extends, ends, f
 use Rattle.replay_spec.specs.Admission.{Place}
 use Rattle.replay_spec.specs.Recovery.{page_of_numbers}
 use Rattle.instance_book.specs.declared.book.Book.{Book}
-use Rattle.instance_book.specs.declared.ticket.Ticket.{Ticket}
-use Rattle.instance_book.specs.declared.prepared.Change.{Change}
-use Rattle.instance_book.specs.declared.prepared.Change.TheVariants.{Opens, Extends, Ends, Finishes}
+use Rattle.book_visits.specs.declared.ticket.Ticket.{Ticket}
+use Rattle.instance_book.specs.declared.change.Change.{Change}
+use Rattle.instance_book.specs.declared.change.Change.TheVariants.{Opens, Extends, Ends, Finishes}
 use Rattle.instance_book.specs.Changes.{change_of}
-use Rattle.instance_book.specs.Views.{reply_of}
+use Rattle.book_visits.specs.Views.{reply_of}
 use Rattle.instance_book.specs.Places.{given, kept_at}
 use Rattle.instance_book.specs.Makes.{HasStatesFrom}
-use Rattle.instance_book.specs.Prepares.{IsKeptOfTicket}
-use Rattle.instance_book.specs.Admissions.{book_under}
-use Rattle.instance_book.specs.Fits.{GoesOnGiven}
+use Rattle.book_visits.specs.Prepares.{IsKeptOfTicket}
+use Rattle.instance_book.specs.Standing.{book_under}
+use Rattle.book_visits.specs.Fits.{GoesOnGiven}
 use Rattle.machine_states.specs.Machine.{Suspended}
 use Rattle.std.specs.Borrow.{Bor}
 use Rattle.machine_states.specs.Views.{origin_of, suspended_of}

@@ -13,11 +13,11 @@ use Rattle.machine_states.specs.Fits.{Fits}
 use Rattle.machine_states.specs.Views.{segment_of, Keeps}
 use Rattle.machine_states.specs.declared.segment.Segment.{Segment}
 use Rattle.send_suspend.specs.Segments.{newest, IsConsistent, Replays}
-use Rattle.instance_book.specs.declared.ticket.Ticket.{Ticket}
-use Rattle.instance_book.specs.Views.{ticket_of}
+use Rattle.book_visits.specs.declared.ticket.Ticket.{Ticket}
+use Rattle.book_visits.specs.Views.{ticket_of}
 use Rattle.instance_book.specs.Places.{arena_of}
-use Rattle.instance_book.specs.Fits.{IsFor}
-use Rattle.instance_book.specs.Laws.{KeepsStateOver}
+use Rattle.book_visits.specs.Fits.{IsFor}
+use Rattle.book_visits.specs.Laws.{KeepsStateOver}
 
 -- the segment of the ticket over these cells, which goes on from what the ticket goes on from
 pub record IsRunFrom (a : Arena) (fuel : ℕ) (t : Ticket) (cells : List Val) (r : Segment) : Type 0 where

@@ -34,17 +34,19 @@ use Rattle.replay_spec.specs.Step as step
 use Rattle.replay_spec.specs.Runs as runs
 use Rattle.replay_spec.specs.Runs.{drawn_by, shelf_step}
 use Rattle.replay_spec.specs.Invariant.{IsOrderly}
-use Rattle.instance_book.specs.declared.ticket.Ticket.{Ticket}
-use Rattle.instance_book.specs.Views.{Beside, book_of, ticket_of, reply_of}
-use Rattle.instance_book.specs.declared.prepared.Change.{Change}
+use Rattle.book_visits.specs.declared.ticket.Ticket.{Ticket}
+use Rattle.instance_book.specs.Views.{Beside, book_of}
+use Rattle.book_visits.specs.Views.{ticket_of, reply_of}
+use Rattle.instance_book.specs.declared.change.Change.{Change}
 use Rattle.instance_book.specs.Changes.{change_of, inside_of}
-use Rattle.instance_book.specs.Redo.{HasToldStates}
+use Rattle.book_recovery.specs.Found.{HasToldStates}
 use Rattle.instance_book.specs.Makes.{HasPlaces, HasSomeStates, HasItsStates}
 use Rattle.instance_book.specs.Swept.{cells_in}
-use Rattle.instance_book.specs.Fits.{FitsAs}
-use Rattle.instance_book.specs.Prepares.{rules_with, HasItsScript}
-use Rattle.instance_book.specs.Admissions.{HasFew}
-use Rattle.instance_book.specs.Laws.{KeepsStateAs}
+use Rattle.book_visits.specs.Fits.{FitsAs}
+use Rattle.instance_book.specs.Makes.{rules_with}
+use Rattle.book_visits.specs.Prepares.{HasItsScript}
+use Rattle.book_visits.specs.Admissions.{HasFew}
+use Rattle.book_visits.specs.Laws.{KeepsStateAs}
 use Rattle.instance_book.specs.declared.book.Book as kept
 use Rattle.shelf.specs.Runs.{IsRunOver}
 use Rattle.shelf.specs.declared.doubt.Doubt.{Doubt}

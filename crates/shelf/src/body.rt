@@ -2,14 +2,15 @@ ghost use Rattle.std.specs.Prelude.{◌≡◌, length, IsTrue, IfOk, OnOk};
 ghost use Rattle.web_disk.specs.View.{NoNewImage, Elapses};
 ghost use Rattle.page_journal.specs.Settled.{IsSettled, IsReady, IsSound, view_of, length_of, is_broken};
 ghost use Rattle.script_nodes.specs.Views.{library_of};
-ghost use Rattle.instance_book.specs.Fits.{IsRunnable};
+ghost use Rattle.book_visits.specs.Fits.{IsRunnable};
 ghost use Rattle.instance_book.specs.Makes.{HasPlaces, HasSomeStates};
-ghost use Rattle.instance_book.specs.Changes.{IsSpelledIn};
+ghost use Rattle.book_visits.specs.Changes.{IsSpelledIn};
 ghost use Rattle.shelf.specs.Holding.{IsWholeFrom, IsWholeIn};
 ghost use Rattle.shelf.specs.Recording.{CanBeTold, IsToldBody, IsKeptIn, BindsIn, GoesOnAsGiven};
 
 use crate::recording::{recorded, told_state, written};
-use instance_book::{Book, Change, Ticket};
+use book_visits::Ticket;
+use instance_book::{Book, Change};
 use page_journal::Journal;
 use script_nodes::Library;
 use script_value::{Bytes, Reply};

@@ -1,6 +1,7 @@
 ghost use Rattle.std.specs.Prelude.{◌≡◌, option_map};
 
-use instance_book::{Change, Prepared};
+use book_visits::Prepared;
+use instance_book::Change;
 
 /// Work on the journal in which the disk failed.
 #[derive(Drop)]

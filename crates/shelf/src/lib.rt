@@ -23,6 +23,7 @@ mod sweep;
 mod take;
 
 pub use begin::BeginFault;
+pub use book_visits::Ticket;
 pub use doubt::{Doubt, Work};
 pub use file::FilePast;
 use replay_spec::{orderly_books_stay, pages_stay};

@@ -2,16 +2,18 @@ ghost use Rattle.std.specs.Prelude.{◌≤◌, IfOk, Contains};
 ghost use Rattle.script_nodes.specs.Views.{library_of};
 ghost use Rattle.server_limits.specs.Limits.{most_fuel, most_life};
 ghost use Rattle.replay_spec.specs.Invariant.{IsOrderly};
-ghost use Rattle.instance_book.specs.Admissions.{book_under, FitsIn};
+ghost use Rattle.instance_book.specs.Standing.{book_under};
+ghost use Rattle.book_visits.specs.Admissions.{FitsIn};
 ghost use Rattle.instance_book.specs.Changes.{HasRoomFor};
-ghost use Rattle.instance_book.specs.Fits.{IsRunnable};
+ghost use Rattle.book_visits.specs.Fits.{IsRunnable};
 ghost use Rattle.instance_book.specs.Makes.{HasPlaces, StaysSame, KeepsPlaces, KeepsStates};
 ghost use Rattle.shelf.specs.Views.{IsRunIfAny, HasTargetScript};
 ghost use Rattle.shelf.specs.Preparing.{IsDecided, IsDecidedIfHeld, IsRefused, WantsMemory, CanBeLanded, ShowsState, TellsOfRun};
 
 use crate::rules::Rules;
 use crate::second::segment_now;
-use instance_book::{Book, Prepared, Ticket, a_shown_page_has_its_state};
+use book_visits::{Prepared, Ticket, a_shown_page_has_its_state, admit, prepare};
+use instance_book::Book;
 use script_nodes::Library;
 use script_value::Reply;
 use send_suspend::Segment;
@@ -52,15 +54,16 @@ pub fn prepared(
     ensures none { WantsMemory (library_of library.now) book.old ticket.now segment result }
 {
     a_shown_page_has_its_state();
-    if let Err(refusal) = book.admit(library, &ticket.target) {
+    if let Err(refusal) = admit(book, library, &ticket.target) {
         return Err(Reply::Refused(refusal));
     }
     let Some(first) = segment else {
         return Err(Reply::Memory);
     };
     match segment_now(alloc, book, library, ticket, first, rules.fuel) {
-        Ok(segment) => book.prepare(
+        Ok(segment) => prepare(
             alloc,
+            book,
             ticket,
             segment,
             rules.instances,

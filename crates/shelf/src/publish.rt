@@ -1,15 +1,15 @@
 ghost use Rattle.std.specs.Prelude.{◌≡◌, None, IsTrue};
 ghost use Rattle.script_nodes.specs.Views.{library_of};
 ghost use Rattle.instance_book.specs.Changes.{HasRoomFor};
-ghost use Rattle.instance_book.specs.Fits.{IsRunnable};
-ghost use Rattle.instance_book.specs.Views.{reply_of};
+ghost use Rattle.book_visits.specs.Fits.{IsRunnable};
+ghost use Rattle.book_visits.specs.Views.{reply_of};
 
 use crate::body::told_body;
 use crate::doubt::Doubt;
 use crate::prepare::prepared;
 use crate::recording::added;
 use crate::shelf::Shelf;
-use instance_book::{Prepared, Ticket};
+use book_visits::{Prepared, Ticket, install};
 use journal_records::records_are_exact;
 use journal_spec::{
     events_are_kept, events_stand_between, landings_are_kept, landings_stand_between,
@@ -140,7 +140,7 @@ impl<D: Disk, N: Nonces + Drop> Shelf<D, N> {
         records_are_exact();
         self.book.spend(ticket.number);
         let Some(change) = &prepared.change else {
-            return self.book.install(prepared);
+            return install(&mut self.book, prepared);
         };
         let body = match told_body(
             alloc,
@@ -159,7 +159,7 @@ impl<D: Disk, N: Nonces + Drop> Shelf<D, N> {
         match added(&mut self.journal, body.as_slice()) {
             Ok(()) => {
                 self.file.visit(change, body.len() as u64);
-                self.book.install(prepared)
+                install(&mut self.book, prepared)
             }
             Err(count) => {
                 self.down = Doubt::of_visit(count, prepared);

@@ -7,10 +7,11 @@ ghost use Rattle.journal_records.specs.Records.{changes};
 ghost use Rattle.journal_records.specs.Views.{recorded_of};
 ghost use Rattle.script_nodes.specs.Setup.{Named};
 ghost use Rattle.script_nodes.specs.Views.{library_of};
-ghost use Rattle.instance_book.specs.Fits.{IsRunnable};
+ghost use Rattle.book_visits.specs.Fits.{IsRunnable};
 ghost use Rattle.instance_book.specs.Makes.{HasPlaces, HasSomeStates};
-ghost use Rattle.instance_book.specs.Views.{reply_of};
-ghost use Rattle.instance_book.specs.Changes.{change_of, IsSpelledIn};
+ghost use Rattle.book_visits.specs.Views.{reply_of};
+ghost use Rattle.instance_book.specs.Changes.{change_of};
+ghost use Rattle.book_visits.specs.Changes.{IsSpelledIn};
 ghost use Rattle.kept_states.specs.Kept.{kept_of};
 ghost use Rattle.machine_states.specs.Views.{suspended_of};
 ghost use Rattle.shelf.specs.Holding.{IsOfItsScript, IsWholeFrom, IsWholeIn};
@@ -18,7 +19,8 @@ ghost use Rattle.shelf.specs.Recording.{refusal_of_size, CanBeWritten, IsWritten
 
 use crate::nesting::nests_shallow;
 use crate::same::are_same_states;
-use instance_book::{Book, Change, Ticket};
+use book_visits::{Ticket, answer_origin};
+use instance_book::{Book, Change};
 use journal_records::{Origin as Begun, Recorded, encode, record_length};
 use kept_states::{KeptState, kept_are_written};
 use machine_states::{Origin, Suspended};
@@ -95,7 +97,7 @@ fn goes_on_from_book(
     let Some((instance, page)) = answered(change) else {
         return Ok(true);
     };
-    let Some((from, links)) = book.before(alloc, library, instance, page)? else {
+    let Some((from, links)) = answer_origin(alloc, book, library, instance, page)? else {
         return Ok(false);
     };
     goes_on_from(alloc, &from, links, ticket)

@@ -5,10 +5,10 @@ ghost use Rattle.script_nodes.specs.Views.{library_of};
 ghost use Rattle.machine_states.specs.Fits.{Fits};
 ghost use Rattle.machine_states.specs.Views.{Keeps};
 ghost use Rattle.send_suspend.specs.Segments.{newest, FitsFrom, IsConsistent, Replays};
-ghost use Rattle.instance_book.specs.Fits.{IsRunnable};
+ghost use Rattle.book_visits.specs.Fits.{IsRunnable};
 ghost use Rattle.shelf.specs.Runs.{IsRunOver, IsRunOfItsVisit};
 
-use instance_book::Ticket;
+use book_visits::Ticket;
 use instance_cells::Cells;
 use replay_spec::effects_are_on_cells;
 use script_nodes::{Library, Script};

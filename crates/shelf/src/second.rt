@@ -1,14 +1,15 @@
 ghost use Rattle.std.specs.Prelude.{◌≡◌, ◌<◌, ◌^◌, IfOk, IfErr, Ok, map};
 ghost use Rattle.script_nodes.specs.Views.{library_of};
 ghost use Rattle.instance_cells.specs.Views.{effect_of};
-ghost use Rattle.instance_book.specs.Admissions.{book_under};
-ghost use Rattle.instance_book.specs.Fits.{IsRunnable};
-ghost use Rattle.instance_book.specs.Prepares.{AreOnCells};
+ghost use Rattle.instance_book.specs.Standing.{book_under};
+ghost use Rattle.book_visits.specs.Fits.{IsRunnable};
+ghost use Rattle.book_visits.specs.Prepares.{AreOnCells};
 ghost use Rattle.shelf.specs.Views.{HaveTheirCells, HasTargetScript, IsRunOf, IsSegmentNow, KeepsStateNow, HoldNow};
 ghost use Rattle.shelf.specs.Holding.{AreHeldNow, IsForItsVisit, IsWhyNoSegment, ShowsWholeFrom};
 
 use crate::run_ticket;
-use instance_book::{Book, Ticket};
+use book_visits::Ticket;
+use instance_book::Book;
 use page_names::Target;
 use replay_spec::effects_hold_run_same;
 use script_nodes::Library;

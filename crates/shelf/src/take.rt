@@ -1,11 +1,11 @@
 ghost use Rattle.std.specs.Prelude.{◌≡◌, IfOk};
 ghost use Rattle.script_nodes.specs.Views.{library_of};
-ghost use Rattle.instance_book.specs.Admissions.{HasCellsBy};
-ghost use Rattle.instance_book.specs.Fits.{IsRunnable};
+ghost use Rattle.book_visits.specs.Admissions.{HasCellsBy};
+ghost use Rattle.book_visits.specs.Fits.{IsRunnable};
 ghost use Rattle.instance_book.specs.Makes.{HasItsStates};
 
 use crate::shelf::Shelf;
-use instance_book::Ticket;
+use book_visits::{Ticket, admit, take_ticket};
 use journal_spec::events_are_kept;
 use page_names::Target;
 use script_value::{Reply, Value};
@@ -50,15 +50,12 @@ impl<D: Disk, N: Nonces + Drop> Shelf<D, N> {
         if self.book.drawn() == NUMBERS {
             return Err(Reply::Worn);
         }
-        if let Err(refusal) = self.book.admit(&self.library, target) {
+        if let Err(refusal) = admit(&self.book, &self.library, target) {
             return Err(Reply::Refused(refusal));
         }
         let mut nonces = self.nonces.again();
         let nonce = nonces.next();
-        match self
-            .book
-            .ticket(alloc, &self.library, target, answer, nonce)
-        {
+        match take_ticket(alloc, &mut self.book, &self.library, target, answer, nonce) {
             Ok(ticket) => {
                 self.nonces = nonces;
                 Ok(ticket)

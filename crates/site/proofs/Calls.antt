@@ -7,8 +7,7 @@ use Rattle.page_names.specs.Names.{Destination}
 use Rattle.web_disk.specs.View.{View}
 use Rattle.journal_spec.specs.Laws.{ImagesMakeBooks}
 use Rattle.replay_spec.specs.Step as step
-use Rattle.instance_book.specs.declared.ticket.Ticket.{Ticket}
-use Rattle.instance_book.specs.Views.{ticket_of, reply_of}
+use Rattle.shelf.specs.Visits.{Ticket, ticket_of, reply_of}
 use Rattle.shelf.specs.declared.shelf.Shelf.{Shelf}
 use Rattle.shelf.specs.Views.{IsInOrder, IsOwnShelf, IsOwnVisit, IsEvent, swept_of}
 use Rattle.shelf.specs.Events.{SpendsNumber, TellsCount, HasMoments, HasOwnMoments}

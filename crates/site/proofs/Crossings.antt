@@ -18,11 +18,11 @@ use Rattle.journal_records.specs.contracts.records.EndedRecord as EndedRecord
 use Rattle.journal_records.specs.contracts.records.FinishRecord as FinishRecord
 use Rattle.instance_book.specs.contracts.after.After as After
 use Rattle.instance_book.specs.contracts.after.Show as Show
-use Rattle.instance_book.specs.contracts.prepared.Opening as Opening
-use Rattle.instance_book.specs.contracts.prepared.Extension as Extension
-use Rattle.instance_book.specs.contracts.prepared.Ending as Ending
-use Rattle.instance_book.specs.contracts.prepared.Finish as Finish
-use Rattle.instance_book.specs.contracts.prepared.Change as Change
+use Rattle.instance_book.specs.contracts.change.Opening as Opening
+use Rattle.instance_book.specs.contracts.change.Extension as Extension
+use Rattle.instance_book.specs.contracts.change.Ending as Ending
+use Rattle.instance_book.specs.contracts.change.Finish as Finish
+use Rattle.instance_book.specs.contracts.change.Change as Change
 use Rattle.page_journal.specs.contracts.journal.Journal as Journal
 use Rattle.page_journal.proofs.journal.Journal.TheSendSync as journals
 use Rattle.shelf.proofs.rules.Rules.TheSendSync as rules

@@ -15,7 +15,7 @@ use Rattle.replay_spec.specs.Invariant.{IsOrderly}
 use Rattle.replay_spec.specs.Laws.{IsLawful, Moment, tickets_by}
 use Rattle.replay_spec.proofs.Numbers.{numbers, numbers_spent, tickets_out}
 use Rattle.replay_spec.proofs.Stand.{among_of}
-use Rattle.instance_book.specs.Views.{reply_of}
+use Rattle.shelf.specs.Visits.{reply_of}
 use Rattle.shelf.specs.Views.{swept_of}
 use Rattle.shelf.proofs.Order.{quiet}
 use Rattle.history_spec.specs.Histories.{Entry, MayCome, Owes, own_of, owed_by, tickets_left}

@@ -16,8 +16,7 @@ use Rattle.replay_spec.proofs.Admitted.{admit_drawn}
 use Rattle.web_outside.specs.Causes.{Rose}
 use Rattle.history_spec.specs.Histories as histories
 use Rattle.history_spec.specs.Histories.{IsCounted}
-use Rattle.instance_book.specs.declared.ticket.Ticket.{Ticket}
-use Rattle.instance_book.specs.Views.{reply_of}
+use Rattle.shelf.specs.Visits.{Ticket, reply_of}
 use Rattle.shelf.specs.Views as views
 use Rattle.shelf.specs.Views.{taken_of}
 use Rattle.shelf.specs.Events.{TellsCount}

@@ -11,9 +11,7 @@ use Rattle.script_value.specs.Val.{Val}
 use Rattle.page_names.specs.Names.{Destination}
 use Rattle.web_disk.specs.View.{View}
 use Rattle.machine_states.specs.declared.segment.Segment.{Segment}
-use Rattle.instance_book.specs.declared.ticket.Ticket.{Ticket}
-use Rattle.instance_book.specs.Views.{ticket_of}
-use Rattle.instance_book.specs.Fits.{IsRunnable}
+use Rattle.shelf.specs.Visits.{Ticket, ticket_of, IsRunnable}
 use Rattle.shelf.specs.Views.{IsRunIfAny}
 use Rattle.lock_row.specs.Spots.{Spot, spot, IsOf, At, caller_at, home_of}
 use Rattle.lock_row.proofs.Places.{one_of, there, map_length}

@@ -15,7 +15,7 @@ use Rattle.http_forms.specs.Passes.{AreSwept}
 use Rattle.lock_row.specs.Spots.{Spot, spot, home_of, At, caller_at}
 use Rattle.lock_row.proofs.Places.{one_of, get_there, map_length}
 use Rattle.replay_spec.specs.Step as step
-use Rattle.instance_book.specs.declared.ticket.Ticket.{Ticket}
+use Rattle.shelf.specs.Visits.{Ticket}
 use Rattle.replay_spec.specs.Runs.{Shelf}
 use Rattle.history_spec.specs.Histories.{Entry, own_of, book_behind, IsLegal, IsOpened}
 use Rattle.history_spec.specs.Passes.{Goes}

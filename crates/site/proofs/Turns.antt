@@ -16,8 +16,7 @@ use Rattle.script_value.specs.declared.outcome.Reply.TheVariants.{Worn}
 use Rattle.page_names.specs.Names.{Destination}
 use Rattle.replay_spec.specs.Step as step
 use Rattle.replay_spec.specs.Step.{Event}
-use Rattle.instance_book.specs.declared.ticket.Ticket.{Ticket}
-use Rattle.instance_book.specs.Views.{ticket_of, reply_of}
+use Rattle.shelf.specs.Visits.{Ticket, ticket_of, reply_of}
 use Rattle.shelf.specs.Views.{book_in, taken_of, swept_of}
 use Rattle.history_spec.specs.Histories.{Entry, own_of, IsLegal}
 use Rattle.history_spec.specs.Passes.{IsSeenBy, Goes}

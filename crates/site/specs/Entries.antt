@@ -5,7 +5,7 @@ use Rattle.script_value.specs.Views.{meaning}
 use Rattle.page_names.specs.Views.{target_of}
 use Rattle.replay_spec.specs.Step as step
 use Rattle.replay_spec.specs.Step.{Event}
-use Rattle.instance_book.specs.Views.{ticket_of, reply_of}
+use Rattle.shelf.specs.Visits.{ticket_of, reply_of}
 use Rattle.shelf.specs.Views.{taken_of, swept_of}
 use Rattle.history_spec.specs.Histories.{Entry}
 use Rattle.site.specs.declared.entry.KeptEntry.{KeptEntry}

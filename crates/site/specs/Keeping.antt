@@ -9,8 +9,7 @@ use Rattle.page_names.specs.declared.names.Target.{Target}
 use Rattle.page_names.specs.Views.{target_of}
 use Rattle.web_disk.specs.View.{View}
 use Rattle.replay_spec.specs.Step as step
-use Rattle.instance_book.specs.declared.ticket.Ticket.{Ticket}
-use Rattle.instance_book.specs.Views.{ticket_of, reply_of}
+use Rattle.shelf.specs.Visits.{Ticket, ticket_of, reply_of}
 use Rattle.machine_states.specs.declared.segment.Segment.{Segment}
 use Rattle.shelf.specs.Views.{IsRunIfAny, book_in, library_in, taken_of}
 use Rattle.site.specs.declared.kept.KeptShelf.{KeptShelf}

@@ -11,8 +11,7 @@ use Rattle.shelf_lock.specs.declared.view.Role.TheVariants.{Outside}
 use Rattle.shelf_lock.specs.Order.{posed, entry_limit}
 use Rattle.lock_row.specs.Spots.{Spot}
 use Rattle.replay_spec.specs.Step as step
-use Rattle.instance_book.specs.declared.ticket.Ticket.{Ticket}
-use Rattle.instance_book.specs.Views.{ticket_of, reply_of}
+use Rattle.shelf.specs.Visits.{Ticket, ticket_of, reply_of}
 use Rattle.history_spec.specs.Histories.{Entry, own_of, IsOpened}
 use Rattle.history_spec.specs.Laws.{take_of}
 use Rattle.history_spec.specs.Passes.{Goes, publish_of}

@@ -1,6 +1,5 @@
 -- What is said of shelves and of tickets, for the crates above a site.
-pub use Rattle.instance_book.specs.declared.ticket.Ticket.{Ticket}
-pub use Rattle.instance_book.specs.Views.{ticket_of, reply_of}
+pub use Rattle.shelf.specs.Visits.{Ticket, ticket_of, reply_of}
 pub use Rattle.shelf.specs.declared.begin.BeginFault.{BeginFault}
 pub use Rattle.shelf.specs.declared.begin.BeginFault.TheVariants as fault
 pub use Rattle.shelf.specs.declared.rules.Rules.{Rules}

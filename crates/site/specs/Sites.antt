@@ -14,8 +14,7 @@ use Rattle.page_names.specs.declared.names.Target.{Target}
 use Rattle.page_names.specs.Views.{target_of}
 use Rattle.web_disk.specs.View.{View}
 use Rattle.lock_row.specs.Spots.{Spot, spot, IsOf, At, caller_at}
-use Rattle.instance_book.specs.declared.ticket.Ticket.{Ticket}
-use Rattle.instance_book.specs.Views.{ticket_of}
+use Rattle.shelf.specs.Visits.{Ticket, ticket_of}
 use Rattle.site.specs.declared.entry.KeptEntry.{KeptEntry}
 use Rattle.site.specs.declared.opening.Opening.{Opening}
 use Rattle.site.specs.declared.site.Site.{Site}

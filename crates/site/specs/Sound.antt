@@ -9,10 +9,7 @@ use Rattle.page_names.specs.Views.{target_of}
 use Rattle.web_disk.specs.View.{View, LeavesOnly}
 use Rattle.replay_spec.specs.Next as next
 use Rattle.replay_spec.specs.Admission.{refusal_of, admit}
-use Rattle.instance_book.specs.declared.ticket.Ticket.{Ticket}
-use Rattle.instance_book.specs.Views.{ticket_of}
-use Rattle.instance_book.specs.Fits.{FitsAs, IsRunnable}
-use Rattle.instance_book.specs.Prepares.{HasItsScript}
+use Rattle.shelf.specs.Visits.{Ticket, ticket_of, FitsAs, IsRunnable, HasItsScript}
 use Rattle.history_spec.specs.Histories.{Entry, Owes, IsOpened, tickets_left}
 use Rattle.history_spec.specs.Laws.{tickets_taken}
 use Rattle.history_spec.specs.Kept.{IsKept}

@@ -1,6 +1,6 @@
-use instance_book::Ticket;
 use page_names::Target;
 use script_value::{Reply, Value};
+use shelf::Ticket;
 use std::snapshot::Snapshot;
 
 /// What was done at a shelf, and what it was answered. Clauses alone read what stands behind a snapshot.

@@ -2,13 +2,12 @@
 use crate::entry::{Did, KeptEntry};
 use crate::opening::Opening;
 use ghost_history::History;
-use instance_book::Ticket;
 use journal_spec::images_make_books;
 use page_names::Target;
 use script_nodes::Library;
 use script_value::{Reply, Value};
 use send_suspend::Segment;
-use shelf::{Shelf, tickets_go_on_to_fit};
+use shelf::{Shelf, Ticket, tickets_go_on_to_fit};
 use shelf_lock::Kept;
 use std::alloc::{AllocError, Global};
 use std::snapshot::Snapshot;

@@ -1,20 +1,19 @@
 //! The shelves of a site.
 ghost use Rattle.std.specs.Prelude.{◌<◌, ◌^◌};
 ghost use Rattle.script_nodes.specs.Views.{library_of};
-ghost use Rattle.instance_book.specs.Fits.{IsRunnable};
+ghost use Rattle.shelf.specs.Visits.{IsRunnable};
 ghost use Rattle.shelf.specs.Views.{IsRunIfAny};
 
 use crate::entry::KeptEntry;
 use crate::kept::KeptShelf;
 use crate::pass::{SiteNote, SitePass};
 use ghost_history::History;
-use instance_book::Ticket;
 use lock_row::LockRow;
 use page_names::Target;
 use script_nodes::Library;
 use script_value::{Refusal, Reply, Value};
 use send_suspend::Segment;
-use shelf::run_ticket;
+use shelf::{Ticket, run_ticket};
 use shelf_lock::Worn;
 use std::alloc::{AllocError, Global};
 use std::sync::Wait;

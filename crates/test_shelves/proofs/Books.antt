@@ -4,7 +4,8 @@ use Rattle.std.proofs.lemmas.List.Elements.{Contains-push}
 use Rattle.replay_spec.specs.Book as spec
 use Rattle.replay_spec.specs.Next as next
 use Rattle.instance_book.specs.Makes.{Makes}
-use Rattle.instance_book.specs.Views.{ticket_of, ticket_for, no_journal}
+use Rattle.book_visits.specs.Views.{ticket_of, ticket_for}
+use Rattle.instance_book.specs.Views.{no_journal}
 use Rattle.page_names.specs.declared.names.ScriptName.{ScriptName}
 use Rattle.page_names.specs.declared.names.Target.{Target}
 use Rattle.page_names.specs.declared.names.Target.TheVariants.{Start}
@@ -15,10 +16,10 @@ use Rattle.instance_cells.specs.Views.{effect_of}
 use Rattle.instance_cells.specs.declared.effect.Effect.{Effect}
 use Rattle.page_names.specs.Names.{Destination, start, page}
 use Rattle.page_names.specs.Views.{target_of}
-use Rattle.instance_book.specs.Prepares.{AreOnBy, AreOnCells, IsNew, IsNewBy}
+use Rattle.book_visits.specs.Prepares.{AreOnBy, AreOnCells, IsNew, IsNewBy}
 use Rattle.instance_book.specs.Swept.{cells_at}
 use Rattle.instance_book.specs.declared.book.Book.{Book}
-use Rattle.instance_book.specs.declared.ticket.Ticket.{Ticket}
+use Rattle.book_visits.specs.declared.ticket.Ticket.{Ticket}
 
 none_in : (cells : Option (List Val)) → IfSome cells (λ vs. AreOn (length vs) [])
 none_in None = tt

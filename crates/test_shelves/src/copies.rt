@@ -1,12 +1,13 @@
 //! Copies of a ticket, of what is prepared and of a book.
 ghost use Rattle.std.specs.Prelude.{◌≡◌, ◌<◌, ◌^◌, [], None, IfOk, Contains};
 ghost use Rattle.script_nodes.specs.Views.{library_of};
-ghost use Rattle.instance_book.specs.Admissions.{HasFew, refusal_for};
+ghost use Rattle.book_visits.specs.Admissions.{HasFew, refusal_for};
 ghost use Rattle.instance_book.specs.Changes.{HasRoomFor};
 ghost use Rattle.instance_book.specs.Makes.{HasPlaces, HasSomeStates};
 
 use crate::texts::{SUM, datum, is_datum, setup, target, text_of};
-use instance_book::{Book, Prepared, Ticket};
+use book_visits::{Prepared, Ticket, admit, install, prepare, take_ticket};
+use instance_book::Book;
 use machine_states::{Outcome, Segment, Suspended};
 use page_names::Target;
 use script_nodes::{Library, SendKind};
@@ -35,7 +36,7 @@ fn take(alloc: Global, book: &mut Book, library: &Library, target: &Target) -> R
     ensures { IfOk result (λ t. Contains book.new.out.items t.number) }
 {
     let answer = datum(alloc, "3")?;
-    let ticket = book.ticket(alloc, library, target, answer, 10)?;
+    let ticket = take_ticket(alloc, book, library, target, answer, 10)?;
     Ok(ticket)
 }
 
@@ -52,7 +53,7 @@ fn started(alloc: Global, book: &mut Book, library: &Library) -> Result<Ticket, 
         return Err(Fail::from("too many scripts"));
     }
     let target = target("/servlets/s")?;
-    if let Err(_refusal) = book.admit(library, &target) {
+    if let Err(_refusal) = admit(book, library, &target) {
         return Err(Fail::from("not admitted"));
     }
     take(alloc, book, library, &target)
@@ -104,7 +105,7 @@ fn prepared(alloc: Global, book: &mut Book, ticket: &Ticket) -> Result<Prepared,
     };
     let page = Bytes::new("a".as_bytes().to_vec(alloc)?);
     let segment = segment(alloc, page);
-    match book.prepare(alloc, ticket, segment, 256, 64, 3_600) {
+    match prepare(alloc, book, ticket, segment, 256, 64, 3_600) {
         Ok(prepared) => Ok(prepared),
         Err(_) => Err(Fail::from("not prepared")),
     }
@@ -137,7 +138,7 @@ fn installed(alloc: Global, book: &mut Book, library: &Library) -> Result<Reply,
     let ticket = started(alloc, book, library)?;
     expect_copy(alloc, &ticket)?;
     let copy = copied_for(alloc, book, &ticket)?;
-    Ok(book.install(copy))
+    Ok(install(book, copy))
 }
 
 // Whether the reply is that page, and the book has its instance alone.

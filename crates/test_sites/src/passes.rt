@@ -6,9 +6,9 @@ ghost use Rattle.site.specs.Beginnings.{IsReady, IsWhole};
 
 use crate::sites::MemorySite;
 use http_forms::answer_of;
-use instance_book::Ticket;
 use page_names::{Target, parse_target};
 use script_value::Reply;
+use shelf::Ticket;
 use site::SitePass;
 use std::alloc::Global;
 use std::sync::Wait;

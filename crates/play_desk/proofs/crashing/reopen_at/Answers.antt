@@ -5,7 +5,7 @@ use Rattle.web_outside.specs.declared.nonces.Counting.{Counting}
 use Rattle.shelf.specs.declared.shelf.Shelf.{Shelf}
 use Rattle.std.specs.Prelude.{insert}
 use Rattle.std.proofs.lemmas.List.{length-map, length-set}
-use Rattle.instance_book.specs.Views.{instance_of, ticket_of}
+use Rattle.shelf.specs.Visits.{instance_of, ticket_of}
 use Rattle.play_steps.specs.Rules.{Comes}
 use Rattle.play_steps.specs.declared.stage.Reopen.{Reopen}
 use Rattle.play_steps.specs.declared.stage.Reopen.TheVariants.{Disk}

@@ -1,5 +1,5 @@
 use Rattle.std.proofs.Common.{◌≡◌, ◌≢◌, ◌+◌, ◌∙◌, List, Option, Some, subst, sym, slice_set, arith, IfSome}
-use Rattle.instance_book.specs.declared.ticket.Ticket.{Ticket}
+use Rattle.shelf.specs.Visits.{Ticket}
 use Rattle.play_desk.specs.Staff.{place_of}
 use Rattle.play_desk.proofs.Losing.{Loses, none_lost, one_lost, all_lost}
 use Rattle.play_desk.proofs.staff.lose_tickets.Goals as goal

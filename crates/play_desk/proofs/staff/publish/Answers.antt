@@ -2,10 +2,8 @@ use Rattle.std.proofs.Common.{◌≡◌, ◌<◌, ◌∙◌, ℕ, Bool, ap, sym,
 use Rattle.script_nodes.specs.Views.{library_of}
 use Rattle.script_nodes.specs.declared.library.Library.{Library}
 use Rattle.web_disk.specs.View.{View}
-use Rattle.instance_book.specs.Fits.{IsRunnable}
+use Rattle.shelf.specs.Visits.{IsRunnable, ticket_of, reply_of, Ticket}
 use Rattle.web_outside.specs.declared.nonces.Counting.{Counting}
-use Rattle.instance_book.specs.Views.{ticket_of, reply_of}
-use Rattle.instance_book.specs.declared.ticket.Ticket.{Ticket}
 use Rattle.shelf.specs.Going.{TicketsGoOnToFit}
 use Rattle.shelf.specs.Views.{fate_by, IsOwnVisit}
 use Rattle.shelf.specs.declared.shelf.Shelf.{Shelf}

@@ -10,7 +10,7 @@ use Rattle.replay_spec.specs.Admission.{admit, refusal_of}
 use Rattle.replay_spec.specs.Next as next
 use Rattle.replay_spec.specs.Step.{take, taken, plain, no_memory, step}
 use Rattle.replay_spec.specs.Step as spec
-use Rattle.instance_book.specs.Views.{ticket_of, reply_of}
+use Rattle.shelf.specs.Visits.{ticket_of, reply_of}
 use Rattle.shelf.specs.declared.shelf.Shelf.{Shelf}
 use Rattle.shelf.specs.Views.{book_in, fate_by}
 use Rattle.play_steps.specs.Rules.{Comes}

@@ -6,11 +6,13 @@ use Rattle.machine_states.specs.Views.{segment_of}
 use Rattle.replay_spec.specs.Admission.{refusal_of, admit}
 use Rattle.replay_spec.specs.Book.{Doubt}
 use Rattle.replay_spec.specs.Step.{Decision, unless, down_by, decide, publish_comes}
-use Rattle.instance_book.specs.declared.prepared.Prepared.{Prepared}
-use Rattle.instance_book.specs.Admissions.{book_under, FitsIn}
-use Rattle.instance_book.specs.Changes.{HasDeadlineBy}
-use Rattle.instance_book.specs.Prepares.{Prepares, IsPrepared, KeepsItsState}
-use Rattle.instance_book.specs.Views.{Beside, no_journal, book_of, ticket_of}
+use Rattle.book_visits.specs.declared.prepared.Prepared.{Prepared}
+use Rattle.instance_book.specs.Standing.{book_under}
+use Rattle.book_visits.specs.Admissions.{FitsIn}
+use Rattle.book_visits.specs.Changes.{HasDeadlineBy}
+use Rattle.book_visits.specs.Prepares.{Prepares, IsPrepared, KeepsItsState}
+use Rattle.instance_book.specs.Views.{Beside, no_journal, book_of}
+use Rattle.book_visits.specs.Views.{ticket_of}
 use Rattle.shelf.specs.Views.{unmeasured}
 use Rattle.shelf.proofs.Replayed.{if_ok}
 use Rattle.shelf.proofs.Beside.{admit_same, fits_at, segment_at, prepares_by}

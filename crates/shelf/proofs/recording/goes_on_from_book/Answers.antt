@@ -2,7 +2,7 @@ use Rattle.std.proofs.Common.{◌∙◌, ℕ, Option, subst, sym}
 use Rattle.std.specs.Prelude.{IfSome}
 use Rattle.script_nodes.specs.Views.{library_of}
 use Rattle.machine_states.specs.declared.segment.Origin.{Origin}
-use Rattle.instance_book.specs.Before.{IsBefore}
+use Rattle.book_visits.specs.Before.{IsBefore}
 use Rattle.shelf.proofs.Replayed.{if_ok}
 use Rattle.shelf.proofs.Written.{goes_from_there}
 use Rattle.shelf.specs.Recording.{GoesOnFromBook}

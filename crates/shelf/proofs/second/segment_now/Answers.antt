@@ -10,7 +10,7 @@ use Rattle.instance_cells.specs.Views.{effect_of}
 use Rattle.instance_cells.specs.declared.effect.Effect as rust
 use Rattle.replay_spec.specs.Book.{Book}
 use Rattle.replay_spec.specs.Admission.{admit}
-use Rattle.instance_book.specs.Admissions.{book_under}
+use Rattle.instance_book.specs.Standing.{book_under}
 use Rattle.instance_book.specs.Swept.{cells_in, cells_at}
 use Rattle.instance_book.specs.Views.{no_journal}
 use Rattle.instance_book.proofs.Seen.{cells_seen}

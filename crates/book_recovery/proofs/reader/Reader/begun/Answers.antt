@@ -3,7 +3,7 @@ use Rattle.script_nodes.specs.Setup.{Named}
 use Rattle.journal_records.specs.Views.{script_of}
 use Rattle.journal_spec.specs.Whole.{AreWhole}
 use Rattle.book_recovery.specs.Reading.{IsSetupOf}
-use Rattle.instance_book.proofs.Redone.{of_some}
+use Rattle.book_redo.proofs.Passed.{of_some}
 use Rattle.book_recovery.proofs.reader.Reader.begun.Goals as goal
 
 pub returns : goal.returns

@@ -4,7 +4,7 @@ use Rattle.script_nodes.specs.declared.library.ScriptText.{ScriptText}
 use Rattle.setup_reader.proofs.Retold.{setup_kept}
 use Rattle.instance_book.specs.declared.book.Book.{Book}
 use Rattle.instance_book.specs.Makes.{count_of, HasPlaces}
-use Rattle.instance_book.proofs.Redone.{of_some}
+use Rattle.book_redo.proofs.Passed.{of_some}
 use Rattle.journal_records.specs.Laws.{IsBodyOf}
 use Rattle.journal_records.specs.Records.{renews}
 use Rattle.journal_records.specs.Reading.{read_record}

@@ -3,7 +3,7 @@ use Rattle.script_nodes.specs.Views.{library_of}
 use Rattle.journal_records.specs.Views.{logged_of}
 use Rattle.replay_spec.specs.Recovery.{is_repeated}
 use Rattle.journal_spec.specs.Before.{state_at}
-use Rattle.instance_book.specs.Redo.{number_by, IsRedoneBy}
+use Rattle.book_redo.specs.Redo.{number_by, IsRedoneBy}
 use Rattle.book_recovery.specs.Reading.{seen_by}
 use Rattle.book_recovery.proofs.Counted.{redone_few}
 use Rattle.book_recovery.proofs.Made.{free, low_of}
@@ -38,9 +38,9 @@ returns-else-branch-clause-made c =
     let l = library_of c.args.library.now in
     let r = logged_of c.args.logged in
     let so = seen_so c.number_of.result (number_by r) c.in_ok-seen.seen (seen_by c.args.self.now.seen) c.number_of.ensures.number c.in_ok-seen.ensures.seen in (
-      c.redo.new.self,
-      subst (λ (t : Bool). IsRedoneBy l r t false c.args.book c.redo.new.self) so
-          (subst (λ (t : Bool). IsRedoneBy l r c.in_ok-seen.seen t c.args.book c.redo.new.self) c.if-branch.false c.in_ok-redo.ensures.redone),
+      c.redo.new.book,
+      subst (λ (t : Bool). IsRedoneBy l r t false c.args.book c.redo.new.book) so
+          (subst (λ (t : Bool). IsRedoneBy l r c.in_ok-seen.seen t c.args.book c.redo.new.book) c.if-branch.false c.in_ok-redo.ensures.redone),
     )
 
 pub returns-then-branch-clause-count : goal.returns-then-branch-clause-count
@@ -49,5 +49,5 @@ returns-then-branch-clause-count c =
     let r = logged_of c.args.logged in
     let old = c.args.self.now in
     let so = seen_so c.number_of.result (number_by r) c.in_ok-seen.seen (seen_by old.seen) c.number_of.ensures.number c.in_ok-seen.ensures.seen in
-    redone_few old.shelf old.alone l old.seen r c.args.book (Some c.redo.new.self) c.requires.kept
-    (subst (λ (t : Bool). IsRedoneBy l r t true c.args.book c.redo.new.self) so (subst (λ (t : Bool). IsRedoneBy l r c.in_ok-seen.seen t c.args.book c.redo.new.self) c.if-branch.true c.in_ok-redo.ensures.redone))
+    redone_few old.shelf old.alone l old.seen r c.args.book (Some c.redo.new.book) c.requires.kept
+    (subst (λ (t : Bool). IsRedoneBy l r t true c.args.book c.redo.new.book) so (subst (λ (t : Bool). IsRedoneBy l r c.in_ok-seen.seen t c.args.book c.redo.new.book) c.if-branch.true c.in_ok-redo.ensures.redone))

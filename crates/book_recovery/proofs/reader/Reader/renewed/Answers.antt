@@ -4,7 +4,7 @@ use Rattle.script_nodes.specs.Views.{library_of}
 use Rattle.journal_records.specs.Views.{script_of}
 use Rattle.journal_spec.specs.Whole.{AreWhole}
 use Rattle.book_recovery.specs.Reading.{IsSetupOf}
-use Rattle.instance_book.proofs.Redone.{of_some}
+use Rattle.book_redo.proofs.Passed.{of_some}
 use Rattle.book_recovery.proofs.reader.Reader.renewed.Goals as goal
 
 pub returns-in-Ok : goal.returns-in-Ok

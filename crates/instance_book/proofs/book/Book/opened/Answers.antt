@@ -4,7 +4,7 @@ use Rattle.replay_spec.specs.Book as spec
 use Rattle.page_marks.specs.Marks.{Mark, uses_of, evictions_of}
 use Rattle.kept_states.specs.Kept.{kept_of}
 use Rattle.instance_book.specs.Views.{page_of, mark_of}
-use Rattle.instance_book.specs.Prepares.{begun_at}
+use Rattle.instance_book.specs.Changes.{begun_at}
 use Rattle.instance_book.specs.Segments.{effects_in, new_in, IsNewPage, BeginsBy}
 use Rattle.instance_book.proofs.book.Book.opened.Goals as goal
 

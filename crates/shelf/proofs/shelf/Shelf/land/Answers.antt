@@ -6,7 +6,8 @@ use Rattle.page_journal.specs.Holding.{MayHold}
 use Rattle.page_journal.specs.Settled.{length_of, bodies_in}
 use Rattle.journal_records.specs.Records.{changes, record_length}
 use Rattle.instance_book.specs.Makes.{shelf_from}
-use Rattle.instance_book.specs.Views.{reply_of, instances_of}
+use Rattle.book_visits.specs.Views.{reply_of}
+use Rattle.instance_book.specs.Views.{instances_of}
 use Rattle.instance_book.specs.Changes.{change_of, HasStateFrom}
 use Rattle.replay_spec.specs.Book.{changed}
 use Rattle.replay_spec.specs.Change.{with_line}
@@ -27,7 +28,7 @@ use Rattle.shelf.proofs.shelf.Shelf.land.Goals.{In-Ok, In-Err, After-install, Af
 
 -- nothing is recorded
 
-idle : (g : _) (c : After-install g) → Publishes g.D.Disk.view g.D.Disk.tells g.N.Nonces.nonce c.args.self.now (record c.args.self.now { book = c.install.new.self }) c.args.ticket.now c.install.result
+idle : (g : _) (c : After-install g) → Publishes g.D.Disk.view g.D.Disk.tells g.N.Nonces.nonce c.args.self.now (record c.args.self.now { book = c.install.new.book }) c.args.ticket.now c.install.result
 idle g c =
     let view = g.D.Disk.view in
     let tells = g.D.Disk.tells in
@@ -36,8 +37,8 @@ idle g c =
     let t = c.args.ticket.now in
     let p = c.args.prepared in
     let q = c.requires in
-    let is = landing.idle_book view tells s q.in_order t p q.up q.out q.script q.landed q.room c.spend.new.self c.install.new.self c.spend.ensures.book c.install.ensures.book c.in_default.is in
-    spent_publishes view tells g.N.Nonces.nonce s (record s { book = c.install.new.self }) t c.install.result q.in_order c.events_are_kept.ensures (g.met.D.Disk.only_now s.journal.disk) q.out is refl refl refl (no_call view tells s.journal)
+    let is = landing.idle_book view tells s q.in_order t p q.up q.out q.script q.landed q.room c.spend.new.self c.install.new.book c.spend.ensures.book c.install.ensures.book c.in_default.is in
+    spent_publishes view tells g.N.Nonces.nonce s (record s { book = c.install.new.book }) t c.install.result q.in_order c.events_are_kept.ensures (g.met.D.Disk.only_now s.journal.disk) q.out is refl refl refl (no_call view tells s.journal)
     q.in_order.sound q.in_order.whole
     (λ source all. c.install.ensures.states source l.all (subst (HasStateFrom l.all (shelf_from source c.spend.new.self.shelf) (instances_of l.all c.spend.new.self.instances)) (sym c.in_default.is) tt) (c.spend.ensures.states source l.all all))
     (λ own. landing.idle_comes view tells s q.in_order t p q.up q.out q.script q.landed q.room c.install.result c.install.ensures.reply c.in_default.is (q.decided own))
@@ -174,7 +175,7 @@ added-requires-clause-short g c =
 -- it was added
 
 landed : (g : _) (c : After-install-in-Ok-added g)
-    → Publishes g.D.Disk.view g.D.Disk.tells g.N.Nonces.nonce c.args.self.now (record c.args.self.now { journal = c.added.new.journal; book = c.install-in-Ok-added.new.self; file = c.visit.new.self }) c.args.ticket.now c.install-in-Ok-added.result
+    → Publishes g.D.Disk.view g.D.Disk.tells g.N.Nonces.nonce c.args.self.now (record c.args.self.now { journal = c.added.new.journal; book = c.install-in-Ok-added.new.book; file = c.visit.new.self }) c.args.ticket.now c.install-in-Ok-added.result
 landed g c =
     let view = g.D.Disk.view in
     let tells = g.D.Disk.tells in
@@ -199,7 +200,7 @@ landed g c =
     (record { settled = λ tells settled. told.settled tells; seen = told.seen; images = told.images; time = told.time })
     (λ tells. subst (λ (x : List ℕ). LeavesOnly (view mid.disk) (view new.disk) (MayHold (bodies_in view mid) x)) c.as_slice.ensures (c.added.ensures.any_moment tells)) c.added.ensures.sound
     (record { only_now = g.met.D.Disk.only_now s.journal.disk; counts_now = g.met.D.Disk.counts_now new.disk; reads = λ tells. g.met.D.Disk.reads_image s.journal.disk tells })
-    c.visit.new.self filed c.install-in-Ok-added.new.self c.install-in-Ok-added.ensures.book c.install-in-Ok-added.ensures.states c.install-in-Ok-added.result c.install-in-Ok-added.ensures.reply long c.in-Ok-added.ensures.whole
+    c.visit.new.self filed c.install-in-Ok-added.new.book c.install-in-Ok-added.ensures.book c.install-in-Ok-added.ensures.states c.install-in-Ok-added.result c.install-in-Ok-added.ensures.reply long c.in-Ok-added.ensures.whole
     (λ tells. let both = c.in-Ok-added.ensures.ok tells in (both.0, subst (λ (x : List ℕ). bodies_in view new ≡ bodies_in view mid ++ x ∷ []) c.as_slice.ensures both.1))
 
 pub returns-in-Ok-added-clause-event : goal.returns-in-Ok-added-clause-event

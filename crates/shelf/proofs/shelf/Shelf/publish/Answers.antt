@@ -4,10 +4,11 @@ use Rattle.page_names.specs.Views.{target_of}
 use Rattle.replay_spec.specs.Book.{Book, spend}
 use Rattle.replay_spec.specs.Admission.{refusal_of, admit}
 use Rattle.replay_spec.specs.Step as step
-use Rattle.instance_book.specs.Admissions.{refusal_for, FitsIn}
-use Rattle.instance_book.specs.Fits.{FitsAs}
-use Rattle.instance_book.specs.Views.{no_journal, book_of, ticket_of, reply_of}
-use Rattle.instance_book.specs.Prepares.{IsCarriedOut}
+use Rattle.book_visits.specs.Admissions.{refusal_for, FitsIn}
+use Rattle.book_visits.specs.Fits.{FitsAs}
+use Rattle.instance_book.specs.Views.{no_journal, book_of}
+use Rattle.book_visits.specs.Views.{ticket_of, reply_of}
+use Rattle.book_visits.specs.Prepares.{IsCarriedOut}
 use Rattle.shelf.specs.declared.doubt.Doubt as doubt_type
 use Rattle.shelf.specs.Views.{unmeasured, library_in, beside_of, book_in, doubt_of, FitsNow}
 use Rattle.shelf.specs.Events.{decision_of, TellsReply, no_publish}

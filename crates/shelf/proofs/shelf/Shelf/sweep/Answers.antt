@@ -6,7 +6,7 @@ use Rattle.page_journal.specs.Settled.{length_of, bodies_in}
 use Rattle.replay_spec.specs.Book.{changed, sweeps}
 use Rattle.replay_spec.specs.Change.{with_line}
 use Rattle.replay_spec.specs.Step as step
-use Rattle.instance_book.specs.Views.{reply_of}
+use Rattle.book_visits.specs.Views.{reply_of}
 use Rattle.shelf.specs.declared.doubt.Doubt as doubt_type
 use Rattle.shelf.specs.declared.doubt.Work.TheVariants.{Sweeps as DoubtedSweeps}
 use Rattle.shelf.specs.Files.{file_of}

@@ -9,10 +9,10 @@ use Rattle.replay_spec.specs.Admission.{refusal_of, admit}
 use Rattle.replay_spec.specs.Next as next
 use Rattle.replay_spec.specs.Step as step
 use Rattle.journal_spec.specs.Whole.{HasWholeScripts}
-use Rattle.instance_book.specs.Fits.{FitsAs}
+use Rattle.book_visits.specs.Fits.{FitsAs}
 use Rattle.instance_book.specs.Views.{no_journal}
-use Rattle.instance_book.specs.Admissions.{book_under}
-use Rattle.instance_book.specs.Prepares.{HasItsScript}
+use Rattle.instance_book.specs.Standing.{book_under}
+use Rattle.book_visits.specs.Prepares.{HasItsScript}
 use Rattle.shelf.specs.declared.doubt.Doubt as doubt_type
 use Rattle.shelf.specs.Views.{rules_of, library_in, beside_of, book_in, shelf_of, doubt_of}
 use Rattle.shelf.proofs.Beside.{admit_same, fits_at}
@@ -92,13 +92,13 @@ returns-in-Ok-clause-in_order g c =
     let why : refusal_of (admit b d) ≡ None = ap refusal_of (admit_same (library_in s) (beside_of g.D.Disk.view s) no_journal s.book d) ∙ c.in_default-admit.ensures.admitted in
     let scripts : HasWholeScripts (draw b) = record { setup = c.requires.scripts_are.setup; instances = c.requires.scripts_are.instances } in
     quiet_order g.D.Disk.view g.D.Disk.tells s _ refl refl (draw b) (c.in-Ok.ensures.drawn (library_in s) (beside_of g.D.Disk.view s)) refl refl (no_call g.D.Disk.view g.D.Disk.tells s.journal)
-    c.requires (some_kept (library_in s).all s.book c.ticket.new.self c.ticket.ensures.states) (kept_told (library_in s).all s.book c.ticket.new.self c.ticket.ensures.states) c.requires.sound (step.take d v) step.plain (step.taken b.drawn 0) (taken s.rules b d v 0 (free_take b d up low why)) tt tt tt refl tt tt c.events_are_kept.ensures refl scripts c.requires.whole
+    c.requires (some_kept (library_in s).all s.book c.take_ticket.new.book c.take_ticket.ensures.states) (kept_told (library_in s).all s.book c.take_ticket.new.book c.take_ticket.ensures.states) c.requires.sound (step.take d v) step.plain (step.taken b.drawn 0) (taken s.rules b d v 0 (free_take b d up low why)) tt tt tt refl tt tt c.events_are_kept.ensures refl scripts c.requires.whole
 
 pub returns-in-Ok-clause-own : goal.returns-in-Ok-clause-own
 returns-in-Ok-clause-own g c =
     let s = c.args.self.now in
     let b = book_in g.D.Disk.view s in
-    quiet_own g.D.Disk.view g.D.Disk.tells s _ refl refl (draw b) (c.in-Ok.ensures.drawn (library_in s) (beside_of g.D.Disk.view s)) refl refl (no_call g.D.Disk.view g.D.Disk.tells s.journal) (c.ticket.ensures.states (sources.own tt) (library_in s).all)
+    quiet_own g.D.Disk.view g.D.Disk.tells s _ refl refl (draw b) (c.in-Ok.ensures.drawn (library_in s) (beside_of g.D.Disk.view s)) refl refl (no_call g.D.Disk.view g.D.Disk.tells s.journal) (c.take_ticket.ensures.states (sources.own tt) (library_in s).all)
 
 pub returns-in-Ok-clause-fits : goal.returns-in-Ok-clause-fits
 returns-in-Ok-clause-fits g c = λ states.
@@ -123,26 +123,26 @@ returns-in-Ok-clause-out g c =
     let s = c.args.self.now in
     let b = book_in g.D.Disk.view s in
     let number : c.in-Ok.ticket.number ≡ b.drawn = ap (λ (x : next.Ticket). x.number) c.in-Ok.ensures.ticket in
-    let out : c.ticket.new.self.out.items ≡ b.out ++ b.drawn ∷ [] = ap (λ (d : Book). d.out) (c.in-Ok.ensures.drawn (library_in s) (beside_of g.D.Disk.view s)) in
-    subst (λ (n : ℕ). Contains c.ticket.new.self.out.items n) (sym number) (subst (λ (ns : List ℕ). Contains ns b.drawn) (sym out) (Contains-push b.out b.drawn))
+    let out : c.take_ticket.new.book.out.items ≡ b.out ++ b.drawn ∷ [] = ap (λ (d : Book). d.out) (c.in-Ok.ensures.drawn (library_in s) (beside_of g.D.Disk.view s)) in
+    subst (λ (n : ℕ). Contains c.take_ticket.new.book.out.items n) (sym number) (subst (λ (ns : List ℕ). Contains ns b.drawn) (sym out) (Contains-push b.out b.drawn))
 
-pub returns-in-Err-ticket-clause-event : goal.returns-in-Err-ticket-clause-event
-returns-in-Err-ticket-clause-event g c =
+pub returns-in-Err-take_ticket-clause-event : goal.returns-in-Err-take_ticket-clause-event
+returns-in-Err-take_ticket-clause-event g c =
     let s = c.args.self.now in
     let b = book_in g.D.Disk.view s in
-    quiet_event g.D.Disk.view g.N.Nonces.nonce s _ (step.take (target_of c.args.target.now) (meaning c.args.answer)) step.memory b refl refl (c.in-Err-ticket.ensures.err (library_in s) (beside_of g.D.Disk.view s)) (λ given. refl)
+    quiet_event g.D.Disk.view g.N.Nonces.nonce s _ (step.take (target_of c.args.target.now) (meaning c.args.answer)) step.memory b refl refl (c.in-Err-take_ticket.ensures.err (library_in s) (beside_of g.D.Disk.view s)) (λ given. refl)
     (wanting_take s.rules b (target_of c.args.target.now) (meaning c.args.answer)).step
 
-pub returns-in-Err-ticket-clause-in_order : goal.returns-in-Err-ticket-clause-in_order
-returns-in-Err-ticket-clause-in_order g c =
+pub returns-in-Err-take_ticket-clause-in_order : goal.returns-in-Err-take_ticket-clause-in_order
+returns-in-Err-take_ticket-clause-in_order g c =
     let s = c.args.self.now in
-    same_order g.D.Disk.view g.D.Disk.tells s _ c.requires (c.in-Err-ticket.ensures.err (library_in s) (beside_of g.D.Disk.view s)) (some_kept (library_in s).all s.book c.ticket.new.self c.ticket.ensures.states c.requires.kept) (kept_told (library_in s).all s.book c.ticket.new.self c.ticket.ensures.states) refl refl refl refl
+    same_order g.D.Disk.view g.D.Disk.tells s _ c.requires (c.in-Err-take_ticket.ensures.err (library_in s) (beside_of g.D.Disk.view s)) (some_kept (library_in s).all s.book c.take_ticket.new.book c.take_ticket.ensures.states c.requires.kept) (kept_told (library_in s).all s.book c.take_ticket.new.book c.take_ticket.ensures.states) refl refl refl refl
 
-pub returns-in-Err-ticket-clause-own : goal.returns-in-Err-ticket-clause-own
-returns-in-Err-ticket-clause-own g c =
+pub returns-in-Err-take_ticket-clause-own : goal.returns-in-Err-take_ticket-clause-own
+returns-in-Err-take_ticket-clause-own g c =
     let s = c.args.self.now in
     let b = book_in g.D.Disk.view s in
-    quiet_own g.D.Disk.view g.D.Disk.tells s _ refl refl b (c.in-Err-ticket.ensures.err (library_in s) (beside_of g.D.Disk.view s)) refl refl (no_call g.D.Disk.view g.D.Disk.tells s.journal) (c.ticket.ensures.states (sources.own tt) (library_in s).all)
+    quiet_own g.D.Disk.view g.D.Disk.tells s _ refl refl b (c.in-Err-take_ticket.ensures.err (library_in s) (beside_of g.D.Disk.view s)) refl refl (no_call g.D.Disk.view g.D.Disk.tells s.journal) (c.take_ticket.ensures.states (sources.own tt) (library_in s).all)
 
-pub ticket-requires-clause-kept : goal.ticket-requires-clause-kept
-ticket-requires-clause-kept g c = c.requires.kept
+pub take_ticket-requires-clause-kept : goal.take_ticket-requires-clause-kept
+take_ticket-requires-clause-kept g c = c.requires.kept

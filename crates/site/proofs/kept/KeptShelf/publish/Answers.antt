@@ -2,9 +2,7 @@ use Rattle.std.proofs.Common.{◌≡◌, ◌∷◌, ◌++◌, [], List, refl, sy
 use Rattle.page_names.specs.Views.{target_of}
 use Rattle.script_nodes.specs.Views.{library_of}
 use Rattle.replay_spec.specs.Step as step
-use Rattle.instance_book.specs.Views.{ticket_of, reply_of}
-use Rattle.instance_book.specs.Fits.{IsRunnable}
-use Rattle.instance_book.specs.Prepares.{HasItsScript}
+use Rattle.shelf.specs.Visits.{ticket_of, reply_of, IsRunnable, HasItsScript}
 use Rattle.lock_row.proofs.Places.{map_snoc}
 use Rattle.shelf.specs.Views.{IsRunIfAny}
 use Rattle.history_spec.specs.Histories.{Entry}

@@ -5,9 +5,8 @@ use Rattle.script_nodes.specs.Views.{library_of}
 use Rattle.page_names.specs.Views.{target_of}
 use Rattle.replay_spec.specs.Admission.{admit}
 use Rattle.replay_spec.specs.Step as step
-use Rattle.instance_book.specs.Fits.{FitsAs, IsRunnable}
+use Rattle.shelf.specs.Visits.{FitsAs, IsRunnable, HasItsScript}
 use Rattle.instance_book.specs.Makes.{HasItsStates}
-use Rattle.instance_book.specs.Prepares.{HasItsScript}
 use Rattle.lock_row.proofs.Places.{map_snoc}
 use Rattle.shelf.specs.Views.{book_in, rules_of, taken_of}
 use Rattle.history_spec.specs.Histories.{Entry}

@@ -1,6 +1,6 @@
 use Rattle.std.proofs.Common.{rules, arith, ◌≡◌, ◌<◌, ◌^◌, inr, ℕ, refl, sym, ◌∙◌, subst, ap, length}
 use Rattle.replay_spec.specs.Step as step
-use Rattle.instance_book.specs.Views.{ticket_of, reply_of}
+use Rattle.shelf.specs.Visits.{ticket_of, reply_of}
 use Rattle.site.specs.Entries.{entries_of, Comes}
 use Rattle.site.specs.Sound.{IsSound, Holds}
 use Rattle.site.proofs.Holding.{holds_on}

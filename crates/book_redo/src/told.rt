@@ -1,0 +1,79 @@
+ghost use Rattle.std.specs.Prelude.{◌≡◌, None, option_map, IfOk, IfSome, IfNone};
+ghost use Rattle.script_nodes.specs.Arena.{script_of};
+ghost use Rattle.script_nodes.specs.Views.{named_of};
+ghost use Rattle.machine_states.specs.Views.{suspended_of};
+ghost use Rattle.frame_codec.specs.Forms.{read_form, IsStoredBefore};
+ghost use Rattle.frame_codec.specs.FormViews.{before_of};
+ghost use Rattle.instance_book.specs.Places.{arena_of, AreStatesOf};
+ghost use Rattle.book_redo.specs.Redo.{IsStateTold, IsBeforeIn, IsAnswerTold, HasNoAnswer};
+
+use instance_book::{Place, ShownState, state_of};
+use kept_states::{KeptState, ToldState, next_links};
+use machine_states::Suspended;
+use script_nodes::Script;
+use script_value::Bytes;
+use std::alloc::{AllocError, Global};
+
+/// What a page has that its record does not tell, where these bytes are a state of the script behind that one.
+pub fn state_told(
+    alloc: Global,
+    script: &Script,
+    before: Option<&Suspended>,
+    links: u8,
+    bytes: Bytes,
+) -> Result<Option<ShownState>, AllocError>
+    requires { IsStoredBefore (arena_of (script_of script.now)) (before_of before) }
+    ensures some { IfOk result (λ page. IfSome page
+        (IsStateTold (arena_of (script_of script.now)) (before_of before.entry) links bytes)) }
+    ensures none { IfOk result (λ page. IfNone page
+        (read_form (arena_of (script_of script.now)) (before_of before.entry) bytes ≡ None)) }
+{
+    // A script's root tells that its nodes are its tree's.
+    let _root = script.root();
+    let Some(ToldState { state, kept }) = KeptState::told(alloc, script, before, links, bytes)?
+    else {
+        return Ok(None);
+    };
+    let inside = state.inside(alloc)?;
+    Ok(Some(ShownState {
+        inside,
+        state,
+        kept,
+    }))
+}
+
+// The state that a page is written behind which answers this one: this page's, where the links ask for it.
+fn before(alloc: Global, place: &Place<'_>) -> Result<Option<Suspended>, AllocError>
+    requires { AreStatesOf
+        (named_of place.now.script.now) place.now.instance.now.item.pages place.now.page.now }
+    ensures before { IfOk result (λ before. IsBeforeIn (named_of place.now.script.now)
+        place.now.instance.now.item.pages place.now.page.now (option_map suspended_of before)) }
+    ensures stored { IfOk result (λ before. IsStoredBefore
+        (arena_of (named_of place.now.script.now).script) (option_map suspended_of before)) }
+{
+    // A script's root tells that its nodes are its tree's.
+    let _root = place.script.script.root();
+    if next_links(place.page.item.state.links) == 0 {
+        return Ok(None);
+    }
+    let state = state_of(alloc, place.script, &place.instance.item.pages, place.page)?;
+    Ok(Some(state))
+}
+
+/// What a page has that answers this one, where these bytes are a state of the script.
+pub fn told_there(
+    alloc: Global,
+    place: &Place<'_>,
+    bytes: Bytes,
+) -> Result<Option<ShownState>, AllocError>
+    requires { AreStatesOf
+        (named_of place.now.script.now) place.now.instance.now.item.pages place.now.page.now }
+    ensures some { IfOk result (λ page. IfSome page (IsAnswerTold (named_of place.now.script.now)
+        place.now.instance.now.item.pages place.now.page.now bytes)) }
+    ensures none { IfOk result (λ page. IfNone page (HasNoAnswer (named_of place.now.script.now)
+        place.now.instance.now.item.pages place.now.page.now bytes)) }
+{
+    let links = next_links(place.page.item.state.links);
+    let parent = before(alloc, place)?;
+    state_told(alloc, &place.script.script, parent.as_ref(), links, bytes)
+}

@@ -1,0 +1,12 @@
+pub mod Views
+pub mod Uses
+pub mod Fits
+pub mod Changes
+pub mod Admissions
+pub mod Homes
+pub mod Swept
+pub mod Prepares
+pub mod Segments
+pub mod Copies
+pub mod Laws
+pub mod Before

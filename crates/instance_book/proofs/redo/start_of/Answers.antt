@@ -1,5 +1,0 @@
-use Rattle.std.proofs.Common.{◌∙◌, sym}
-use Rattle.instance_book.proofs.redo.start_of.Goals as goal
-
-pub returns : goal.returns
-returns c = record { present = sym c.in_ok-place.ensures ∙ sym c.in_ok-script.ensures; told = sym c.in_ok-script.ensures }
