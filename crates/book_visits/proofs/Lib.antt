@@ -5,3 +5,4 @@ pub mod Lands
 pub mod Timely
 pub mod Itself
 pub mod Admitted
+pub mod One

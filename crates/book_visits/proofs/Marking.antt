@@ -1,5 +1,5 @@
 -- Marks of pages that are kept in order.
-use Rattle.std.proofs.Common.{◌≡◌, ℕ, zero, suc, ◌+◌, ◌==◌, List, [], ◌∷◌, ◌++◌, ◌≤◌, append-nil, drop, map, length, Option, Some, None, Bool, true, false, refl, arith}
+use Rattle.std.proofs.Common.{◌≡◌, ℕ, zero, suc, ◌==◌, List, [], ◌∷◌, ◌++◌, ◌≤◌, append-nil, drop, map, length, Option, Some, None, Bool, true, false, refl, arith}
 use Rattle.std.proofs.lemmas.Bool.Decides.{nat_tests}
 use Rattle.replay_spec.specs.Book.{Use}
 use Rattle.replay_spec.specs.Change.{used_by}

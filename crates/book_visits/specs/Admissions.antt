@@ -20,7 +20,7 @@ use Rattle.book_visits.specs.declared.admission.Admission.{Admission}
 use Rattle.book_visits.specs.declared.admission.Admission.TheVariants.{Begins, Resumes, Refused}
 use Rattle.book_visits.specs.declared.ticket.Ticket.{Ticket}
 use Rattle.machine_states.specs.Machine.{Suspended}
-use Rattle.instance_book.specs.Views.{page_of, instance_of}
+use Rattle.instance_book.specs.Views.{page_of, script_in, instance_of}
 use Rattle.book_visits.specs.Views.{ticket_of}
 use Rattle.instance_book.specs.Places.{Source, own, given}
 use Rattle.instance_book.specs.Makes.{shelf_from, HasStatesFrom, HasItsStates}
@@ -99,6 +99,23 @@ GoesOnAsGiven library place result =
 -- what the ticket goes on from, if anything, is a state of the place's script that can be written
 abbrev pub GoesOnStored : Place → Ticket → Type 0
 GoesOnStored place t = IsStoredOrigin (named_of place.script.now) t.from
+
+-- Under some states that the pages of the book have, the ticket goes on from that of the page of this place; and it is of the script of the
+-- page's instance.
+pub record GoesOnFromPlace (library : Library) (b : Book) (at : spec.Place) (t : Ticket) : Type 0 where
+  pub states : ℕ → Option Suspended
+  pub has : HasStatesFrom (given states) library.all b
+  pub goes : GoesOnGiven states at t
+  pub script : script_in library.all t.script ≡ at.instance.script
+
+-- the ticket of an answer goes on from the page that is answered
+abbrev pub GoesOnBy : Library → Book → spec.Admission → Ticket → Type 0
+GoesOnBy library b (spec.resumes at) t = GoesOnFromPlace library b at t
+GoesOnBy library b _ t = ⊤
+
+-- where the target is admitted in the book as an answer to a page, the ticket goes on from that page
+abbrev pub GoesOnIn : Library → Book → Target → Ticket → Type 0
+GoesOnIn library b target t = GoesOnBy library b (admission_for library b target) t
 
 -- where the target is admitted in the book, the ticket is for the visit
 abbrev pub FitsIn : Library → Book → Target → Ticket → Type 0

@@ -10,7 +10,6 @@ use Rattle.instance_book.specs.declared.change.Extension.{Extension}
 use Rattle.instance_book.specs.declared.change.Change.{Change}
 use Rattle.instance_book.specs.declared.change.Change.TheVariants.{Opens, Extends}
 use Rattle.book_visits.specs.declared.prepared.Prepared.{Prepared}
-use Rattle.instance_book.specs.declared.book.Book.{Book}
 use Rattle.book_visits.specs.Views.{reply_of}
 use Rattle.instance_book.specs.Places.{own}
 use Rattle.instance_book.specs.Changes.{HasStateFrom, change_of, changed_by, inside_of}

@@ -9,4 +9,3 @@ pub mod Prepares
 pub mod Segments
 pub mod Copies
 pub mod Laws
-pub mod Before

@@ -5,7 +5,6 @@ ghost use Rattle.instance_book.specs.Places.{OneMoreHasItsState};
 ghost use Rattle.book_visits.specs.Laws.{AShownPageHasItsState};
 
 mod admission;
-mod answer;
 mod goes;
 mod home;
 mod installing;
@@ -16,7 +15,6 @@ mod take;
 mod ticket;
 
 pub use admission::admit;
-pub use answer::answer_origin;
 pub use installing::install;
 pub use prepared::Prepared;
 pub use preparing::prepare;

@@ -5,7 +5,7 @@ ghost use Rattle.book_visits.specs.Views.{IsTicketFor};
 ghost use Rattle.book_visits.specs.Fits.{IsRunnable};
 ghost use Rattle.instance_book.specs.Makes.{Makes, StaysSame, HasPlaces, KeepsPlaces, HasSomeStates, KeepsStates};
 ghost use Rattle.instance_book.specs.Standing.{IsPlacedAt, BeginsAt};
-ghost use Rattle.book_visits.specs.Admissions.{IsKeptSome, HasCellsBy, FitsStartIn, FitsWhereKept, GoesOnAsGiven, GoesOnStored, admission_for, refusal_for, FitsInKept, StartsIn, HasFew};
+ghost use Rattle.book_visits.specs.Admissions.{IsKeptSome, HasCellsBy, FitsStartIn, FitsWhereKept, GoesOnAsGiven, GoesOnStored, admission_for, refusal_for, GoesOnIn, FitsInKept, StartsIn, HasFew};
 
 use crate::admission::{Admission, admission_to};
 use crate::home::Home;
@@ -75,6 +75,7 @@ fn page_ticket(
     ensures fits { FitsWhereKept (library_of library.now) book.now place.entry result }
     ensures told { GoesOnAsGiven (library_of library.now) place.entry result }
     ensures stored { IfOk result (GoesOnStored place.entry) }
+    ensures script { IfOk result (λ t. t.script ≡ place.entry.instance.now.item.script) }
     ensures runs { IfOk result (IsRunnable (library_of library.now).all) }
     ensures cells { IfOk result (λ t. t.cells ≡ place.entry.instance.now.item.cells) }
 {
@@ -113,6 +114,7 @@ fn made(
     requires kept { HasSomeStates (library_of library.now).all book.now }
     ensures ticket { IfOk result (IsTicketFor target.now answer number nonce) }
     ensures fits { FitsInKept (library_of library.now) book.now target.now result }
+    ensures goes { IfOk result (GoesOnIn (library_of library.now) book.now target.now) }
     ensures starts { IfOk result (StartsIn (library_of library.now) book.now target.now) }
     ensures runs { IfOk result (IsRunnable (library_of library.now).all) }
     ensures cells { IfOk result
@@ -136,7 +138,8 @@ fn made(
 /// Takes the next number, for a visit of a target that is admitted.
 ///
 /// It asks for a present setup of at most 255 scripts. The ticket can be run. Where each page of the book has the state of its
-/// chain, it is for the visit of the target, and so it is for a start. Where memory runs out, nothing changes.
+/// chain, it is for the visit of the target, and so it is for a start. Whatever states the pages have, the ticket of an answer
+/// goes on from that of the page that is answered. Where memory runs out, nothing changes.
 pub fn take_ticket(
     alloc: Global,
     book: &mut Book,
@@ -153,6 +156,7 @@ pub fn take_ticket(
     ensures drawn { OnOk result (Makes spec.draw book.old book.new) }
     ensures ticket { IfOk result (IsTicketFor target.now answer book.old.drawn nonce) }
     ensures fits { FitsInKept (library_of library.now) book.old target.now result }
+    ensures goes { IfOk result (GoesOnIn (library_of library.now) book.old target.now) }
     ensures starts { IfOk result (StartsIn (library_of library.now) book.old target.now) }
     ensures runs { IfOk result (IsRunnable (library_of library.now).all) }
     ensures cells { IfOk result

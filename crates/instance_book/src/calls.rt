@@ -2,7 +2,6 @@ ghost use Rattle.std.specs.Prelude.{◌≡◌, ◌<◌, ◌^◌, List, OnOk, OnE
 ghost use Rattle.script_nodes.specs.Setup.{Named};
 ghost use Rattle.script_nodes.specs.Views.{library_of};
 ghost use Rattle.replay_spec.specs.Book as spec;
-ghost use Rattle.instance_book.specs.Views.{script_in};
 ghost use Rattle.instance_book.specs.Makes.{count_of, Makes, StaysSame, HasPlaces, KeepsPlaces, HasItsStates, HasWhatIsGiven, KeepsStates, IsInstanceAt, IsPlacedAmong, IsKeptAmong};
 ghost use Rattle.instance_book.specs.Standing.{named_if, script_at};
 ghost use Rattle.instance_book.specs.Swept.{swept, cells_at, IsEmpty};
@@ -90,15 +89,6 @@ impl Book {
     {
         let instance = self.instances.instance(instance)?;
         script_of(library, instance)
-    }
-
-    /// The place of an instance's script among all, where there is a live one of this number. It takes no memory.
-    pub fn script_place(&self, instance: u64) -> Option<usize>
-        ensures { (all : List Named)
-            → option_map (script_in all) result ≡ script_at all instance self.now }
-    {
-        let instance = self.instances.instance(instance)?;
-        Some(instance.item.script)
     }
 
     /// Draws the next number, which is out from now on. Where memory runs out, nothing changes.
