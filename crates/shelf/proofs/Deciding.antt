@@ -1,11 +1,17 @@
 -- Want of memory may stand for any answer.
-use Rattle.std.proofs.Common.{◌≡◌, refl, Option, Some, None, IfSome, option_map, Contains, inl, Result, Ok, Err, IfOk}
+use Rattle.std.proofs.Common.{◌≡◌, ◌∙◌, ap, refl, Option, Some, None, IfSome, option_map, Contains, inl, Result, Ok, Err, IfOk}
 use Rattle.std.specs.Prelude.{IfErr}
+use Rattle.std.proofs.lemmas.Option.{same_Some, none-some}
+use Rattle.script_value.specs.declared.outcome.Refusal.{Refusal}
 use Rattle.script_value.specs.declared.outcome.Reply.{Reply}
 use Rattle.script_value.specs.declared.outcome.Reply.TheVariants as reply
 use Rattle.script_nodes.specs.Setup.{Library}
 use Rattle.page_names.specs.Names.{Destination, start, page}
-use Rattle.replay_spec.specs.Book.{Book, at_number, page_at}
+use Rattle.page_names.specs.Views.{target_of}
+use Rattle.replay_spec.specs.Rules.{Rules}
+use Rattle.replay_spec.specs.Admission.{Admission, begins, resumes, refused, refusal_of, admit}
+use Rattle.replay_spec.specs.Next.{Ticket as spec_ticket}
+use Rattle.replay_spec.specs.Book.{Doubt, Book, at_number, page_at}
 use Rattle.replay_spec.specs.Invariant.{IsOrderly}
 use Rattle.replay_spec.proofs.Stand.{among_of}
 use Rattle.instance_book.specs.declared.book.Book as kept
@@ -15,14 +21,16 @@ use Rattle.book_visits.specs.declared.ticket.Ticket.{Ticket}
 use Rattle.instance_book.specs.Standing.{book_under}
 use Rattle.instance_book.proofs.Seen.{instance_some}
 use Rattle.replay_spec.specs.Step as step
-use Rattle.replay_spec.specs.Step.{Decision, plain}
+use Rattle.replay_spec.specs.Step.{Decision, plain, replies, unless, down_by, decide}
 use Rattle.book_visits.specs.declared.prepared.Prepared.{Prepared}
-use Rattle.instance_book.specs.Views.{pages_of, instance_of}
-use Rattle.book_visits.specs.Views.{reply_of}
+use Rattle.instance_book.specs.Views.{Beside, no_journal, book_of, pages_of, instance_of}
+use Rattle.book_visits.specs.Admissions.{refusal_for}
+use Rattle.book_visits.specs.Views.{ticket_of, reply_of}
 use Rattle.book_visits.specs.Prepares.{Prepares, IsOfRun, WantsRoom, IsNewBy}
 use Rattle.shelf.specs.declared.rules.Rules as limits_of
 use Rattle.shelf.specs.Views.{unmeasured, fate_by}
-use Rattle.shelf.specs.Preparing.{Decides, TellsOfRun}
+use Rattle.shelf.specs.Preparing.{Decides, TellsOfRun, decision_beside}
+use Rattle.shelf.proofs.Beside.{admit_same}
 
 -- want of memory may stand where it need not
 pub decides : (library : Library) (r : limits_of.Rules) (b : Book) (d : Decision) (x : Result Prepared Reply) → Prepares library (unmeasured r) b d x → Decides library (unmeasured r) b d x
@@ -40,6 +48,21 @@ decides library r b d (Err (reply.DiskFault count)) h = h
 decides library r b d (Err (reply.Down count)) h = h
 decides library r b d (Err reply.Worn) h = h
 decides library r b d (Err reply.Memory) h = tt
+
+refused_decides : (rules : Rules) (b : Book) (t : spec_ticket) (a : Admission) (why : Refusal) → refusal_of a ≡ Some why → decide rules b t a ≡ replies (step.refusal why)
+refused_decides rules b t (begins k s) why e = absurd (none-some why e)
+refused_decides rules b t (resumes at) why e = absurd (none-some why e)
+refused_decides rules b t (refused r) why e = ap (λ (x : Refusal). replies (step.refusal x)) (same_Some r why e)
+
+-- a target that is not admitted is answered with its refusal
+pub refused_beside : (l : Library) (beside : Beside) (r : limits_of.Rules) (b : kept.Book) (t : Ticket) (why : Refusal) → refusal_for l b t.target ≡ Some why → beside.down ≡ None
+    → decision_beside l beside r b t ≡ replies (step.refusal why)
+refused_beside l beside r b t why told up =
+    let here = book_of l beside b in
+    let x = target_of t.target in
+    let rules = unmeasured r in
+    ap (λ (o : Option Doubt). unless (down_by o) (decide rules here (ticket_of t) (admit here x))) up
+    ∙ refused_decides rules here (ticket_of t) (admit here x) why (ap refusal_of (admit_same l beside no_journal b x) ∙ told)
 
 -- what a run comes to
 plain_run : (x : step.Reply) → IsOfRun x → fate_by x ≡ plain

@@ -1,5 +1,5 @@
 -- What a sweep leaves of a shelf, by its way out: nothing was recorded, its record was added, or it is in doubt whether it was.
-use Rattle.std.proofs.Common.{◌≡◌, ◌∙◌, ap, subst, refl, ℕ, ◌+◌, ◌-◌, ◌≤◌, ◌<◌, ◌^◌, ◌++◌, ◌∷◌, [], nat_le, arith, Bool, IsTrue, false, List, length, Option, None, Some, option_map}
+use Rattle.std.proofs.Common.{◌≡◌, ◌∙◌, ap, sym, subst, refl, ℕ, ◌+◌, ◌-◌, ◌≤◌, ◌<◌, ◌^◌, ◌++◌, ◌∷◌, [], nat_le, arith, Bool, IsTrue, false, List, length, Option, None, Some, option_map}
 use Rattle.web_disk.specs.View.{View, LeavesOnly}
 use Rattle.page_journal.specs.Holding.{MayHold}
 use Rattle.page_journal.specs.Settled as journal
@@ -10,6 +10,8 @@ use Rattle.replay_spec.specs.Book.{changed, Book}
 use Rattle.replay_spec.specs.Change.{with_line}
 use Rattle.replay_spec.specs.Runs.{drawn_by, lands}
 use Rattle.replay_spec.specs.Step as step
+use Rattle.replay_spec.proofs.Stand.{Later}
+use Rattle.replay_spec.proofs.Orderly.{same}
 use Rattle.journal_records.specs.Records.{changes, record_length}
 use Rattle.journal_records.specs.Laws.{AreRecordsExact}
 use Rattle.journal_spec.specs.Keeping.{body_by, stake_of}
@@ -38,6 +40,8 @@ use Rattle.shelf.proofs.Recorded.{stake_landed, stake_doubted}
 use Rattle.shelf.proofs.Shelves.{quiet_order, quiet_run, quiet_own, quiet_own_moments, recorded_run, recorded_own_moments, added_order, doubted_order, added_own, doubted_own, kept_told, some_kept}
 use Rattle.shelf.proofs.Tales.{swept_told}
 use Rattle.shelf.proofs.Leaving.{Serves}
+use Rattle.shelf.proofs.Tickets.{tickets_kept, states_stay, later_step}
+use Rattle.shelf.specs.Tickets.{KeepsTickets}
 
 -- It is one event. The shelf goes on to be in order, as it was at each moment, and so does an own one.
 pub record Sweeps {D N : Type 0} (view : D → View) (tells : Bool) (coming : N → ℕ → ℕ) (s u : Shelf D N) (tick : ℕ) (x : step.Reply) : Type 0 where
@@ -46,6 +50,7 @@ pub record Sweeps {D N : Type 0} (view : D → View) (tells : Bool) (coming : N 
   pub own : IsOwnShelf view tells s → IsOwnShelf view tells u
   pub any_moment : IsTrue tells → HasMoments view s u
   pub own_moments : IsTrue tells → IsOwnShelf view tells s → HasOwnMoments view s u
+  pub tickets : KeepsTickets view s u
 
 -- nothing was recorded
 pub unswept : {D N : Type 0} (view : D → View) (tells : Bool) (coming : N → ℕ → ℕ) (s : Shelf D N) → IsInOrder view tells s → (tick : ℕ) → tick < 2 ^ 62 → EventsAreKept → OnlyNow (view s.journal.disk) → (j : Journal D) → length_of j ≡ length_of s.journal
@@ -63,6 +68,7 @@ unswept {D} {N} view tells coming s order tick low events only_now j len sound w
       any_moment = λ told.
           quiet_run view tells s u refl refl (book_in view s) is refl refl call order (λ all. all) (λ states all. all) (sound order.sound) event (fate_by x) x (comes.step 0) tt tt tt refl tt low events comes.landed told only_now;
       own_moments = λ told own. quiet_own_moments view tells s u refl refl (book_in view s) is refl refl call told only_now own;
+      tickets = tickets_kept view s u refl order.orderly (subst (λ (y : Book). Later (book_in view s) y) (sym is) (same (book_in view s) order.orderly)) (states_stay view s u (λ source all. all));
     }
 
 -- a later tick, whose record was written
@@ -135,6 +141,7 @@ module _ {D N : Type 0} (view : D → View) (tells : Bool) (coming : N → ℕ �
           serves.counts_now between told serves.only_now (stake_landed (rules_of s.rules) (book_in view s) sweep step.plain change swept_so.landed);
       own_moments = λ told own. recorded_own_moments view tells s swept_shelf order refl refl sweep step.plain (step.swept count) (book_in view swept_shelf) refl (swept_so.step 0) tt tt tt refl tt events up change spelled_tick tick_room (λ told. refl)
           mid call tick_run serves.counts_now between told serves.only_now (stake_landed (rules_of s.rules) (book_in view s) sweep step.plain change swept_so.landed) step.plain swept_so.landed (serves.reads told) own;
+      tickets = tickets_kept view s swept_shelf refl order.orderly (later_step view s sweep step.plain (step.swept count) (book_in view swept_shelf) order.orderly tt (swept_so.step 0)) (states_stay view s swept_shelf (λ source. keeps source (library_in s).all));
     }
 
   -- it is in doubt
@@ -168,4 +175,6 @@ module _ {D N : Type 0} (view : D → View) (tells : Bool) (coming : N → ℕ �
           (λ told. refl) mid call tick_run serves.counts_now between told serves.only_now tick_stake;
       own_moments = λ told own. recorded_own_moments view tells s in_doubt_shelf order refl refl sweep (step.disk_fault count) (step.disk_failed count) unsure unsure_is (may_sweep.step 0) tt tt tt refl tt events up change spelled_tick
           tick_room (λ told. refl) mid call tick_run serves.counts_now between told serves.only_now tick_stake step.plain would_land (serves.reads told) own;
+      tickets = tickets_kept view s in_doubt_shelf refl order.orderly
+          (subst (λ (y : Book). Later (book_in view s) y) (sym unsure_is) (later_step view s sweep (step.disk_fault count) (step.disk_failed count) unsure order.orderly tt (may_sweep.step 0))) (states_stay view s in_doubt_shelf (λ source all. all));
     }

@@ -14,7 +14,7 @@ use Rattle.replay_spec.specs.Change.{clock_by, land}
 use Rattle.replay_spec.specs.Step.{kept, recovered}
 use Rattle.replay_spec.specs.Recovery.{of_length, number_in}
 use Rattle.replay_spec.specs.Invariant.{Among, IsOf, IsOrderlyChange}
-use Rattle.replay_spec.proofs.Stand.{among_of}
+use Rattle.replay_spec.proofs.Stand.{among_of, Later}
 use Rattle.replay_spec.proofs.Orderly.{published, failed}
 use Rattle.journal_records.specs.Records.{changes, IsInGrammar}
 use Rattle.journal_records.specs.Laws.{AreRecordsExact}
@@ -96,6 +96,13 @@ module _ {D N : Type 0} (view : D → View) (tells : Bool) (s : Shelf D N) (orde
   change_fits : IsOrderlyChange b.clock b.instances c
   change_fits = taken_fits b c inside x taken
 
+  -- each is a later book
+  pub landed_later : Later b landed_book
+  landed_later = published (of_length (length body)) b k c inside order.orderly (among_of b.out k out) none_down change_fits is_its
+
+  pub doubted_later : (count : ℕ) → Later b (doubted_book count)
+  doubted_later count = failed b count k c inside order.orderly (among_of b.out k out) change_fits is_its
+
   whole_landed : HasWholeScripts landed_book
   whole_landed = record {
     setup = order.scripts_are.setup;
@@ -165,7 +172,7 @@ module _ {D N : Type 0} (view : D → View) (tells : Bool) (s : Shelf D N) (orde
       pub landed_order : AreRecordsExact → LandingsAreKept → is_broken t.journal ≡ false → (IsTrue tells → IsSettled view t.journal × (bodies_in view t.journal ≡ bodies_in view mid ++ body ∷ []))
           → ((told : IsTrue tells) → HasToldStates (library_in t).all (with_state (Some k) x (there told).earlier.states) t.book) → IsInOrder view tells t
       landed_order exact law whole added stay =
-          order_of view tells s t landed_book order some (published (of_length (length body)) b k c inside order.orderly (among_of b.out k out) none_down change_fits is_its).orderly
+          order_of view tells s t landed_book order some landed_later.orderly
           whole_landed range_landed refl is told_same limits (record {
             sound = sound;
             whole = λ _. whole;
@@ -200,7 +207,7 @@ module _ {D N : Type 0} (view : D → View) (tells : Bool) (s : Shelf D N) (orde
 
       pub doubted_order : LandingsStandBetween → OnlyNow (view s.journal.disk) → CountsNow (view t.journal.disk) → IsInOrder view tells t
       doubted_order law only_now counts =
-          order_of view tells s t d order some (failed b count k c inside order.orderly (among_of b.out k out) change_fits is_its).orderly
+          order_of view tells s t d order some (doubted_later count).orderly
           (record { setup = order.scripts_are.setup; instances = order.scripts_are.instances }) (range_doubted count) refl is told_same limits (record {
             sound = sound;
             whole = λ none. absurd (in_doubt none);

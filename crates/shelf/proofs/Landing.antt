@@ -54,7 +54,7 @@ use Rattle.book_visits.specs.Views.{ticket_of, reply_of}
 use Rattle.instance_book.specs.Places.{given}
 use Rattle.instance_book.specs.Changes.{HasStateIn, change_of, inside_of, gone_in, HasRoomFor, CanShowAt}
 use Rattle.book_visits.specs.Changes.{decision_by, put_into, HasDeadlineIn, HasDeadlineBy, IsSpelledIn}
-use Rattle.book_visits.specs.Fits.{FitsAs}
+use Rattle.book_visits.specs.Fits.{FitsAs, IsRunnable}
 use Rattle.instance_book.specs.Makes.{Makes, MakesUnder}
 use Rattle.instance_book.specs.Makes.{rules_with}
 use Rattle.book_visits.specs.Prepares.{KeepsStateOf, IsChangeBy, IsDecisionBy, IsCarriedOut, HasItsScript}
@@ -63,16 +63,24 @@ use Rattle.shelf.specs.declared.doubt.Doubt as doubt_type
 use Rattle.shelf.specs.Views.{unmeasured, rules_of, doubt_of, doubt_by, library_in, beside_of, book_in, fate_by, IsInOrder}
 use Rattle.shelf.specs.Holding.{IsWhole, IsWholeFrom, IsWholeIn}
 use Rattle.shelf.specs.Preparing.{CanBeLanded}
-use Rattle.shelf.specs.Recording.{refusal_of_size, CanBeWritten, IsBody, IsWritten, state_in, behind_in, told_in, IsKeptIn, BindsIn}
+use Rattle.shelf.specs.Recording.{refusal_of_size, CanBeWritten, IsBody, IsWritten, state_in, behind_in, told_in, IsKeptIn, BindsIn, GoesOnAsGiven}
+use Rattle.shelf.specs.Tickets.{GoesOnIfThere}
 use Rattle.shelf.proofs.Beside.{admit_same, fits_at}
 use Rattle.shelf.proofs.Landed as landed
 use Rattle.shelf.proofs.Publishing.{told, unwritten, replies_is, records_is}
 use Rattle.shelf.proofs.Sizes.{not_refused, size_is}
 use Rattle.shelf.proofs.Shown.{kept_in, whole_from, GoesHere, behind_told, shown_given}
 use Rattle.shelf.proofs.Stated.{start_shows, answer_shows, state_left, state_beside, before_left, before_beside}
+use Rattle.shelf.proofs.Tickets.{as_given, of_its_script}
+use Rattle.shelf.proofs.Told.{whole_in}
 use Rattle.shelf.proofs.Steps as steps
 use Rattle.shelf.proofs.Steps.{Comes, short_enough}
 use Rattle.shelf.proofs.Taken.{is_of, IsTakenSo, is_taken, page_there, evicted_in, evicted_is, goes_there}
+
+-- a number that is spent is not looked at by admission
+admit_spent : (n : ℕ) (b : spec.Book) (d : Destination) → admit (spend n b) d ≡ admit b d
+admit_spent n b (start name) = refl
+admit_spent n b (page name p) = refl
 
 -- ---- what is told of a change
 
@@ -259,6 +267,18 @@ module _ {D N : Type 0} (view : D → View) (tells : Bool) (s : Shelf D N) (orde
 
     pub whole_there : IsWholeFrom l.all t c
     whole_there = whole_from l.all t can.segment target c (subst (KeepsStateOf t can.segment target) some can.state) can.whole
+
+    -- in the book with the number spent its ticket goes on from the page that it answers, and the page that it shows is whole
+    module _ (spent : Book) (spending : Makes (spend t.number) s.book spent) (goes : GoesOnIfThere l spent t) where
+      spent_admitted : refusal_of (admit (book_of l no_journal spent) target) ≡ None
+      spent_admitted =
+          ap (λ (y : spec.Book). refusal_of (admit y target)) (spending l no_journal) ∙ (ap refusal_of (admit_spent t.number (book_of l no_journal s.book) target) ∙ can.admitted)
+
+      pub goes_there_on : GoesOnAsGiven l spent t c
+      goes_there_on = as_given l spent t can.segment target c spent_admitted (subst (KeepsStateOf t can.segment target) some can.state) its goes
+
+      pub whole_spent : IsRunnable l.all t → IsWholeIn l.all spent c
+      whole_spent runs = whole_in l.all spent t c runs whole_there (of_its_script l spent t can.segment target c spent_admitted (subst (KeepsStateOf t can.segment target) some can.state) goes)
 
     -- it would be taken in again, with the state that is told
     abbrev pub its_told : Told

@@ -14,7 +14,8 @@ use Rattle.replay_spec.specs.Book as spec
 use Rattle.replay_spec.specs.Book.{changed, Book, spend}
 use Rattle.replay_spec.specs.Change.{with_line}
 use Rattle.replay_spec.specs.Step as step
-use Rattle.replay_spec.specs.Invariant.{IsOf}
+use Rattle.replay_spec.specs.Invariant.{IsOf, IsOrderly}
+use Rattle.replay_spec.proofs.Stand.{Later}
 use Rattle.replay_spec.specs.Admission.{admit}
 use Rattle.journal_records.specs.Records.{changes, record_length}
 use Rattle.journal_records.specs.Laws.{AreRecordsExact}
@@ -45,6 +46,7 @@ use Rattle.shelf.specs.Views.{rules_of, doubt_of, doubt_by, library_in, beside_o
 use Rattle.shelf.specs.Events.{IsPublish, SpendsNumber, SpendsOnly, HasMoments, HasOwnMoments, CarriesOut, ShowsItsState}
 use Rattle.shelf.specs.Holding.{IsWholeIn}
 use Rattle.shelf.specs.Preparing.{CanBeLanded}
+use Rattle.shelf.specs.Tickets.{KeepsTickets}
 use Rattle.shelf.specs.Recording.{IsBody, BindsIn, GoesOnAsGiven, state_in, told_in}
 use Rattle.shelf.proofs.Standing.{OnlyNow, CountsNow, IsQuietCall}
 use Rattle.shelf.proofs.Order.{quiet, quiet_event}
@@ -52,7 +54,8 @@ use Rattle.shelf.proofs.Steps.{Comes, wanting}
 use Rattle.shelf.proofs.Recorded.{own_behind, stake_landed, stake_doubted}
 use Rattle.shelf.proofs.Shelves as shelves
 use Rattle.shelf.proofs.Shelves.{StayTold, some_kept, quiet_order, quiet_run, quiet_own, quiet_own_moments, added_own, recorded_own_moments}
-use Rattle.shelf.proofs.Landed.{landed_order, landed_run, doubted_order, doubted_run, doubted_in}
+use Rattle.shelf.proofs.Landed.{landed_order, landed_run, landed_later, doubted_order, doubted_run, doubted_in, doubted_later}
+use Rattle.shelf.proofs.Tickets.{KeepsGiven, tickets_kept, states_stay, later_spent, anew_keeps}
 use Rattle.shelf.proofs.Landing as landing
 use Rattle.shelf.proofs.Landing.{down_there}
 use Rattle.shelf.proofs.Behind as behind
@@ -70,6 +73,7 @@ pub record Publishes {D N : Type 0} (view : D → View) (tells : Bool) (coming :
   pub any_moment : IsTrue tells → HasMoments view s u
   pub own_moments : IsTrue tells → IsOwnVisit view tells s t → HasOwnMoments view s u
   pub memory : SpendsOnly view s u t x
+  pub tickets : KeepsTickets view s u
 
 -- what a publish rests on of the disk before it and behind it
 pub record Serves {D : Type 0} (view : D → View) (tells : Bool) (old new : Journal D) : Type 0 where
@@ -113,6 +117,7 @@ spent_publishes view tells coming s u t x order events only_now out is told_same
       any_moment = λ told. quiet_run view tells s u told_same limits d is refl refl call order some stay sound event step.no_memory step.memory (wants.step 0) tt tt tt refl out tt events wants.landed told only_now;
       own_moments = λ told own. quiet_own_moments view tells s u told_same limits d is refl refl call told only_now own.own;
       memory = λ wanted. is;
+      tickets = tickets_kept view s u told_same order.orderly (subst (λ (y : Book). Later b y) (sym is) (later_spent (rules_of s.rules) b t.number order.orderly out)) (states_stay view s u states);
     }
 
 -- on a shelf whose book was made anew, the same
@@ -129,8 +134,8 @@ module _ {D N : Type 0} (view : D → View) (tells : Bool) (s : Shelf D N) (book
     fits = subst (λ (b : Book). FitsAs (library_in s).all b t (admit b (target_of t.target))) (sym same_book) own.fits;
   }
 
-  pub publishes_from : (coming : N → ℕ → ℕ) (u : Shelf D N) (x : Reply) → Publishes view tells coming anew u t x → Publishes view tells coming s u t x
-  publishes_from coming u x p = record {
+  pub publishes_from : IsOrderly (book_in view s) → (coming : N → ℕ → ℕ) (u : Shelf D N) (x : Reply) → Publishes view tells coming anew u t x → Publishes view tells coming s u t x
+  publishes_from orderly coming u x p = record {
     event = λ own. event_from view coming s anew u (step.publish (ticket_of t)) (reply_of x) refl refl same_book (p.event (visit_anew own));
     in_order = p.in_order;
     own = λ own. p.own (visit_anew own);
@@ -138,6 +143,7 @@ module _ {D N : Type 0} (view : D → View) (tells : Bool) (s : Shelf D N) (book
     any_moment = λ told. moments_from view s anew u refl refl same_book (p.any_moment told);
     own_moments = λ told own. own_moments_from view s anew u refl refl same_book (p.own_moments told (visit_anew own));
     memory = λ wanted. subst (λ (b : Book). book_in view u ≡ spend t.number b) same_book (p.memory wanted);
+    tickets = λ y h. p.tickets y (anew_keeps view s orderly book keeps same y h);
   }
 
 -- a change, whose record was written
@@ -228,8 +234,11 @@ module _ {D N : Type 0} (view : D → View) (tells : Bool) (coming : N → ℕ �
     landed_is : book_in view longer ≡ after
     landed_is = landing.landed_is view tells s order t p up out has can rooms c some body written spent new (length_of j) (file_of view past) spending installing long filed
 
+    gives : KeepsGiven view s longer
+    gives f given_so = untold.had view tells s order t p up out has can rooms c some spent same keeps whole spelled goes f given_so new states_by
+
     had : HasSomeStates l.all new
-    had = untold.had view tells s order t p up out has can rooms c some spent same keeps whole spelled goes new states_by
+    had = let states = gives order.kept.0 order.kept.1 in (states.0, states.1.0)
 
     own_states : Mine → HasItsStates l.all s.book → HasItsStates l.all new
     own_states own all =
@@ -250,6 +259,8 @@ module _ {D N : Type 0} (view : D → View) (tells : Bool) (coming : N → ℕ �
           call (own_run own) serves.counts_now laws.between told serves.only_now (stake_landed (rules_of s.rules) b event (fate_by (reply_of x)) told_change (lands own x replied).landed) (fate_by (reply_of x)) (lands own x replied).landed (serves.reads told)
           own.own;
       memory = λ wanted. absurd {A = book_in view longer ≡ spend t.number b} (not_wanting x (ap (λ (y : Reply). fate_by (reply_of y)) replied ∙ plain) wanted);
+      tickets = tickets_kept view s longer refl order.orderly
+          (subst (λ (y : Book). Later b y) (sym landed_is) (landed_later view tells s order up t.number out told_change its_number (told_in t c) (inside_of c) written.spelled (told_own (state_in c)) taken read_there room)) gives;
     }
 
   -- it is in doubt
@@ -282,4 +293,7 @@ module _ {D N : Type 0} (view : D → View) (tells : Bool) (coming : N → ℕ �
       own_moments = λ told own. recorded_own_moments view tells s doubtful order refl refl event (step.disk_fault count) (step.disk_failed count) in_doubt doubted_is ((doubts own).step 0) tt tt tt refl out laws.events up told_change (can_be_written own) (own_room own)
           (before_own own) mid call (own_run own) serves.counts_now laws.between told serves.only_now (stake own) (fate_by (reply_of p.reply)) (lands own p.reply refl).landed (serves.reads told) own.own;
       memory = λ wanted. absurd {A = book_in view doubtful ≡ spend t.number b} (let no : ⊥ = cc wanted in no);
+      tickets = tickets_kept view s doubtful refl order.orderly
+          (subst (λ (y : Book). Later b y) (sym doubted_is) (doubted_later view tells s order up t.number out told_change its_number (told_in t c) (inside_of c) written.spelled (told_own (state_in c)) taken read_there room count))
+          (states_stay view s doubtful (λ source. keeps source l.all));
     }

@@ -15,6 +15,7 @@ pub mod Publishing
 pub mod Quiet
 pub mod Stated
 pub mod Taken
+pub mod Tickets
 pub mod Tales
 pub mod Shown
 pub mod Landed

@@ -1,22 +1,19 @@
 -- The segment of a ticket over the cells of now.
-use Rattle.std.proofs.Common.{◌≡◌, ◌∙◌, ap, sym, subst, ℕ, List, [], length, map, Option, Some, None, IfSome, Result, Ok, Err, IfOk, option_map, slice_get, refl}
-use Rattle.std.proofs.lemmas.Option.{same_Some}
+use Rattle.std.proofs.Common.{◌≡◌, ◌∙◌, ap, sym, subst, ℕ, List, [], map, Option, Some, None, IfSome, Result, Ok, Err, IfOk, option_map, slice_get, refl}
 use Rattle.script_value.specs.Val.{Val}
-use Rattle.script_nodes.specs.Core.{AllOnCells}
 use Rattle.script_nodes.specs.Arena.{Arena, IsScript, script_of}
-use Rattle.script_nodes.specs.Setup.{Named, trees_of}
-use Rattle.page_names.specs.Names.{Destination, start, page}
+use Rattle.script_nodes.specs.Setup.{Named}
+use Rattle.page_names.specs.Names.{start, page}
 use Rattle.page_names.specs.declared.names.PageName.{PageName}
-use Rattle.instance_cells.specs.Cells.{Holds, AreOn}
-use Rattle.replay_spec.specs.Tape.{Reads, recorded, present}
+use Rattle.instance_cells.specs.Cells.{Holds}
+use Rattle.replay_spec.specs.Tape.{recorded, present}
 use Rattle.replay_spec.specs.Eval as eval
 use Rattle.replay_spec.specs.Eval.{run}
 use Rattle.replay_spec.specs.Book.{Instance, Book}
 use Rattle.replay_spec.specs.Admission.{Place, Admission, begins, resumes, refused, refusal_of, admit}
-use Rattle.replay_spec.specs.Next.{Visit, home_of, answered, tape_for, comes_to, start_visit, page_visit}
+use Rattle.replay_spec.specs.Next.{Visit, home_of, answered, comes_to, start_visit, page_visit}
 use Rattle.replay_spec.specs.Next as next
-use Rattle.replay_spec.specs.Laws.{EffectsHoldRunSame, EffectsAreOnCells}
-use Rattle.replay_spec.specs.Remade.{EffectsHold}
+use Rattle.replay_spec.specs.Laws.{EffectsHoldRunSame}
 use Rattle.replay_spec.proofs.Admitted.{page_stands, start_is_no_page, page_is_no_start}
 use Rattle.replay_spec.proofs.Second.{pages_past}
 use Rattle.machine_states.specs.Views.{segment_of}
@@ -28,8 +25,7 @@ use Rattle.book_visits.specs.Fits.{IsFor, FitsAs}
 use Rattle.book_visits.specs.Laws.{KeepsStateAs}
 use Rattle.shelf.specs.Runs.{IsRunOver}
 use Rattle.shelf.proofs.Replayed.{IsLike, run_like}
-use Rattle.shelf.specs.Views.{HoldIn, IsSegmentOf, HaveTheirCells}
-use Rattle.shelf.specs.Holding.{AreHeld}
+use Rattle.shelf.specs.Views.{IsSegmentOf}
 
 -- what holds of a value, if there is one, holds of this one
 pub of_some : {X : Type 0} (o : Option X) (x : X) (P : X → Type 0) → o ≡ Some x → IfSome o P → P x
@@ -81,14 +77,6 @@ module _ (all : List Named) (b : Book) (t : Ticket) (name : List ℕ) (a : Arena
         let again = same_run law v fuel over cells (subst (λ (s : eval.Segment). Holds s.effects cells) first holds) in
         first ∙ (sym again ∙ ap (λ (vs : List Val). comes_to v (present vs fuel)) (its_cells at e))
     held_segment law (refused why) e fits holds = tt
-
-    -- the instance has as many cells as the script of a ticket that fits
-    pub same_count : HaveTheirCells b → (adm : Admission) → admit b (page name n) ≡ adm → refusal_of adm ≡ None → FitsAs all b t adm → length named.script.cells ≡ length cells
-    same_count theirs (begins k x) e ok fits = absurd (page_is_no_start b name n k x e)
-    same_count theirs (resumes at) e ok fits =
-        let mine : named ≡ at.instance.script = same_Some named at.instance.script (sym found ∙ fits.script) in
-        ap (λ (x : Named). length x.script.cells) mine ∙ (sym (theirs n.instance at.instance (page_stands b name n at e).here) ∙ ap (λ (vs : List Val). length vs) (sym (its_cells at e)))
-    same_count theirs (refused why) e ok fits = absurd (cc)
 
 -- where the instance is gone, nothing is admitted
 pub gone_segment : (b : Book) (t : Ticket) (name : List ℕ) (n : PageName) (fuel : ℕ) (s : eval.Segment) (a : Admission) → cells_in n.instance b ≡ None → admit b (page name n) ≡ a → IsSegmentOf fuel b t a s

@@ -1,4 +1,4 @@
--- What states the pages have then, whether or not the disk tells what was recorded, where a change lands whose ticket goes on from the book.
+-- What states are given to the pages then, whichever were, where a change lands whose ticket goes on from the book.
 use Rattle.std.proofs.Common.{◌≡◌, ◌∙◌, ap, sym, subst, ℕ, ◌==◌, Bool, true, false, if◌then◌else◌, List, Option, Some, None, Contains, inl, refl, arith}
 use Rattle.std.proofs.lemmas.Bool.Decides.{nat_tests}
 use Rattle.std.proofs.lemmas.Option.{none-some}
@@ -7,6 +7,7 @@ use Rattle.page_names.specs.Views.{target_of}
 use Rattle.web_disk.specs.View.{View}
 use Rattle.replay_spec.specs.Book as spec
 use Rattle.replay_spec.specs.Book.{instance_at, page_at}
+use Rattle.replay_spec.specs.Invariant.{Unused}
 use Rattle.machine_states.specs.Machine.{Suspended}
 use Rattle.instance_book.specs.declared.book.Book.{Book}
 use Rattle.instance_book.specs.declared.in_order.InOrder.{InOrder}
@@ -16,7 +17,7 @@ use Rattle.book_visits.specs.declared.prepared.Prepared.{Prepared}
 use Rattle.book_visits.specs.declared.ticket.Ticket.{Ticket}
 use Rattle.instance_book.specs.Views.{instances_of}
 use Rattle.instance_book.specs.Places.{given}
-use Rattle.instance_book.specs.Makes.{KeepsStates, HasStatesFrom, HasSomeStates}
+use Rattle.instance_book.specs.Makes.{KeepsStates, HasStatesFrom}
 use Rattle.instance_book.specs.Changes.{HasStateIn, HasStateFrom, HasRoomFor, KeepsStatesBy}
 use Rattle.book_visits.specs.Changes.{IsSpelledIn}
 use Rattle.book_visits.specs.Prepares.{HasItsScript}
@@ -32,15 +33,13 @@ use Rattle.replay_spec.proofs.Stand.{among_of}
 
 module _ {D N : Type 0} (view : D → View) (tells : Bool) (s : Shelf D N) (order : IsInOrder view tells s) (t : Ticket) (p : Prepared) (up : s.down ≡ None)
     (out : Contains (book_in view s).out t.number) (has : HasItsScript (library_in s) t (target_of t.target)) (can : CanBeLanded (library_in s) s.book t p) (rooms : HasRoomFor p.change s.book) (c : Change) (some : p.change ≡ Some c) (spent : Book)
-    (same : spent.instances ≡ s.book.instances) (keeps : KeepsStates s.book spent) (whole : IsWholeIn (library_in s).all spent c) (spelled : IsSpelledIn c) (goes : GoesOnAsGiven (library_in s) spent t c) where
+    (same : spent.instances ≡ s.book.instances) (keeps : KeepsStates s.book spent) (whole : IsWholeIn (library_in s).all spent c) (spelled : IsSpelledIn c) (goes : GoesOnAsGiven (library_in s) spent t c)
+    (had_so : ℕ → Option Suspended) (so : HasStatesFrom (given had_so) (library_in s).all s.book) where
   abbrev all : List Named
   all = (library_in s).all
 
   abbrev b : spec.Book
   b = book_in view s
-
-  abbrev had_so : ℕ → Option Suspended
-  had_so = order.kept.0
 
   -- what the pages had, and nothing under the ticket's number
   abbrev fresh : ℕ → Option Suspended
@@ -79,10 +78,10 @@ module _ {D N : Type 0} (view : D → View) (tells : Bool) (s : Shelf D N) (orde
   now y e = let here : (t.number == t.number) ≡ true = grind (arith, nat_tests) in ap (λ (q : Bool). if q then state_in c else had_so t.number) here ∙ e
 
   had_fresh : HasStatesFrom (given fresh) all spent
-  had_fresh = keeps (given fresh) all (other_given t.number had_so fresh fresh_so all s.book order.orderly.instances.apart absent order.kept.1)
+  had_fresh = keeps (given fresh) all (other_given t.number had_so fresh fresh_so all s.book order.orderly.instances.apart absent so)
 
   had_grown : HasStatesFrom (given grown) all spent
-  had_grown = keeps (given grown) all (other_given t.number had_so grown grown_so all s.book order.orderly.instances.apart absent order.kept.1)
+  had_grown = keeps (given grown) all (other_given t.number had_so grown grown_so all s.book order.orderly.instances.apart absent so)
 
   here : GoesHere b fresh t c
   here = goes_here (library_in s) (beside_of view s) s.book spent t c fresh same goes had_fresh
@@ -90,8 +89,17 @@ module _ {D N : Type 0} (view : D → View) (tells : Bool) (s : Shelf D N) (orde
   shown : HasStateIn all (given grown) b.instances c
   shown = landing.shown_by view tells s order t p up out has can rooms c some spent same whole spelled fresh grown more now here
 
-  -- then each page has a state that was given to it
-  pub had : (new : Book) → KeepsStatesBy p.change spent new → HasSomeStates all new
+  other_number : (n : ℕ) → ¬ Unused b n → n ≡ t.number → ⊥
+  other_number n used same = used (subst (λ (k : ℕ). Unused b k) (sym same) (inl (among_of b.out t.number out)))
+
+  -- then each page has a state that is given to it: one of a used number the state that it had
+  pub had : (new : Book) → KeepsStatesBy p.change spent new
+      → (g : ℕ → Option Suspended) × (HasStatesFrom (given g) all new × ((n : ℕ) (d : Suspended) → ¬ Unused b n → had_so n ≡ Some d → g n ≡ Some d))
   had new keeps_by =
-      let moved : HasStateIn all (given grown) (instances_of all spent.instances) c = subst (λ (is : InOrder KeptInstance). HasStateIn all (given grown) (instances_of all is) c) (sym same) shown in
-      (grown, keeps_by (given grown) all (subst (HasStateFrom all (given grown) (instances_of all spent.instances)) (sym some) moved) had_grown)
+      let moved : HasStateIn all (given grown) (instances_of all spent.instances) c = subst (λ (is : InOrder KeptInstance). HasStateIn all (given grown) (instances_of all is) c) (sym same) shown in (
+        grown,
+        (
+          keeps_by (given grown) all (subst (HasStateFrom all (given grown) (instances_of all spent.instances)) (sym some) moved) had_grown,
+          λ n d used is. grown_so n d (other_number n used) is,
+        ),
+      )

@@ -1,8 +1,7 @@
--- What is tested of a change before it is recorded: so recovery takes the record in, whatever the ticket was for.
+-- What holds of a change that is recorded: so recovery takes the record in, whatever the ticket was for.
 use Rattle.std.specs.Prelude.{◌≡◌, List, length, map, Some, None, IfSome, slice_get, ⊤}
 use Rattle.script_value.specs.Val.{Val}
 use Rattle.script_value.specs.declared.outcome.TxName.{TxName}
-use Rattle.script_value.specs.declared.outcome.Refusal.TheVariants.{Unknown}
 use Rattle.script_value.specs.declared.outcome.Reply.{Reply}
 use Rattle.script_value.specs.declared.outcome.Reply.TheVariants as reply
 use Rattle.script_nodes.specs.Arena.{Arena}
@@ -31,12 +30,10 @@ pub record IsForItsVisit (library : Library) (b : Book) (t : Ticket) : Type 0 wh
   pub admitted : refusal_for library b t.target ≡ None
   pub fits : FitsIn library b t.target t
 
--- Why there is no segment: want of memory, or the ticket is of another shelf, which is told as an unknown page. A ticket that is for the visit
--- of its target is of this one.
-abbrev pub IsWhyNoSegment : Library → Book → Ticket → Reply → Type 0
-IsWhyNoSegment library b t reply.Memory = ⊤
-IsWhyNoSegment library b t (reply.Refused Unknown) = ¬ IsForItsVisit library b t
-IsWhyNoSegment library b t _ = ⊥
+-- the reply tells want of memory
+abbrev pub IsWantOfMemory : Reply → Type 0
+IsWantOfMemory reply.Memory = ⊤
+IsWantOfMemory _ = ⊥
 
 -- the effects are on these cells and hold over them
 pub record AreHeld (effects : List Effect) (cells : List Val) : Type 0 where

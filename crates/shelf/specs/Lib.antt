@@ -3,6 +3,7 @@ pub mod Files
 pub mod Present
 pub mod Owning
 pub mod Views
+pub mod Tickets
 pub mod Holding
 pub mod Events
 pub mod Going

@@ -1,5 +1,5 @@
 -- How the record of a change is measured and written.
-use Rattle.std.specs.Prelude.{◌≡◌, ◌≤◌, ◌+◌, ℕ, Bool, false, List, length, Option, Some, None, Result, Ok, Err, IsTrue, IfSome, IfOk, option_map, nat_lt, ⊤}
+use Rattle.std.specs.Prelude.{◌≡◌, ◌≤◌, ◌+◌, ℕ, Bool, false, List, Option, Some, None, Result, Ok, Err, IfSome, IfOk, option_map, nat_lt, ⊤}
 use Rattle.script_value.specs.declared.outcome.Reply.{Reply}
 use Rattle.script_value.specs.declared.outcome.Reply.TheVariants as reply
 use Rattle.replay_spec.specs.Admission.{when, or_else, ◌>>=◌}
@@ -26,10 +26,7 @@ use Rattle.book_visits.specs.Fits.{GoesOnGiven}
 use Rattle.machine_states.specs.Machine.{Suspended}
 use Rattle.std.specs.Borrow.{Bor}
 use Rattle.machine_states.specs.Views.{origin_of, suspended_of}
-use Rattle.machine_states.specs.declared.frame.Suspended as stored
-use Rattle.machine_states.specs.declared.segment.Origin.{Origin}
 use Rattle.frame_codec.specs.Forms.{BindsBefore}
-use Rattle.frame_codec.specs.declared.difference.Delta.{Delta}
 use Rattle.kept_states.specs.Kept.{Form, bytes_of, IsKeptFrom}
 use Rattle.kept_states.specs.Links.{behind_at}
 use Rattle.journal_spec.specs.Lengths.{is_shallow_state, told_bytes}
@@ -101,10 +98,6 @@ IsLentAs d f bytes = IsKeptAs d f (lent bytes)
 abbrev pub WhereTold : {A E : Type 0} → Result (Option A) E → Type 0 → Type 0
 WhereTold result holds = IfOk result (λ bytes. IfSome bytes (λ _. holds))
 
--- where a test tells that this holds, it does
-abbrev pub WhereTrue : {E : Type 0} → Result Bool E → Type 0 → Type 0
-WhereTrue result holds = IfOk result (λ test. IsTrue test → holds)
-
 -- what is kept of the state of the page that a change shows is that of its ticket
 abbrev pub IsKeptIn : Ticket → Change → Type 0
 IsKeptIn t (Opens o) = IsKeptFrom None 0 (suspended_of o.state) (kept_at o.page)
@@ -114,19 +107,6 @@ IsKeptIn t _ = ⊤
 -- each web cell that is bound in the state that a change's state is written behind is bound in the change's state
 abbrev pub BindsIn : Ticket → Change → Type 0
 BindsIn t c = IfSome (state_in c) (BindsBefore (behind_in t c))
-
--- two states have as many variables and as many frames
-abbrev pub AreAsLong : (d e : stored.Suspended) → Type 0
-AreAsLong d e = (length d.env ≡ length e.env) × (length d.frames.items ≡ length e.frames.items)
-
--- a delta shares all the variables and frames of a state
-abbrev pub IsAllShared : stored.Suspended → Delta → Type 0
-IsAllShared d x = (x.env_shared ≡ length d.env) × (x.frames_shared ≡ length d.frames.items)
-
--- the ticket goes on from this, and its page has so many links
-pub record GoesOnFrom (before : Origin) (most : ℕ) (t : Ticket) : Type 0 where
-  pub from : origin_of t.from ≡ origin_of before
-  pub links : t.links ≡ most
 
 -- the numbers of the instance and of the page that a change's page answers, if it shows one and that is no start's
 abbrev pub answered_in : SpecChange → Option (ℕ × ℕ)

@@ -1,47 +1,32 @@
 ghost use Rattle.std.specs.Prelude.{◌≡◌, length, IsTrue, IfOk, OnOk};
 ghost use Rattle.web_disk.specs.View.{NoNewImage, Elapses};
 ghost use Rattle.page_journal.specs.Settled.{IsSettled, IsReady, IsSound, view_of, length_of, is_broken};
-ghost use Rattle.script_nodes.specs.Views.{library_of};
-ghost use Rattle.book_visits.specs.Fits.{IsRunnable};
-ghost use Rattle.instance_book.specs.Makes.{HasPlaces, HasSomeStates};
 ghost use Rattle.book_visits.specs.Changes.{IsSpelledIn};
-ghost use Rattle.shelf.specs.Holding.{IsWholeFrom, IsWholeIn};
-ghost use Rattle.shelf.specs.Recording.{CanBeTold, IsToldBody, IsKeptIn, BindsIn, GoesOnAsGiven};
+ghost use Rattle.shelf.specs.Recording.{CanBeTold, IsToldBody, IsKeptIn, BindsIn};
 
 use crate::recording::{recorded, told_state, written};
 use book_visits::Ticket;
-use instance_book::{Book, Change};
+use instance_book::Change;
 use page_journal::Journal;
-use script_nodes::Library;
 use script_value::{Bytes, Reply};
 use std::alloc::Global;
 use web_disk::Disk;
 
 /// The body of the record of a visit's change, for which the journal is made ready; or why it can't be added. No call of the disk is
 /// made that could fail.
-///
-/// A ticket of another page is told as want of memory.
 pub fn told_body<D: Disk>(
     alloc: Global,
     journal: &mut Journal<D>,
-    book: &Book,
-    library: &Library,
     ticket: &Ticket,
     change: &Change,
 ) -> Result<Bytes, Reply>
     requires sound { IsSound journal.old }
     requires settled { IsTrue D.tells → IsSettled D.view journal.old }
-    requires placed { HasPlaces (library_of library.now).all book.now }
-    requires states { HasSomeStates (library_of library.now).all book.now }
-    requires runs { IsRunnable (library_of library.now).all ticket.now }
     requires kept { IsKeptIn ticket.now change.now }
-    requires whole { IsWholeFrom (library_of library.now).all ticket.now change.now }
     requires spelled { CanBeTold (length_of journal.old) ticket.now change.now }
     ensures written { IsToldBody (length_of journal.old) ticket.now change.now result }
-    ensures state { OnOk result (IsWholeIn (library_of library.now).all book.now change.now) }
     ensures spelled { OnOk result (IsSpelledIn change.now) }
     ensures binds { OnOk result (BindsIn ticket.now change.now) }
-    ensures goes { OnOk result (GoesOnAsGiven (library_of library.now) book.now ticket.now change.now) }
     ensures ready { IfOk result (λ body. IsReady D.view journal.new (length body)) }
     ensures sound { IsSound journal.new }
     ensures settled { IsTrue D.tells → IsSettled D.view journal.new }
@@ -52,7 +37,7 @@ pub fn told_body<D: Disk>(
     ensures time { Elapses (view_of D.view journal.old) (view_of D.view journal.new) }
     ensures faults { (view_of D.view journal.new).faults ≡ (view_of D.view journal.old).faults }
 {
-    match told_state(alloc, book, library, ticket, change) {
+    match told_state(ticket, change) {
         Ok(state) => written(alloc, journal, &recorded(change, state)),
         Err(_) => Err(Reply::Memory),
     }

@@ -16,7 +16,6 @@ mod publish;
 mod recording;
 mod rules;
 mod run;
-mod same;
 mod second;
 mod shelf;
 mod sweep;

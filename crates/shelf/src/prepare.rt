@@ -8,6 +8,7 @@ ghost use Rattle.instance_book.specs.Changes.{HasRoomFor};
 ghost use Rattle.book_visits.specs.Fits.{IsRunnable};
 ghost use Rattle.instance_book.specs.Makes.{HasPlaces, StaysSame, KeepsPlaces, KeepsStates};
 ghost use Rattle.shelf.specs.Views.{IsRunIfAny, HasTargetScript};
+ghost use Rattle.shelf.specs.Tickets.{GoesOnIfThere};
 ghost use Rattle.shelf.specs.Preparing.{IsDecided, IsDecidedIfHeld, IsRefused, WantsMemory, CanBeLanded, ShowsState, TellsOfRun};
 
 use crate::rules::Rules;
@@ -37,6 +38,7 @@ pub fn prepared(
     requires out { Contains book.old.out.items ticket.now.number }
     requires runs { IsRunnable (library_of library.now).all ticket.now }
     requires script { HasTargetScript (library_of library.now) ticket.now }
+    requires goes { GoesOnIfThere (library_of library.now) book.old ticket.now }
     requires segment { IsRunIfAny (library_of library.now).all rules.fuel ticket.now segment }
     ensures book { StaysSame book.old book.new }
     ensures placed { KeepsPlaces book.old book.new }

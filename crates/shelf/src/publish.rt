@@ -23,6 +23,7 @@ use web_outside::Nonces;
 impl<D: Disk, N: Nonces + Drop> Shelf<D, N> {
     ghost use Rattle.shelf.specs.Views.{IsInOrder, IsOwnShelf, IsOwnVisit, IsOut, IsRunFor, HasTargetScript, fate_by};
     ghost use Rattle.replay_spec.specs.Step.{plain};
+    ghost use Rattle.shelf.specs.Tickets.{GoesOnFromItsPage, KeepsTickets};
     ghost use Rattle.shelf.specs.Events.{IsPublish, TellsRefusal, IsToldIfHeld, WantsIfNone, SpendsNumber, SpendsOnly, HasMoments, HasOwnMoments, TellsFaults, LeavesItsDisk, CountsOn, TellsReply, CarriesOut, ShowsItsState, decision_of};
     ghost use Rattle.shelf.specs.Preparing.{CanBeLanded};
 
@@ -39,15 +40,16 @@ impl<D: Disk, N: Nonces + Drop> Shelf<D, N> {
     /// is due, any reply that changes nothing, but for the length of a record. Want of memory changes nothing else than that
     /// the number is spent.
     ///
-    /// It asks for a number that is out, for a ticket that can be run, and for the segment of its run over its own cells. On an own
-    /// shelf, where the ticket is for the visit of its target wherever that is admitted now, the publish is one event. Whatever the
-    /// ticket is for, the shelf stays in order: what recovery would not take in again is not recorded. An answer by a ticket of
-    /// another page is told as want of memory, or as unknown where the instance has more or fewer cells than the ticket's script.
+    /// It asks for a number that is out, for a ticket that can be run and that goes on from its page, as a take gave it, and for the
+    /// segment of its run over its own cells. On an own shelf, where the ticket is for the visit of its target wherever that is
+    /// admitted now, the publish is one event. Whatever the ticket is for, the shelf stays in order, and tickets that go on from
+    /// their pages go on to do so.
     pub fn publish(&mut self, alloc: Global, ticket: Ticket, segment: Option<Segment>) -> Reply
         requires in_order { IsInOrder D.view D.tells self.old }
         requires out { IsOut D.view self.old ticket }
         requires runs { IsRunnable (library_of self.old.library).all ticket }
         requires script { HasTargetScript (library_of self.old.library) ticket }
+        requires goes { GoesOnFromItsPage D.view self.old ticket }
         requires segment { IsRunFor self.old ticket segment }
         ensures event { IsOwnVisit D.view D.tells self.old ticket
             → IsPublish D.view N.nonce self.old self.new ticket result }
@@ -55,6 +57,7 @@ impl<D: Disk, N: Nonces + Drop> Shelf<D, N> {
         ensures own { IsOwnVisit D.view D.tells self.old ticket
             → IsOwnShelf D.view D.tells self.new }
         ensures spent { SpendsNumber D.view self.old self.new ticket }
+        ensures tickets { KeepsTickets D.view self.old self.new }
         ensures any_moment { IsTrue D.tells
             → HasMoments D.view self.old self.new }
         ensures own_moments { IsTrue D.tells
@@ -103,6 +106,7 @@ impl<D: Disk, N: Nonces + Drop> Shelf<D, N> {
         requires out { IsOut D.view self.old ticket.now }
         requires runs { IsRunnable (library_of self.old.library).all ticket.now }
         requires script { HasTargetScript (library_of self.old.library) ticket.now }
+        requires goes { GoesOnFromItsPage D.view self.old ticket.now }
         requires room { HasRoomFor prepared.change self.old.book }
         requires plain { fate_by (reply_of prepared.reply) ≡ plain }
         requires landed { CanBeLanded (library_of self.old.library) self.old.book ticket.now prepared }
@@ -116,6 +120,7 @@ impl<D: Disk, N: Nonces + Drop> Shelf<D, N> {
         ensures own { IsOwnVisit D.view D.tells self.old ticket.now
             → IsOwnShelf D.view D.tells self.new }
         ensures spent { SpendsNumber D.view self.old self.new ticket.now }
+        ensures tickets { KeepsTickets D.view self.old self.new }
         ensures any_moment { IsTrue D.tells
             → HasMoments D.view self.old self.new }
         ensures own_moments { IsTrue D.tells
@@ -142,14 +147,7 @@ impl<D: Disk, N: Nonces + Drop> Shelf<D, N> {
         let Some(change) = &prepared.change else {
             return install(&mut self.book, prepared);
         };
-        let body = match told_body(
-            alloc,
-            &mut self.journal,
-            &self.book,
-            &self.library,
-            ticket,
-            change,
-        ) {
+        let body = match told_body(alloc, &mut self.journal, ticket, change) {
             Ok(body) => body,
             Err(reply) => {
                 drop(prepared);

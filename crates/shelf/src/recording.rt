@@ -1,31 +1,24 @@
-ghost use Rattle.std.specs.Prelude.{◌≡◌, ◌≤◌, ◌+◌, ◌++◌, ◌∷◌, ◌^◌, [], List, false, length, option_map, IsTrue, IfOk, IfErr, OnOk, OnErr};
+ghost use Rattle.std.specs.Prelude.{◌≡◌, ◌≤◌, ◌+◌, ◌++◌, ◌∷◌, ◌^◌, [], false, length, option_map, IsTrue, IfOk, IfErr, OnOk, OnErr};
 ghost use Rattle.web_outside.specs.Causes.{Rose};
 ghost use Rattle.web_disk.specs.View.{NoNewImage, Elapses, LeavesOnly};
 ghost use Rattle.page_journal.specs.Holding.{MayHold};
 ghost use Rattle.page_journal.specs.Settled.{IsSettled, IsReady, IsSound, view_of, bodies_in, length_of, length_with, is_broken};
 ghost use Rattle.journal_records.specs.Records.{changes};
 ghost use Rattle.journal_records.specs.Views.{recorded_of};
-ghost use Rattle.script_nodes.specs.Setup.{Named};
-ghost use Rattle.script_nodes.specs.Views.{library_of};
-ghost use Rattle.book_visits.specs.Fits.{IsRunnable};
-ghost use Rattle.instance_book.specs.Makes.{HasPlaces, HasSomeStates};
 ghost use Rattle.book_visits.specs.Views.{reply_of};
 ghost use Rattle.instance_book.specs.Changes.{change_of};
 ghost use Rattle.book_visits.specs.Changes.{IsSpelledIn};
 ghost use Rattle.kept_states.specs.Kept.{kept_of};
 ghost use Rattle.machine_states.specs.Views.{suspended_of};
-ghost use Rattle.shelf.specs.Holding.{IsOfItsScript, IsWholeFrom, IsWholeIn};
-ghost use Rattle.shelf.specs.Recording.{refusal_of_size, CanBeWritten, IsWritten, IsStateFor, IsLentAs, IsKeptIn, WhereTold, WhereTrue, BindsIn, GoesOnFrom, GoesOnAsGiven, answered_in, told_in, lent};
+ghost use Rattle.shelf.specs.Recording.{refusal_of_size, CanBeWritten, IsWritten, IsStateFor, IsLentAs, IsKeptIn, WhereTold, BindsIn, told_in, lent};
 
 use crate::nesting::nests_shallow;
-use crate::same::are_same_states;
-use book_visits::{Ticket, answer_origin};
-use instance_book::{Book, Change};
-use journal_records::{Origin as Begun, Recorded, encode, record_length};
+use book_visits::Ticket;
+use instance_book::Change;
+use journal_records::{Recorded, encode, record_length};
 use kept_states::{KeptState, kept_are_written};
-use machine_states::{Origin, Suspended};
+use machine_states::Suspended;
 use page_journal::{AppendFault, Journal, MAX_LEN};
-use script_nodes::Library;
 use script_value::{Bytes, Reply};
 use std::alloc::{AllocError, Global};
 use web_disk::Disk;
@@ -47,105 +40,15 @@ fn state_bytes<'k>(kept: &'k KeptState, state: &Suspended) -> Result<Option<&'k 
     Ok(None)
 }
 
-// The numbers of the instance and of the page that a change's page answers, if it shows one and that is no start's.
-fn answered(change: &Change) -> Option<(u64, u64)>
-    ensures { result ≡ answered_in (change_of change.now) }
-{
-    let record = match change {
-        Change::Opens(opening) => &opening.record,
-        Change::Extends(extension) => &extension.record,
-        Change::Ends(_) => return None,
-        Change::Finishes(_) => return None,
-    };
-    match &record.origin {
-        Begun::Start { .. } => None,
-        Begun::Answer { instance, page, .. } => Some((*instance, *page)),
-    }
-}
-
-// Whether a ticket goes on from this state, and its page has so many links.
-fn goes_on_from(
-    alloc: Global,
-    from: &Origin,
-    links: u8,
-    ticket: &Ticket,
-) -> Result<bool, AllocError>
-    ensures { WhereTrue result (GoesOnFrom from.now links ticket.now) }
-{
-    if ticket.links != links {
-        return Ok(false);
-    }
-    let (Origin::Page(there), Origin::Page(here)) = (from, &ticket.from) else {
-        return Ok(false);
-    };
-    are_same_states(alloc, there, here)
-}
-
-// Whether the ticket of an answer goes on from the state that the book has of the page, so its own page can be kept and written behind
-// that. A caller may have changed a ticket: the state is read once more.
-fn goes_on_from_book(
-    alloc: Global,
-    book: &Book,
-    library: &Library,
-    ticket: &Ticket,
-    change: &Change,
-) -> Result<bool, AllocError>
-    requires placed { HasPlaces (library_of library.now).all book.now }
-    requires kept { HasSomeStates (library_of library.now).all book.now }
-    ensures { WhereTrue result (GoesOnAsGiven (library_of library.now) book.now ticket.now change.now) }
-{
-    let Some((instance, page)) = answered(change) else {
-        return Ok(true);
-    };
-    let Some((from, links)) = answer_origin(alloc, book, library, instance, page)? else {
-        return Ok(false);
-    };
-    goes_on_from(alloc, &from, links, ticket)
-}
-
-// Whether the instance whose page is answered, if the change shows a page behind another one, is of the ticket's script.
-fn is_of_its_script(book: &Book, ticket: &Ticket, change: &Change) -> bool
-    ensures { IsTrue result
-        → (all : List Named) → IsOfItsScript all book.now ticket.now change.now }
-{
-    let Change::Extends(extension) = change else {
-        return true;
-    };
-    match book.script_place(extension.instance) {
-        Some(place) => place == ticket.script,
-        None => false,
-    }
-}
-
 /// The bytes of the state of the page that a change shows, for its record; none where it shows no page, or a value of the state nests
-/// too deep to be written.
-///
-/// A ticket of another page is told as want of memory: one that a take of this shelf gave is none.
-pub fn told_state<'c>(
-    alloc: Global,
-    book: &Book,
-    library: &Library,
-    ticket: &Ticket,
-    change: &'c Change,
-) -> Result<Option<&'c [u8]>, AllocError>
-    requires placed { HasPlaces (library_of library.now).all book.now }
-    requires states { HasSomeStates (library_of library.now).all book.now }
-    requires runs { IsRunnable (library_of library.now).all ticket.now }
+/// too deep to be written. The ticket is that of the change.
+pub fn told_state<'c>(ticket: &Ticket, change: &'c Change) -> Result<Option<&'c [u8]>, AllocError>
     requires kept { IsKeptIn ticket.now change.now }
-    requires whole { IsWholeFrom (library_of library.now).all ticket.now change.now }
     ensures told { IfOk result (λ bytes. lent bytes ≡ told_in ticket.now change.now) }
     ensures binds { WhereTold result (BindsIn ticket.now change.now) }
-    ensures goes { OnOk result (GoesOnAsGiven (library_of library.now) book.now ticket.now change.now) }
-    ensures whole { OnOk result (IsWholeIn (library_of library.now).all book.now change.now) }
     ensures spelled { WhereTold result (IsSpelledIn change.now) }
 {
     kept_are_written();
-    if !is_of_its_script(book, ticket, change) {
-        return Err(AllocError);
-    }
-    if !goes_on_from_book(alloc, book, library, ticket, change)? {
-        return Err(AllocError);
-    }
     match change {
         Change::Opens(opening) => state_bytes(&opening.page.item.state, &opening.state),
         Change::Extends(extension) => {

@@ -1,11 +1,13 @@
-ghost use Rattle.std.specs.Prelude.{◌≡◌, ◌<◌, ◌^◌, IfOk, IfErr, Ok, map};
+ghost use Rattle.std.specs.Prelude.{◌≡◌, ◌<◌, ◌^◌, None, IfOk, IfErr, Ok, map};
 ghost use Rattle.script_nodes.specs.Views.{library_of};
 ghost use Rattle.instance_cells.specs.Views.{effect_of};
 ghost use Rattle.instance_book.specs.Standing.{book_under};
+ghost use Rattle.book_visits.specs.Admissions.{refusal_for};
 ghost use Rattle.book_visits.specs.Fits.{IsRunnable};
 ghost use Rattle.book_visits.specs.Prepares.{AreOnCells};
 ghost use Rattle.shelf.specs.Views.{HaveTheirCells, HasTargetScript, IsRunOf, IsSegmentNow, KeepsStateNow, HoldNow};
-ghost use Rattle.shelf.specs.Holding.{AreHeldNow, IsForItsVisit, IsWhyNoSegment, ShowsWholeFrom};
+ghost use Rattle.shelf.specs.Tickets.{GoesOnIfThere};
+ghost use Rattle.shelf.specs.Holding.{AreHeldNow, IsForItsVisit, IsWantOfMemory, ShowsWholeFrom};
 
 use crate::run_ticket;
 use book_visits::Ticket;
@@ -13,15 +15,15 @@ use instance_book::Book;
 use page_names::Target;
 use replay_spec::effects_hold_run_same;
 use script_nodes::Library;
-use script_value::{Refusal, Reply};
+use script_value::Reply;
 use send_suspend::Segment;
 use std::alloc::{AllocError, Global};
 
 /// What the segment of a ticket comes to over the cells of now: the first run's result where its effects hold over them, and
 /// else that of a second run. A start's cells are its own, so it is never run again.
 ///
-/// Whatever the ticket is for, the effects hold over the cells of its instance, so that recovery takes its record in. A ticket of a
-/// script with more or fewer cells than the instance has is of another shelf, and its page is unknown here.
+/// It asks for a target that is admitted, and that the ticket of an answer goes on from its page: so its script has as many cells as
+/// the instance. Whatever the ticket is for, the effects hold over the cells of its instance, so that recovery takes its record in.
 pub fn segment_now(
     alloc: Global,
     book: &Book,
@@ -34,6 +36,8 @@ pub fn segment_now(
     requires script { HasTargetScript (library_of library.now) ticket.now }
     requires segment { IsRunOf (library_of library.now).all fuel ticket.now first }
     requires cells { HaveTheirCells (book_under (library_of library.now) book.now) }
+    requires admitted { refusal_for (library_of library.now) book.now ticket.now.target ≡ None }
+    requires goes { GoesOnIfThere (library_of library.now) book.now ticket.now }
     requires fuel { fuel < 2 ^ 63 }
     ensures segment { IsForItsVisit (library_of library.now) book.now ticket.now
         → IfOk result (IsSegmentNow fuel (book_under (library_of library.now) book.now) ticket.now) }
@@ -45,7 +49,7 @@ pub fn segment_now(
     ensures on { IfOk result (λ r. AreOnCells book.now ticket.now (map effect_of r.effects.items)) }
     ensures held { IfOk result (AreHeldNow book.now ticket.now) }
     ensures whole { IfOk result (ShowsWholeFrom (library_of library.now).all ticket.now) }
-    ensures none { IfErr result (IsWhyNoSegment (library_of library.now) book.now ticket.now) }
+    ensures none { IfErr result IsWantOfMemory }
 {
     let Some(named) = library.get(ticket.script) else {
         unreachable!()
@@ -59,9 +63,6 @@ pub fn segment_now(
     let Some(cells) = book.cells(page.instance) else {
         return Ok(first);
     };
-    if named.script.instance_defaults().len() != cells.len() {
-        return Err(Reply::Refused(Refusal::Unknown));
-    }
     if cells.holds(&first.effects) {
         return Ok(first);
     }

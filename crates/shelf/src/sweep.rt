@@ -12,6 +12,7 @@ use web_outside::Nonces;
 
 impl<D: Disk, N: Nonces + Drop> Shelf<D, N> {
     ghost use Rattle.shelf.specs.Views.{IsInOrder, IsOwnShelf, swept_of};
+    ghost use Rattle.shelf.specs.Tickets.{KeepsTickets};
     ghost use Rattle.shelf.specs.Events.{IsSweep, HasMoments, HasOwnMoments, TellsFaults, LeavesItsDisk, CountsOn};
 
     /// Goes on to a tick and frees each instance whose pages are all expired then or evicted, once this is on the disk; a tick at
@@ -23,6 +24,7 @@ impl<D: Disk, N: Nonces + Drop> Shelf<D, N> {
         requires in_order { IsInOrder D.view D.tells self.old }
         ensures event { IsSweep D.view N.nonce self.old self.new tick result }
         ensures in_order { IsInOrder D.view D.tells self.new }
+        ensures tickets { KeepsTickets D.view self.old self.new }
         ensures own { IsOwnShelf D.view D.tells self.old → IsOwnShelf D.view D.tells self.new }
         ensures any_moment { IsTrue D.tells → HasMoments D.view self.old self.new }
         ensures own_moments { IsTrue D.tells → IsOwnShelf D.view D.tells self.old

@@ -18,6 +18,7 @@ pub const NUMBERS: u64 = 4_611_686_018_427_387_904;
 
 impl<D: Disk, N: Nonces + Drop> Shelf<D, N> {
     ghost use Rattle.shelf.specs.Views.{IsInOrder, IsOwnShelf, admission_now, FitsNow, IsOut, HasTargetScript};
+    ghost use Rattle.shelf.specs.Tickets.{GoesOnFromItsPage, KeepsTickets};
     ghost use Rattle.shelf.specs.Events.{IsTake, IsTicketOf, TellsWhyNot};
 
     /// Takes the next number and nonce for a visit of the target. It does not touch the disk.
@@ -25,7 +26,8 @@ impl<D: Disk, N: Nonces + Drop> Shelf<D, N> {
     /// A shelf that is down, one whose numbers are used up, and a target that is not admitted are told whatever memory there
     /// is. A take that is refused, or finds no memory, changes nothing and draws no nonce.
     ///
-    /// The ticket can be run. Where each page of the shelf has the state of its chain, it is for the visit of the target.
+    /// The ticket can be run, and that of an answer goes on from its page, as do those that were taken before. Where each page of the
+    /// shelf has the state of its chain, it is for the visit of the target.
     pub fn take(&mut self, alloc: Global, target: &Target, answer: Value) -> Result<Ticket, Reply>
         requires { IsInOrder D.view D.tells self.old }
         ensures event { IsTake D.view N.nonce self.old self.new target.now answer result }
@@ -39,6 +41,8 @@ impl<D: Disk, N: Nonces + Drop> Shelf<D, N> {
         ensures script { IfOk result (HasTargetScript (library_of self.new.library)) }
         ensures cells { IfOk result (HasCellsBy (admission_now D.view self.old target.now)) }
         ensures out { IfOk result (IsOut D.view self.new) }
+        ensures goes { IfOk result (GoesOnFromItsPage D.view self.new) }
+        ensures tickets { KeepsTickets D.view self.old self.new }
         ensures journal { self.new.journal ≡ self.old.journal }
         ensures library { self.new.library ≡ self.old.library }
         ensures rules { self.new.rules ≡ self.old.rules }

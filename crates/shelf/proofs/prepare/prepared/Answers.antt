@@ -16,7 +16,7 @@ use Rattle.book_visits.specs.Views.{ticket_of}
 use Rattle.shelf.specs.Views.{unmeasured}
 use Rattle.shelf.proofs.Replayed.{if_ok}
 use Rattle.shelf.proofs.Beside.{admit_same, fits_at, segment_at, prepares_by}
-use Rattle.shelf.proofs.Deciding.{decides, tells_of_run, number_is_new}
+use Rattle.shelf.proofs.Deciding.{decides, refused_beside, tells_of_run, number_is_new}
 use Rattle.shelf.proofs.Now.{both_ok}
 use Rattle.shelf.proofs.prepare.prepared.Goals as goal
 use Rattle.shelf.proofs.prepare.prepared.Goals.{In-Ok}
@@ -81,3 +81,11 @@ prepare-requires-clause-unused c =
     let l = library_of c.args.library.now in
     let t = c.args.ticket.now in
     number_is_new l c.args.book.now t (target_of t.target) c.requires.orderly c.requires.out
+
+-- a target that is not admitted
+
+pub returns-in-Err-clause-decided : goal.returns-in-Err-clause-decided
+returns-in-Err-clause-decided c fits beside up = refused_beside (library_of c.args.library.now) beside c.args.rules c.args.book.now c.args.ticket.now c.in-Err.refusal c.in-Err.ensures.refused up
+
+pub returns-in-Err-clause-held : goal.returns-in-Err-clause-held
+returns-in-Err-clause-held c fits r is held beside up = refused_beside (library_of c.args.library.now) beside c.args.rules c.args.book.now c.args.ticket.now c.in-Err.refusal c.in-Err.ensures.refused up

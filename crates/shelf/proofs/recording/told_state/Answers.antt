@@ -5,9 +5,7 @@ use Rattle.instance_book.specs.declared.change.Change.{Change}
 use Rattle.std.specs.Prelude.{None}
 use Rattle.shelf.specs.Recording.{IsKeptIn, told_in, lent}
 use Rattle.shelf.proofs.Replayed.{if_ok}
-use Rattle.script_nodes.specs.Views.{library_of}
-use Rattle.shelf.specs.Holding.{IsWholeIn}
-use Rattle.shelf.proofs.Told.{kept_told, whole_in, on_ok}
+use Rattle.shelf.proofs.Told.{kept_told}
 use Rattle.shelf.proofs.recording.told_state.Goals as goal
 
 pub returns-in-Opens-clause-told : goal.returns-in-Opens-clause-told
@@ -28,16 +26,3 @@ returns-in-Extends-clause-told c =
     let r = c.state_bytes-in-Extends.result in
     let is = if_ok r c.state_bytes-in-Extends.ensures (λ bytes h. kept_told c.kept_are_written.ensures (origin_of t.from) t.links d (kept_at x.show.page).form kept.form (lent bytes) h) in
     subst (λ (y : Change). IfOk r (λ bytes. lent bytes ≡ told_in t y)) (sym c.in-Extends.is) is
-
--- the page is whole, and the instance is of the ticket's script
-pub returns-in-Opens-clause-whole : goal.returns-in-Opens-clause-whole
-returns-in-Opens-clause-whole c =
-    let all = (library_of c.args.library.now).all in
-    on_ok (IsWholeIn all c.args.book.now c.args.change.now) c.state_bytes.result
-    (whole_in all c.args.book.now c.args.ticket.now c.args.change.now c.requires.runs c.requires.whole (c.is_of_its_script.ensures c.if-not-is_of_its_script.false all))
-
-pub returns-in-Extends-clause-whole : goal.returns-in-Extends-clause-whole
-returns-in-Extends-clause-whole c =
-    let all = (library_of c.args.library.now).all in
-    on_ok (IsWholeIn all c.args.book.now c.args.change.now) c.state_bytes-in-Extends.result
-    (whole_in all c.args.book.now c.args.ticket.now c.args.change.now c.requires.runs c.requires.whole (c.is_of_its_script.ensures c.if-not-is_of_its_script.false all))

@@ -1,5 +1,7 @@
-use Rattle.std.proofs.Common.{◌≡◌, ◌∙◌, ap, sym, subst, refl, map, length, List, ℕ, Some, None, option_map, true, false}
+use Rattle.std.proofs.Common.{◌≡◌, ◌∙◌, ap, sym, subst, refl, map, length, List, ℕ, Some, None, option_map, slice_get, true, false}
+use Rattle.std.proofs.lemmas.Option.{same_Some, get_or_from_slice_get}
 use Rattle.script_value.specs.Val.{Val}
+use Rattle.script_nodes.specs.Setup.{Named, Library}
 use Rattle.script_nodes.specs.Views.{library_of, named_of}
 use Rattle.page_names.specs.Names.{Destination, page}
 use Rattle.page_names.specs.Views.{target_of, name_of}
@@ -8,23 +10,33 @@ use Rattle.page_names.specs.declared.names.Target.{Target}
 use Rattle.instance_cells.specs.Cells.{Effect, Holds, AreOn}
 use Rattle.instance_cells.specs.Views.{effect_of}
 use Rattle.instance_cells.specs.declared.effect.Effect as rust
-use Rattle.replay_spec.specs.Book.{Book}
-use Rattle.replay_spec.specs.Admission.{admit}
+use Rattle.replay_spec.specs.Book.{Instance, Book}
+use Rattle.replay_spec.specs.Admission.{refusal_of, admit}
 use Rattle.instance_book.specs.Standing.{book_under}
 use Rattle.instance_book.specs.Swept.{cells_in, cells_at}
-use Rattle.instance_book.specs.Views.{no_journal}
+use Rattle.instance_book.specs.declared.book.Book as kept
+use Rattle.book_visits.specs.declared.ticket.Ticket.{Ticket}
+use Rattle.instance_book.specs.Views.{no_journal, script_in, no_script}
 use Rattle.instance_book.proofs.Seen.{cells_seen}
 use Rattle.machine_states.specs.Views.{segment_of}
-use Rattle.shelf.specs.Holding.{AreHeld, IsForItsVisit}
-use Rattle.shelf.specs.Views.{HoldIn}
+use Rattle.shelf.specs.Holding.{AreHeld}
+use Rattle.shelf.specs.Tickets.{GoesOnWhere}
+use Rattle.shelf.specs.Views.{HoldIn, HaveTheirCells}
+use Rattle.shelf.proofs.Tickets.{as_many_cells}
 use Rattle.shelf.proofs.Replayed.{shows_whole, start_held, page_held, held_on, on_cells_of}
-use Rattle.shelf.proofs.Now.{of_some, gone_segment, keeps_state, held_segment, rerun_segment, same_count, if_some}
+use Rattle.shelf.proofs.Now.{of_some, gone_segment, keeps_state, held_segment, rerun_segment, if_some}
 use Rattle.shelf.proofs.second.segment_now.Goals as goal
-use Rattle.shelf.proofs.second.segment_now.Goals.{Then-holds, After-drop-first-then-len-6}
+use Rattle.shelf.proofs.second.segment_now.Goals.{Then-holds}
 
--- counts that are the same
-as_many : (defaults given cells : List Val) (n m : ℕ) → given ≡ defaults → n ≡ length given → n ≡ m → m ≡ length cells → length defaults ≡ length cells
-as_many defaults given cells n m same first both second = ap (λ (vs : List Val). length vs) (sym same) ∙ (sym first ∙ (both ∙ second))
+-- the instance whose page is answered has as many cells as the ticket's script
+as_many_now : (l : Library) (b : kept.Book) (t : Ticket) (d : Destination) (name : List ℕ) (n : PageName) (named : Named) (cells : List Val) → d ≡ page name n → slice_get l.all t.script ≡ Some named
+    → cells_at n.instance b ≡ Some cells → refusal_of (admit (book_under l b) d) ≡ None → GoesOnWhere l b t d → HaveTheirCells (book_under l b) → length named.script.cells ≡ length cells
+as_many_now l b t d name n named cells is found here ok goes theirs =
+    let under = book_under l b in
+    let there = as_many_cells l b t name n (subst (λ (x : Destination). refusal_of (admit under x) ≡ None) is ok) (subst (λ (x : Destination). GoesOnWhere l b t x) is goes) theirs in
+    let its : script_in l.all t.script ≡ named = get_or_from_slice_get l.all t.script named no_script found in
+    let same : there.0.cells ≡ cells = same_Some there.0.cells cells (ap (option_map (λ (i : Instance). i.cells)) (sym there.1.0) ∙ (sym (cells_seen l no_journal n.instance b) ∙ here)) in
+    ap (λ (s : Named). length s.script.cells) (sym its) ∙ (there.1.1 ∙ ap (λ (vs : List Val). length vs) same)
 
 -- what holds over the cells of now holds over those of the answered page's instance
 hold_over : (b : Book) (d : Destination) (name : List ℕ) (n : PageName) (cells : List Val) (es : List Effect) → d ≡ page name n → cells_in n.instance b ≡ Some cells → HoldIn b d es → Holds es cells
@@ -66,35 +78,17 @@ returns-in_default-cells-clause-state c own =
 pub returns-in_default-cells-clause-whole : goal.returns-in_default-cells-clause-whole
 returns-in_default-cells-clause-whole c = shows_whole (library_of c.args.library.now).all c.args.ticket.now c.args.fuel c.args.ticket.now.cells c.args.first c.requires.runs c.requires.segment
 
--- ---- an answer, whose instance has more or fewer cells than the ticket's script
-
--- a ticket that is for its visit has a script with as many
-not_many : (c : After-drop-first-then-len-6) → ¬ IsForItsVisit (library_of c.args.library.now) c.args.book.now c.args.ticket.now
-not_many c own =
-    let b = book_under (library_of c.args.library.now) c.args.book.now in
-    let t = c.args.ticket.now in
-    let named = c.in-Some.named.now in
-    let shown = c.in-Page.page in
-    let here : cells_in shown.instance b ≡ Some c.in-Some-cells.cells.now = sym (cells_seen (library_of c.args.library.now) no_journal shown.instance c.args.book.now) ∙ sym c.in-Some-cells.ensures in
-    let many : length named.script.cells ≡ length c.in-Some-cells.cells.now =
-    same_count (library_of c.args.library.now).all b t (name_of c.in-Page.field-0) named.script c.root-root.ensures.script (named_of named) refl (sym c.in-Some.ensures) c.args.fuel t.cells c.args.first c.requires.segment shown
-    c.in-Some-cells.cells.now here c.requires.cells (admit b (target_of t.target)) (ap (λ (x : Target). admit b (target_of x)) (sym c.in-Page.is)) own.admitted own.fits in
-    c.if-len.true (c.len.ensures ∙ (ap (λ (vs : List Val). length vs) c.instance_defaults.ensures ∙ (many ∙ sym c.len-2.ensures)))
-
-pub returns-then-len-clause-first : goal.returns-then-len-clause-first
-returns-then-len-clause-first c own hold = absurd (not_many c own)
-
-pub returns-then-len-clause-none : goal.returns-then-len-clause-none
-returns-then-len-clause-none c = not_many c
-
 -- ---- an answer, where the first run's effects hold over the cells of now
 
 pub holds-requires : goal.holds-requires
 holds-requires c =
     let named = c.in-Some.named.now in
     let cells = c.in-Some-cells.cells.now in
+    let many : length named.script.cells ≡ length cells =
+    as_many_now (library_of c.args.library.now) c.args.book.now c.args.ticket.now (target_of c.args.ticket.now.target) (name_of c.in-Page.field-0) c.in-Page.page (named_of named) cells (ap target_of c.in-Page.is) (sym c.in-Some.ensures) (sym c.in-Some-cells.ensures)
+    c.requires.admitted c.requires.goes c.requires.cells in
     let on = on_cells_of (library_of c.args.library.now).all c.args.ticket.now (named_of named) c.args.fuel c.args.ticket.now.cells c.args.first cells (sym c.in-Some.ensures)
-    (as_many named.script.cells c.instance_defaults.result.now cells c.len.result c.len-2.result c.instance_defaults.ensures c.len.ensures c.if-len.false c.len-2.ensures) c.requires.segment in
+    many c.requires.segment in
     subst (λ (es : List rust.Effect). AreOn (length cells) (map effect_of es)) (sym c.deref.ensures.value) on
 
 -- they hold over them
@@ -108,9 +102,12 @@ returns-then-holds-clause-held c =
     let shown = c.in-Page.page in
     let named = c.in-Some.named.now in
     let cells = c.in-Some-cells.cells.now in
+    let many : length named.script.cells ≡ length cells =
+    as_many_now (library_of c.args.library.now) c.args.book.now c.args.ticket.now (target_of c.args.ticket.now.target) (name_of c.in-Page.field-0) c.in-Page.page (named_of named) cells (ap target_of c.in-Page.is) (sym c.in-Some.ensures) (sym c.in-Some-cells.ensures)
+    c.requires.admitted c.requires.goes c.requires.cells in
     let held : AreHeld es cells = record {
       on = on_cells_of (library_of c.args.library.now).all c.args.ticket.now (named_of named) c.args.fuel c.args.ticket.now.cells c.args.first cells (sym c.in-Some.ensures)
-          (as_many named.script.cells c.instance_defaults.result.now cells c.len.result c.len-2.result c.instance_defaults.ensures c.len.ensures c.if-len.false c.len-2.ensures) c.requires.segment;
+          many c.requires.segment;
       hold = first_holds c;
     } in
     page_held b c.args.ticket.now (target_of c.args.ticket.now.target) (name_of c.in-Page.field-0) shown es (ap target_of c.in-Page.is)
@@ -189,7 +186,9 @@ returns-in-Ok-clause-held c =
     let shown = c.in-Page.page in
     let cells = c.in-Some-cells.cells.now in
     let named = c.in-Some.named.now in
-    let many = as_many named.script.cells c.instance_defaults.result.now cells c.len.result c.len-2.result c.instance_defaults.ensures c.len.ensures c.if-len.false c.len-2.ensures in
+    let many : length named.script.cells ≡ length cells =
+    as_many_now (library_of c.args.library.now) c.args.book.now c.args.ticket.now (target_of c.args.ticket.now.target) (name_of c.in-Page.field-0) c.in-Page.page (named_of named) cells (ap target_of c.in-Page.is) (sym c.in-Some.ensures) (sym c.in-Some-cells.ensures)
+    c.requires.admitted c.requires.goes c.requires.cells in
     let held : AreHeld es cells = record {
       on = on_cells_of (library_of c.args.library.now).all c.args.ticket.now (named_of named) c.args.fuel cells r cells (sym c.in-Some.ensures) many c.in-Ok.ensures.run;
       hold = (c.in-Ok.ensures.run (named_of named) (sym c.in-Some.ensures)).consistent.hold;

@@ -15,7 +15,7 @@ use Rattle.shelf.specs.Files.{file_of}
 use Rattle.shelf.specs.Views.{library_in, fate_by}
 use Rattle.shelf.specs.Events.{decision_of, TellsReply}
 use Rattle.shelf.specs.Recording.{IsBody, told_in}
-use Rattle.shelf.proofs.Shelves.{some_kept}
+use Rattle.shelf.proofs.Tickets.{spent_keeps}
 use Rattle.shelf.proofs.Standing.{no_call}
 use Rattle.shelf.proofs.Sizes.{unwritten_count}
 use Rattle.shelf.proofs.Publishing.{told_none, told_some, plain_count}
@@ -55,6 +55,9 @@ returns-in_default-clause-own g c = (idle g c).own
 pub returns-in_default-clause-spent : goal.returns-in_default-clause-spent
 returns-in_default-clause-spent g c = (idle g c).spent
 
+pub returns-in_default-clause-tickets : goal.returns-in_default-clause-tickets
+returns-in_default-clause-tickets g c = (idle g c).tickets
+
 pub returns-in_default-clause-any_moment : goal.returns-in_default-clause-any_moment
 returns-in_default-clause-any_moment g c = (idle g c).any_moment
 
@@ -81,21 +84,10 @@ returns-in_default-clause-quiet g c = alone c.install.result (untouched (g.D.Dis
 pub told_body-requires-clause-settled : goal.told_body-requires-clause-settled
 told_body-requires-clause-settled g c told = (c.requires.in_order.fit told).settled (landing.none_down g.D.Disk.view g.D.Disk.tells c.args.self.now c.requires.in_order c.args.ticket.now c.args.prepared c.requires.up c.requires.out c.requires.script c.requires.landed c.requires.room)
 
-pub told_body-requires-clause-states : goal.told_body-requires-clause-states
-told_body-requires-clause-states g c = some_kept (library_in c.args.self.now).all c.args.self.now.book c.spend.new.self c.spend.ensures.states c.requires.in_order.kept
-
-pub told_body-requires-clause-placed : goal.told_body-requires-clause-placed
-told_body-requires-clause-placed g c = c.spend.ensures.placed (library_in c.args.self.now).all c.requires.in_order.placed
-
 pub told_body-requires-clause-kept : goal.told_body-requires-clause-kept
 told_body-requires-clause-kept g c =
     let q = c.requires in
     landing.kept_there g.D.Disk.view g.D.Disk.tells c.args.self.now q.in_order c.args.ticket.now c.args.prepared q.up q.out q.script q.landed q.room c.in-Some.change c.in-Some.is
-
-pub told_body-requires-clause-whole : goal.told_body-requires-clause-whole
-told_body-requires-clause-whole g c =
-    let q = c.requires in
-    landing.whole_there g.D.Disk.view g.D.Disk.tells c.args.self.now q.in_order c.args.ticket.now c.args.prepared q.up q.out q.script q.landed q.room c.in-Some.change c.in-Some.is
 
 pub told_body-requires-clause-spelled : goal.told_body-requires-clause-spelled
 told_body-requires-clause-spelled g c =
@@ -133,6 +125,9 @@ returns-in-Err-clause-own g c = (unwritten g (goal.at.returns-in-Err-clause-own 
 
 pub returns-in-Err-clause-spent : goal.returns-in-Err-clause-spent
 returns-in-Err-clause-spent g c = (unwritten g (goal.at.returns-in-Err-clause-spent g c).In-Err).spent
+
+pub returns-in-Err-clause-tickets : goal.returns-in-Err-clause-tickets
+returns-in-Err-clause-tickets g c = (unwritten g (goal.at.returns-in-Err-clause-tickets g c).In-Err).tickets
 
 pub returns-in-Err-clause-any_moment : goal.returns-in-Err-clause-any_moment
 returns-in-Err-clause-any_moment g c = (unwritten g (goal.at.returns-in-Err-clause-any_moment g c).In-Err).any_moment
@@ -188,6 +183,9 @@ landed g c =
     let long : length_of new ≡ length_of s.journal + 5 + length body = omega (arith, c.in-Ok-added.ensures.len, told.len, ap (λ (x : List ℕ). length x) c.as_slice.ensures) in
     let filed : file_of view c.visit.new.self ≡ with_line (changed (change_of c.in-Some.change) (length body)) (file_of view s.file) =
     c.visit.ensures ∙ ap (λ (n : ℕ). with_line (changed (change_of c.in-Some.change) n) (file_of view s.file)) c.len.ensures in
+    let goes = (spent_keeps view s q.in_order.orderly c.spend.new.self c.spend.ensures.states c.args.ticket.now.number q.out c.spend.ensures.book c.args.ticket.now q.goes).goes in
+    let on = landing.goes_there_on view g.D.Disk.tells s q.in_order c.args.ticket.now c.args.prepared q.up q.out q.script q.landed q.room c.in-Some.change c.in-Some.is c.spend.new.self c.spend.ensures.book goes in
+    let whole = landing.whole_spent view g.D.Disk.tells s q.in_order c.args.ticket.now c.args.prepared q.up q.out q.script q.landed q.room c.in-Some.change c.in-Some.is c.spend.new.self c.spend.ensures.book goes q.runs in
     landed_publishes view tells g.N.Nonces.nonce s q.in_order c.args.ticket.now c.args.prepared q.up q.out q.script q.landed q.room q.plain q.shown q.decided
     (record {
       events = c.events_are_kept.ensures;
@@ -196,7 +194,7 @@ landed g c =
       landings_between = c.landings_stand_between.ensures;
       exact = c.records_are_exact.ensures;
     })
-    c.in-Some.change c.in-Some.is c.spend.new.self c.spend.ensures.book c.spend.ensures.instances c.spend.ensures.states c.in-Ok.ensures.state c.in-Ok.ensures.spelled c.in-Ok.ensures.goes c.in-Ok.ensures.binds body c.in-Ok.ensures.written mid new
+    c.in-Some.change c.in-Some.is c.spend.new.self c.spend.ensures.book c.spend.ensures.instances c.spend.ensures.states whole c.in-Ok.ensures.spelled on c.in-Ok.ensures.binds body c.in-Ok.ensures.written mid new
     (record { settled = λ tells settled. told.settled tells; seen = told.seen; images = told.images; time = told.time })
     (λ tells. subst (λ (x : List ℕ). LeavesOnly (view mid.disk) (view new.disk) (MayHold (bodies_in view mid) x)) c.as_slice.ensures (c.added.ensures.any_moment tells)) c.added.ensures.sound
     (record { only_now = g.met.D.Disk.only_now s.journal.disk; counts_now = g.met.D.Disk.counts_now new.disk; reads = λ tells. g.met.D.Disk.reads_image s.journal.disk tells })
@@ -214,6 +212,9 @@ returns-in-Ok-added-clause-own g c = (landed g (goal.at.returns-in-Ok-added-clau
 
 pub returns-in-Ok-added-clause-spent : goal.returns-in-Ok-added-clause-spent
 returns-in-Ok-added-clause-spent g c = (landed g (goal.at.returns-in-Ok-added-clause-spent g c).After-install-in-Ok-added).spent
+
+pub returns-in-Ok-added-clause-tickets : goal.returns-in-Ok-added-clause-tickets
+returns-in-Ok-added-clause-tickets g c = (landed g (goal.at.returns-in-Ok-added-clause-tickets g c).After-install-in-Ok-added).tickets
 
 pub returns-in-Ok-added-clause-any_moment : goal.returns-in-Ok-added-clause-any_moment
 returns-in-Ok-added-clause-any_moment g c = (landed g (goal.at.returns-in-Ok-added-clause-any_moment g c).After-install-in-Ok-added).any_moment
@@ -242,6 +243,9 @@ doubted g c =
     let told = c.told_body.ensures in
     let mid = c.told_body.new.journal in
     let new = c.added.new.journal in
+    let goes = (spent_keeps view s q.in_order.orderly c.spend.new.self c.spend.ensures.states c.args.ticket.now.number q.out c.spend.ensures.book c.args.ticket.now q.goes).goes in
+    let on = landing.goes_there_on view g.D.Disk.tells s q.in_order c.args.ticket.now c.args.prepared q.up q.out q.script q.landed q.room c.in-Some.change c.in-Some.is c.spend.new.self c.spend.ensures.book goes in
+    let whole = landing.whole_spent view g.D.Disk.tells s q.in_order c.args.ticket.now c.args.prepared q.up q.out q.script q.landed q.room c.in-Some.change c.in-Some.is c.spend.new.self c.spend.ensures.book goes q.runs in
     doubted_publishes view tells g.N.Nonces.nonce s q.in_order c.args.ticket.now c.args.prepared q.up q.out q.script q.landed q.room q.plain q.shown q.decided
     (record {
       events = c.events_are_kept.ensures;
@@ -250,7 +254,7 @@ doubted g c =
       landings_between = c.landings_stand_between.ensures;
       exact = c.records_are_exact.ensures;
     })
-    c.in-Some.change c.in-Some.is c.spend.new.self c.spend.ensures.book c.spend.ensures.instances c.spend.ensures.states c.in-Ok.ensures.state c.in-Ok.ensures.spelled c.in-Ok.ensures.goes c.in-Ok.ensures.binds c.in-Ok.body c.in-Ok.ensures.written
+    c.in-Some.change c.in-Some.is c.spend.new.self c.spend.ensures.book c.spend.ensures.instances c.spend.ensures.states whole c.in-Ok.ensures.spelled on c.in-Ok.ensures.binds c.in-Ok.body c.in-Ok.ensures.written
     mid new (record { settled = λ tells settled. told.settled tells; seen = told.seen; images = told.images; time = told.time })
     (λ tells. subst (λ (x : List ℕ). LeavesOnly (view mid.disk) (view new.disk) (MayHold (bodies_in view mid) x)) c.as_slice.ensures (c.added.ensures.any_moment tells)) c.added.ensures.sound
     (record { only_now = g.met.D.Disk.only_now s.journal.disk; counts_now = g.met.D.Disk.counts_now new.disk; reads = λ tells. g.met.D.Disk.reads_image s.journal.disk tells })
@@ -267,6 +271,9 @@ returns-clause-own g c = (doubted g (goal.at.returns-clause-own g c).After-of_vi
 
 pub returns-clause-spent : goal.returns-clause-spent
 returns-clause-spent g c = (doubted g (goal.at.returns-clause-spent g c).After-of_visit).spent
+
+pub returns-clause-tickets : goal.returns-clause-tickets
+returns-clause-tickets g c = (doubted g (goal.at.returns-clause-tickets g c).After-of_visit).tickets
 
 pub returns-clause-any_moment : goal.returns-clause-any_moment
 returns-clause-any_moment g c = (doubted g (goal.at.returns-clause-any_moment g c).After-of_visit).any_moment

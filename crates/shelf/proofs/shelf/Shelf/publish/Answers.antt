@@ -20,6 +20,7 @@ use Rattle.shelf.proofs.Publishing.{answered, told_answered, no_count, up_refusa
 use Rattle.shelf.proofs.Fitting.{shown_at, landed_at}
 use Rattle.shelf.proofs.Leaving.{Publishes, spent_publishes, visit_anew, publishes_from}
 use Rattle.shelf.proofs.Now.{if_none}
+use Rattle.shelf.proofs.Tickets.{anew_keeps}
 use Rattle.shelf.proofs.Quiet.{untouched, alone}
 use Rattle.shelf.proofs.shelf.Shelf.publish.Goals as goal
 use Rattle.shelf.proofs.shelf.Shelf.publish.Goals.{After-spend, After-prepared, After-land, After-spend-in-Err}
@@ -53,6 +54,9 @@ returns-in-Some-clause-own g c = (turned g (goal.at.returns-in-Some-clause-own g
 
 pub returns-in-Some-clause-spent : goal.returns-in-Some-clause-spent
 returns-in-Some-clause-spent g c = (turned g (goal.at.returns-in-Some-clause-spent g c).After-spend).spent
+
+pub returns-in-Some-clause-tickets : goal.returns-in-Some-clause-tickets
+returns-in-Some-clause-tickets g c = (turned g (goal.at.returns-in-Some-clause-tickets g c).After-spend).tickets
 
 pub returns-in-Some-clause-any_moment : goal.returns-in-Some-clause-any_moment
 returns-in-Some-clause-any_moment g c = (turned g (goal.at.returns-in-Some-clause-any_moment g c).After-spend).any_moment
@@ -107,6 +111,13 @@ land-requires-clause-in_order g c =
 pub land-requires-clause-out : goal.land-requires-clause-out
 land-requires-clause-out g c = subst (λ (y : Book). Contains y.out c.args.ticket.number) (sym (same_book g (goal.at.land-requires-clause-out g c).After-prepared)) c.requires.out
 
+pub prepared-requires-clause-goes : goal.prepared-requires-clause-goes
+prepared-requires-clause-goes g c = c.requires.goes.goes
+
+pub land-requires-clause-goes : goal.land-requires-clause-goes
+land-requires-clause-goes g c =
+    anew_keeps g.D.Disk.view c.args.self.now c.requires.in_order.orderly c.prepared.new.book c.prepared.ensures.states c.prepared.ensures.book c.args.ticket c.requires.goes
+
 pub land-requires-clause-landed : goal.land-requires-clause-landed
 land-requires-clause-landed g c = landed_at (library_in c.args.self.now) c.args.self.now.book c.prepared.new.book c.args.ticket c.in-Ok.prepared c.prepared.ensures.book c.in-Ok.ensures.landed
 
@@ -149,7 +160,7 @@ wanting g c no_segment free =
 landed : (g : _) (c : After-land g) → Publishes g.D.Disk.view g.D.Disk.tells g.N.Nonces.nonce c.args.self.now c.land.new.self c.args.ticket c.land.result
 landed g c =
     let done = c.land.ensures in
-    publishes_from g.D.Disk.view g.D.Disk.tells c.args.self.now c.prepared.new.book c.prepared.ensures.book c.prepared.ensures.states c.args.ticket g.N.Nonces.nonce c.land.new.self c.land.result (record {
+    publishes_from g.D.Disk.view g.D.Disk.tells c.args.self.now c.prepared.new.book c.prepared.ensures.book c.prepared.ensures.states c.args.ticket c.requires.in_order.orderly g.N.Nonces.nonce c.land.new.self c.land.result (record {
       event = done.event;
       in_order = done.in_order;
       own = done.own;
@@ -157,6 +168,7 @@ landed g c =
       any_moment = done.any_moment;
       own_moments = done.own_moments;
       memory = done.memory;
+      tickets = done.tickets;
     })
 
 pub returns-in-Ok-clause-event : goal.returns-in-Ok-clause-event
@@ -167,6 +179,9 @@ returns-in-Ok-clause-own g c = (landed g (goal.at.returns-in-Ok-clause-own g c).
 
 pub returns-in-Ok-clause-spent : goal.returns-in-Ok-clause-spent
 returns-in-Ok-clause-spent g c = (landed g (goal.at.returns-in-Ok-clause-spent g c).After-land).spent
+
+pub returns-in-Ok-clause-tickets : goal.returns-in-Ok-clause-tickets
+returns-in-Ok-clause-tickets g c = (landed g (goal.at.returns-in-Ok-clause-tickets g c).After-land).tickets
 
 pub returns-in-Ok-clause-any_moment : goal.returns-in-Ok-clause-any_moment
 returns-in-Ok-clause-any_moment g c = (landed g (goal.at.returns-in-Ok-clause-any_moment g c).After-land).any_moment
@@ -235,6 +250,9 @@ returns-clause-own g c = (refused g (goal.at.returns-clause-own g c).After-spend
 
 pub returns-clause-spent : goal.returns-clause-spent
 returns-clause-spent g c = (refused g (goal.at.returns-clause-spent g c).After-spend-in-Err).spent
+
+pub returns-clause-tickets : goal.returns-clause-tickets
+returns-clause-tickets g c = (refused g (goal.at.returns-clause-tickets g c).After-spend-in-Err).tickets
 
 pub returns-clause-any_moment : goal.returns-clause-any_moment
 returns-clause-any_moment g c = (refused g (goal.at.returns-clause-any_moment g c).After-spend-in-Err).any_moment

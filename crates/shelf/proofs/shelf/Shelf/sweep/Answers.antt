@@ -33,6 +33,9 @@ early_tick g c =
 pub returns-then-tick-clock-clause-event : goal.returns-then-tick-clock-clause-event
 returns-then-tick-clock-clause-event g c = (early_tick g (goal.at.returns-then-tick-clock-clause-event g c).Then-tick-clock).event
 
+pub returns-then-tick-clock-clause-tickets : goal.returns-then-tick-clock-clause-tickets
+returns-then-tick-clock-clause-tickets g c = λ t h. h
+
 pub returns-then-tick-clock-clause-any_moment : goal.returns-then-tick-clock-clause-any_moment
 returns-then-tick-clock-clause-any_moment g c = (early_tick g (goal.at.returns-then-tick-clock-clause-any_moment g c).Then-tick-clock).any_moment
 
@@ -54,6 +57,9 @@ turned g c =
 
 pub returns-in-Some-clause-event : goal.returns-in-Some-clause-event
 returns-in-Some-clause-event g c = (turned g (goal.at.returns-in-Some-clause-event g c).In-Some).event
+
+pub returns-in-Some-clause-tickets : goal.returns-in-Some-clause-tickets
+returns-in-Some-clause-tickets g c = λ t h. h
 
 pub returns-in-Some-clause-any_moment : goal.returns-in-Some-clause-any_moment
 returns-in-Some-clause-any_moment g c = (turned g (goal.at.returns-in-Some-clause-any_moment g c).In-Some).any_moment
@@ -84,6 +90,9 @@ returns-in-Err-clause-in_order g c = (unwritten g (goal.at.returns-in-Err-clause
 
 pub returns-in-Err-clause-own : goal.returns-in-Err-clause-own
 returns-in-Err-clause-own g c = (unwritten g (goal.at.returns-in-Err-clause-own g c).In-Err).own
+
+pub returns-in-Err-clause-tickets : goal.returns-in-Err-clause-tickets
+returns-in-Err-clause-tickets g c = (unwritten g (goal.at.returns-in-Err-clause-tickets g c).In-Err).tickets
 
 pub returns-in-Err-clause-any_moment : goal.returns-in-Err-clause-any_moment
 returns-in-Err-clause-any_moment g c = (unwritten g (goal.at.returns-in-Err-clause-any_moment g c).In-Err).any_moment
@@ -130,6 +139,9 @@ returns-in-Ok-added-clause-in_order g c = (landed g (goal.at.returns-in-Ok-added
 pub returns-in-Ok-added-clause-own : goal.returns-in-Ok-added-clause-own
 returns-in-Ok-added-clause-own g c = (landed g (goal.at.returns-in-Ok-added-clause-own g c).After-free_expired).own
 
+pub returns-in-Ok-added-clause-tickets : goal.returns-in-Ok-added-clause-tickets
+returns-in-Ok-added-clause-tickets g c = (landed g (goal.at.returns-in-Ok-added-clause-tickets g c).After-free_expired).tickets
+
 pub returns-in-Ok-added-clause-any_moment : goal.returns-in-Ok-added-clause-any_moment
 returns-in-Ok-added-clause-any_moment g c = (landed g (goal.at.returns-in-Ok-added-clause-any_moment g c).After-free_expired).any_moment
 
@@ -162,6 +174,9 @@ returns-clause-in_order g c = (doubted g (goal.at.returns-clause-in_order g c).I
 
 pub returns-clause-own : goal.returns-clause-own
 returns-clause-own g c = (doubted g (goal.at.returns-clause-own g c).In-Err-added).own
+
+pub returns-clause-tickets : goal.returns-clause-tickets
+returns-clause-tickets g c = (doubted g (goal.at.returns-clause-tickets g c).In-Err-added).tickets
 
 pub returns-clause-any_moment : goal.returns-clause-any_moment
 returns-clause-any_moment g c = (doubted g (goal.at.returns-clause-any_moment g c).In-Err-added).any_moment

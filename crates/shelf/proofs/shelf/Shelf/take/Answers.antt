@@ -22,6 +22,7 @@ use Rattle.shelf.proofs.Order.{follows, quiet_event}
 use Rattle.instance_book.specs.Places as sources
 use Rattle.shelf.proofs.Shelves.{quiet_order, quiet_own, same_order, kept_told, some_kept}
 use Rattle.shelf.proofs.Fitting.{fits_drawn, start_has_script}
+use Rattle.shelf.proofs.Tickets.{anew_keeps, drawn_keeps, taken_goes}
 use Rattle.shelf.proofs.shelf.Shelf.take.Goals as goal
 
 pub returns-in-Some-clause-event : goal.returns-in-Some-clause-event
@@ -143,6 +144,36 @@ returns-in-Err-take_ticket-clause-own g c =
     let s = c.args.self.now in
     let b = book_in g.D.Disk.view s in
     quiet_own g.D.Disk.view g.D.Disk.tells s _ refl refl b (c.in-Err-take_ticket.ensures.err (library_in s) (beside_of g.D.Disk.view s)) refl refl (no_call g.D.Disk.view g.D.Disk.tells s.journal) (c.take_ticket.ensures.states (sources.own tt) (library_in s).all)
+
+-- the ticket goes on from its page, and so do those that were taken before
+
+pub returns-in-Ok-clause-tickets : goal.returns-in-Ok-clause-tickets
+returns-in-Ok-clause-tickets g c =
+    λ t h. let kept = drawn_keeps g.D.Disk.view c.args.self.now c.requires.orderly c.take_ticket.new.book c.take_ticket.ensures.states c.in-Ok.ensures.drawn t h in record { used = kept.used; goes = kept.goes }
+
+pub returns-in-Ok-clause-goes : goal.returns-in-Ok-clause-goes
+returns-in-Ok-clause-goes g c =
+    let s = c.args.self.now in
+    let b = book_in g.D.Disk.view s in
+    let t = c.in-Ok.ticket in
+    let d = target_of c.args.target.now in
+    let same : target_of t.target ≡ d = ap (λ (x : next.Ticket). x.target) c.in-Ok.ensures.ticket in
+    let why : refusal_of (admit b d) ≡ None = ap refusal_of (admit_same (library_in s) (beside_of g.D.Disk.view s) no_journal s.book d) ∙ c.in_default-admit.ensures.admitted in
+    let kept = drawn_keeps g.D.Disk.view s c.requires.orderly c.take_ticket.new.book c.take_ticket.ensures.states c.in-Ok.ensures.drawn t (taken_goes g.D.Disk.view s c.requires.orderly t d same why c.in-Ok.ensures.goes) in
+    record { used = kept.used; goes = kept.goes }
+
+pub returns-in-Some-clause-tickets : goal.returns-in-Some-clause-tickets
+returns-in-Some-clause-tickets g c = λ t h. h
+
+pub returns-then-drawn-eq-NUMBERS-clause-tickets : goal.returns-then-drawn-eq-NUMBERS-clause-tickets
+returns-then-drawn-eq-NUMBERS-clause-tickets g c = λ t h. h
+
+pub returns-in-Err-clause-tickets : goal.returns-in-Err-clause-tickets
+returns-in-Err-clause-tickets g c = λ t h. h
+
+pub returns-in-Err-take_ticket-clause-tickets : goal.returns-in-Err-take_ticket-clause-tickets
+returns-in-Err-take_ticket-clause-tickets g c =
+    λ t h. let kept = anew_keeps g.D.Disk.view c.args.self.now c.requires.orderly c.take_ticket.new.book c.take_ticket.ensures.states c.in-Err-take_ticket.ensures.err t h in record { used = kept.used; goes = kept.goes }
 
 pub take_ticket-requires-clause-kept : goal.take_ticket-requires-clause-kept
 take_ticket-requires-clause-kept g c = c.requires.kept
