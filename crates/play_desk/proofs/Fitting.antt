@@ -15,6 +15,7 @@ use Rattle.replay_spec.proofs.Stand.{among_of}
 use Rattle.shelf.specs.Visits.{IsRunnable, Ticket}
 use Rattle.shelf.specs.declared.shelf.Shelf.{Shelf}
 use Rattle.shelf.specs.Views.{book_in, library_in, swept_of, HasTargetScript, IsInOrder}
+use Rattle.shelf.specs.Tickets.{GoesOnFromItsPage, KeepsTickets}
 use Rattle.shelf.specs.declared.rules.Rules.{Rules}
 use Rattle.play_desk.specs.Staff.{IsUnspent, HoldsAt, OfEachTicket, AreFit, AreNumbered, HaveOwnNumbers, KeepsOthers, numbers_in, place_of}
 use Rattle.play_desk.proofs.Places.{at_set, get_other, get_set, same_set, same_Some}
@@ -97,20 +98,21 @@ fit_with {D = D} view tells xs ts us k x y fit here in_order rules count mine ot
           apart v w t u hv hw (subst (λ n. place_of n v t ≡ place_of n w u) len place) number;
     }
 
--- a ticket is unspent on each shelf of the same library on which its number is out
-still_unspent : {D : Type 0} (view : D → View) (x y : Shelf D Counting) (t : Ticket) → y.library ≡ x.library → Contains (book_in view y).out t.number
+-- a ticket is unspent on each later shelf of the same library on which its number is out
+still_unspent : {D : Type 0} (view : D → View) (x y : Shelf D Counting) (t : Ticket) → y.library ≡ x.library → KeepsTickets view x y → Contains (book_in view y).out t.number
     → IsUnspent view x t → IsUnspent view y t
-still_unspent view x y t same out o = record {
+still_unspent view x y t same keeps out o = record {
   out = out;
   runs = subst (λ (l : Library). IsRunnable (library_of l).all t) (sym same) o.runs;
   script = subst (λ (l : Library). HasTargetScript (library_of l) t) (sym same) o.script;
+  goes = keeps t o.goes;
 }
 
 pub fit_sweep : {D : Type 0} (view : D → View) (tells : Bool) (xs : List (Shelf D Counting)) (ts : List (Option Ticket))
     (k : ℕ) (x y : Shelf D Counting) (tick : ℕ) (r : Result ℕ Reply) → AreFit view tells xs ts → slice_get xs k ≡ Some x
-    → Happens view x y (sweep tick) (swept_of r) → IsInOrder view tells y → y.rules ≡ x.rules → y.library ≡ x.library
+    → Happens view x y (sweep tick) (swept_of r) → IsInOrder view tells y → y.rules ≡ x.rules → y.library ≡ x.library → KeepsTickets view x y
     → AreFit view tells (slice_set xs k y) ts
-fit_sweep view tells xs ts k x y tick r fit here h in_order rules library =
+fit_sweep view tells xs ts k x y tick r fit here h in_order rules library keeps =
     let b = book_in view x in
     let c = book_in view y in
     let m = moment_of view x (sweep tick) (swept_of r) in
@@ -119,7 +121,7 @@ fit_sweep view tells xs ts k x y tick r fit here h in_order rules library =
     fit_with view tells xs ts ts k x y fit here in_order rules fit.count
     (λ w t held place.
     let o = of_held (IsUnspent view) xs ts k w x t fit.unspent here held place in
-    still_unspent view x y t library (subst (λ (ns : List ℕ). Contains ns t.number) (sym out) o.out) o)
+    still_unspent view x y t library keeps (subst (λ (ns : List ℕ). Contains ns t.number) (sym out) o.out) o)
     (λ w t held other. held) fit.apart
 
 -- the number of a ticket that is published is spent, whatever the publish comes to
@@ -127,8 +129,8 @@ pub fit_publish : {D : Type 0} (view : D → View) (tells : Bool) (xs : List (Sh
     (k worker : ℕ) (x y : Shelf D Counting) (t : Ticket) → AreFit view tells xs ts → slice_get xs k ≡ Some x
     → slice_get ts worker ≡ Some (Some t) → place_of (length xs) worker t ≡ k
     → (book_in view y).out ≡ (spend t.number (book_in view x)).out
-    → IsInOrder view tells y → y.rules ≡ x.rules → y.library ≡ x.library → AreFit view tells (slice_set xs k y) (slice_set ts worker None)
-fit_publish view tells xs ts k worker x y t fit here held place out in_order rules library =
+    → IsInOrder view tells y → y.rules ≡ x.rules → y.library ≡ x.library → KeepsTickets view x y → AreFit view tells (slice_set xs k y) (slice_set ts worker None)
+fit_publish view tells xs ts k worker x y t fit here held place out in_order rules library keeps =
     let b = book_in view x in
     let c = book_in view y in
     fit_with view tells xs ts (slice_set ts worker None) k x y fit here
@@ -137,7 +139,7 @@ fit_publish view tells xs ts k worker x y t fit here held place out in_order rul
     let was = left_held ts worker w u there in
     let o = of_held (IsUnspent view) xs ts k w x u fit.unspent here was.1 at in
     let other : u.number ≢ t.number = λ same. was.0 (fit.apart w worker u t was.1 held (at ∙ sym place) same) in
-    still_unspent view x y u library (subst (λ (ns : List ℕ). Contains ns u.number) (sym out) (still_out u.number t.number b.out other o.out)) o)
+    still_unspent view x y u library keeps (subst (λ (ns : List ℕ). Contains ns u.number) (sym out) (still_out u.number t.number b.out other o.out)) o)
     (λ w u there other. (left_held ts worker w u there).1)
     (λ v w z u hv hw at same. fit.apart v w z u (left_held ts worker v z hv).1 (left_held ts worker w u hw).1 at same)
 
@@ -145,22 +147,22 @@ fit_publish view tells xs ts k worker x y t fit here held place out in_order rul
 pub fit_take : {D : Type 0} (view : D → View) (tells : Bool) (xs : List (Shelf D Counting)) (ts : List (Option Ticket))
     (k worker : ℕ) (x y : Shelf D Counting) (t : Ticket) → AreFit view tells xs ts → slice_get xs k ≡ Some x
     → book_in view y ≡ draw (book_in view x) → t.number ≡ x.book.drawn
-    → IsRunnable (library_in y).all t → HasTargetScript (library_in y) t → place_of (length xs) worker t ≡ k
-    → IsInOrder view tells y → y.rules ≡ x.rules → y.library ≡ x.library → AreFit view tells (slice_set xs k y) (slice_set ts worker (Some t))
-fit_take view tells xs ts k worker x y t fit here drawn number runs script place in_order rules library =
+    → IsRunnable (library_in y).all t → HasTargetScript (library_in y) t → GoesOnFromItsPage view y t → place_of (length xs) worker t ≡ k
+    → IsInOrder view tells y → y.rules ≡ x.rules → y.library ≡ x.library → KeepsTickets view x y → AreFit view tells (slice_set xs k y) (slice_set ts worker (Some t))
+fit_take view tells xs ts k worker x y t fit here drawn number runs script goes place in_order rules library keeps =
     let b = book_in view x in
     let c = book_in view y in
     let out : c.out ≡ b.out ++ b.drawn ∷ [] = ap (λ (d : Book). d.out) drawn in
     let mine : Contains c.out t.number =
     subst (λ (ns : List ℕ). Contains ns t.number) (sym out) (subst (λ (n : ℕ). Contains (b.out ++ b.drawn ∷ []) n) (sym number) (Contains-push b.out b.drawn)) in
-    let new_unspent : IsUnspent view y t = record { out = mine; runs = runs; script = script } in
+    let new_unspent : IsUnspent view y t = record { out = mine; runs = runs; script = script; goes = goes } in
     fit_with view tells xs ts (slice_set ts worker (Some t)) k x y fit here
     in_order rules (length-set ts worker (Some t) ∙ fit.count)
     (λ w u there at. elim (case w u there) [
       | inl p ↦ subst (λ (z : Ticket). IsUnspent view y z) (same_Some t u p.1) new_unspent
       | inr p ↦
           (let o = of_held (IsUnspent view) xs ts k w x u fit.unspent here p.1 at in
-          still_unspent view x y u library (subst (λ (ns : List ℕ). Contains ns u.number) (sym out) (Contains-append_left b.out (b.drawn ∷ []) u.number o.out)) o)
+          still_unspent view x y u library keeps (subst (λ (ns : List ℕ). Contains ns u.number) (sym out) (Contains-append_left b.out (b.drawn ∷ []) u.number o.out)) o)
     ])
     (λ w u there other. elim (case w u there) [
       | inl p ↦ absurd (other (at_worker w u p))
@@ -197,13 +199,13 @@ fit_take view tells xs ts k worker x y t fit here drawn number runs script place
 -- nothing was taken
 pub fit_same : {D : Type 0} (view : D → View) (tells : Bool) (xs : List (Shelf D Counting)) (ts : List (Option Ticket))
     (k : ℕ) (x y : Shelf D Counting) → AreFit view tells xs ts → slice_get xs k ≡ Some x
-    → book_in view y ≡ book_in view x → IsInOrder view tells y → y.rules ≡ x.rules → y.library ≡ x.library
+    → book_in view y ≡ book_in view x → IsInOrder view tells y → y.rules ≡ x.rules → y.library ≡ x.library → KeepsTickets view x y
     → AreFit view tells (slice_set xs k y) ts
-fit_same view tells xs ts k x y fit here book in_order rules library =
+fit_same view tells xs ts k x y fit here book in_order rules library keeps =
     fit_with view tells xs ts ts k x y fit here in_order rules fit.count
     (λ w t held place.
     let o = of_held (IsUnspent view) xs ts k w x t fit.unspent here held place in
-    still_unspent view x y t library (subst (λ (d : Book). Contains d.out t.number) (sym book) o.out) o)
+    still_unspent view x y t library keeps (subst (λ (d : Book). Contains d.out t.number) (sym book) o.out) o)
     (λ w t held other. held) fit.apart
 
 -- a shelf was opened again, and nobody holds a ticket of it

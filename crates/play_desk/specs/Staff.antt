@@ -16,6 +16,7 @@ use Rattle.replay_spec.specs.Runs as runs
 use Rattle.shelf.specs.Visits.{FitsAs, IsRunnable, ticket_of, Ticket}
 use Rattle.replay_spec.specs.Next as next
 use Rattle.shelf.specs.Views.{book_in, library_in, shelf_of, HasTargetScript, IsInOrder, IsOut, IsOwnShelf}
+use Rattle.shelf.specs.Tickets.{GoesOnFromItsPage}
 use Rattle.shelf.specs.declared.shelf.Shelf.{Shelf}
 use Rattle.script_value.specs.declared.outcome.Reply.{Reply}
 use Rattle.play_steps.specs.Rules.{Takes, Publishes, Sweeps}
@@ -46,11 +47,13 @@ held_by s worker = option_and_then (λ t. t) (slice_get (map (option_map ticket_
 abbrev pub HoldsTicket : {D : Type 0} → Staff D → (worker : ℕ) → Type 0
 HoldsTicket s worker = is_some (held_by s worker) ≡ true
 
--- what a publish asks of the ticket: its number is out on the shelf, and it can be run over the shelf's library
+-- What a publish asks of the ticket: its number is out on the shelf, it can be run over the shelf's library, and that of an answer goes on
+-- from its page.
 pub record IsUnspent {D : Type 0} (view : D → View) (s : Shelf D Counting) (t : Ticket) : Type 0 where
   pub out : IsOut view s t
   pub runs : IsRunnable (library_in s).all t
   pub script : HasTargetScript (library_in s) t
+  pub goes : GoesOnFromItsPage view s t
 
 -- the ticket is for the visit that its target was admitted as when it was taken, on the book that the shelf had then, which had the
 -- same setup

@@ -1,5 +1,6 @@
 -- Tickets that callers hold.
-use Rattle.std.proofs.Common.{◌≡◌, ℕ, ◌+◌, Bool, List, [], ◌∷◌, ◌++◌, length, Contains, refl, sym, ◌∙◌, ap, subst}
+use Rattle.std.proofs.Common.{◌≡◌, ◌⊎◌, inl, inr, ℕ, ◌+◌, Bool, List, [], ◌∷◌, ◌++◌, length, Contains, refl, sym, ◌∙◌, ap, subst}
+use Rattle.std.proofs.lemmas.List.Elements.{Contains-append_left, Contains-push, Contains-push_cases}
 use Rattle.std.specs.Prelude.{Result, Ok, Err, IfOk}
 use mathlib.Core.List.{IsPrefix}
 use Rattle.script_value.specs.Val.{Val}
@@ -30,7 +31,8 @@ use Rattle.page_names.specs.declared.names.Target.{Target}
 use Rattle.shelf.specs.Events.{IsTicketOf}
 use Rattle.shelf.specs.Going.{TicketsGoOnToFit}
 use Rattle.site.specs.declared.opening.Opening.{Opening}
-use Rattle.site.specs.Entries.{entry}
+use Rattle.site.specs.declared.entry.KeptEntry.{KeptEntry}
+use Rattle.site.specs.Entries.{entry, Gave, IsGivenIn}
 use Rattle.site.specs.Openings.{opened_library, scripts_in, IsOwnOpening, start_of, source_of, count_of, book_then}
 use Rattle.site.specs.Sound.{IsSound, HasItsHistory, IsForItsVisit, Holds}
 use Rattle.site.proofs.Outs.{owes_taken}
@@ -135,3 +137,18 @@ pub told_ticket : {D N : Type 0} (view : D → View) (coming : N → ℕ → ℕ
     → IfOk result (λ x. (target_of x.target ≡ target_of target) × (meaning x.answer ≡ meaning answer))
 told_ticket view coming s target answer (Ok x) h = (ap (λ z. z.target) h, ap (λ z. z.answer) h)
 told_ticket view coming s target answer (Err r) h = tt
+
+-- what a take gave stands in each history that goes on
+pub given_on : (seen es : List KeptEntry) (t : Ticket) → IsPrefix seen es → IsGivenIn seen t → IsGivenIn es t
+given_on seen es t front given = (given.0, (subst (λ (l : List KeptEntry). Contains l given.0) front.1 (Contains-append_left seen front.0 given.0 given.1.0), given.1.1))
+
+-- a ticket of the history with one entry more was given before, or by that entry
+pub given_last : (es : List KeptEntry) (e : KeptEntry) (t : Ticket) → IsGivenIn (es ++ e ∷ []) t → IsGivenIn es t ⊎ Gave e.did t
+given_last es e t given = elim (Contains-push_cases es e given.0 given.1.0) [
+  | inl old ↦ inl (given.0, (old, given.1.1))
+  | inr last ↦ inr (subst (λ (x : KeptEntry). Gave x.did t) (sym last) given.1.1)
+]
+
+-- the entry that is added gave it
+pub given_now : (es : List KeptEntry) (e : KeptEntry) (t : Ticket) → Gave e.did t → IsGivenIn (es ++ e ∷ []) t
+given_now es e t gave = (e, (Contains-push es e, gave))

@@ -28,7 +28,7 @@ use Rattle.site.specs.declared.entry.Did.TheVariants as did
 use Rattle.site.specs.declared.entry.KeptEntry.{KeptEntry}
 use Rattle.site.specs.declared.kept.KeptShelf.{KeptShelf}
 use Rattle.site.specs.declared.opening.Opening.{Opening}
-use Rattle.site.specs.Entries.{entry, done_by, entry_of, entries_of, Comes, Sweeps}
+use Rattle.site.specs.Entries.{entry, done_by, entry_of, entries_of, IsGivenIn, Comes, Sweeps}
 use Rattle.site.specs.Openings.{IsOwnOpening, start_of, source_of, count_of, book_then}
 use Rattle.site.proofs.Outs.{own_more}
 use Rattle.site.specs.Sound.{IsSound, Holds, Gives}
@@ -157,23 +157,24 @@ module _ {D N : Type 0} (view : D → View) (tells : Bool) (coming : N → ℕ �
               ((turn source opened now (start_of view o) v.caller (entries_of v.seen) es known before).1 e ((go_on source opened now (start_of view o) es).1 e legal) refl);
         }
 
-    pub holds_so : (by : ℕ) (u : Ticket) → v.caller ≡ by → Holds view tells coming x.opened (entries_of y.history) by u → HoldsTicket view tells coming w u
-    holds_so by u is h = record {
+    pub holds_so : (by : ℕ) (u : Ticket) → v.caller ≡ by → Holds view tells coming x.opened (entries_of y.history) by u → IsGivenIn y.history u → HoldsTicket view tells coming w u
+    holds_so by u is h gave = record {
       opening = x.opened;
       opening_is = ap (λ (z : Known D N). z.opening) t.seen_is ∙ t.opening_is;
       holds = subst (λ (n : ℕ). Holds view tells coming x.opened (seen_by w) n u) (sym is ∙ sym (ap (λ (z : Known D N). z.caller) t.seen_is)) (subst (λ (l : List Entry). Holds view tells coming x.opened l by u) seen_now h);
+      given = subst (λ (l : List KeptEntry). IsGivenIn l u) (sym (ap (λ (z : Known D N). z.seen) t.seen_is)) gave;
     }
 
     pub took : (by : ℕ) (target : Destination) (answer : Val) (result : Result Ticket answers.Reply) → v.caller ≡ by → Comes by (step.take target answer) (taken_of result) x.history y.history
-        → Gives view tells coming x.opened (entries_of y.history) by target answer result
+        → Gives view tells coming x.opened (entries_of y.history) by target answer result → IfOk result (IsGivenIn y.history)
         → Took view tells coming v target answer result w
-    took by target answer (Ok u) is c given = record {
+    took by target answer (Ok u) is c given gave = record {
       goes = subst (λ (e : Entry). GoesFrom view tells coming v (e ∷ []) w) (λ i. entry v.caller (step.take (sym given.ticket.0 i) (sym given.ticket.1 i)) (step.taken u.number u.nonce)) (goes_one by (step.take target answer) (taken_of (Ok u)) is c);
-      holds = holds_so by u is given.held;
+      holds = holds_so by u is given.held gave;
       target_is = given.ticket.0;
       answer_is = given.ticket.1;
     }
-    took by target answer (Err r) is c given = (given.refused, inl (goes_one by (step.take target answer) (reply_of r) is c))
+    took by target answer (Err r) is c given gave = (given.refused, inl (goes_one by (step.take target answer) (reply_of r) is c))
 
     pub published : (by : ℕ) (u : Ticket) (r : answers.Reply) → v.caller ≡ by → Comes by (step.publish (ticket_of u)) (reply_of r) x.history y.history → Published view tells coming v u r w
     published by u r is c = inl (goes_one by (step.publish (ticket_of u)) (reply_of r) is c)

@@ -1,11 +1,11 @@
 -- What the entries of a history stand for.
-use Rattle.std.specs.Prelude.{◌≡◌, ℕ, List, [], ◌∷◌, ◌++◌, map, ◌⊎◌, ◌≤◌, ◌<◌, Result, Ok}
+use Rattle.std.specs.Prelude.{◌≡◌, ℕ, List, [], ◌∷◌, ◌++◌, map, ◌⊎◌, ◌≤◌, ◌<◌, Result, Ok, Contains}
 use Rattle.script_value.specs.declared.outcome.Reply.{Reply}
 use Rattle.script_value.specs.Views.{meaning}
 use Rattle.page_names.specs.Views.{target_of}
 use Rattle.replay_spec.specs.Step as step
 use Rattle.replay_spec.specs.Step.{Event}
-use Rattle.shelf.specs.Visits.{ticket_of, reply_of}
+use Rattle.shelf.specs.Visits.{Ticket, ticket_of, reply_of}
 use Rattle.shelf.specs.Views.{taken_of, swept_of}
 use Rattle.history_spec.specs.Histories.{Entry}
 use Rattle.site.specs.declared.entry.KeptEntry.{KeptEntry}
@@ -27,6 +27,15 @@ entry_of e = done_by e.caller e.did
 
 abbrev pub entries_of : List KeptEntry → List Entry
 entries_of es = map entry_of es
+
+-- what was done is a take that gave this ticket
+abbrev pub Gave : Did → Ticket → Type 0
+Gave (Take target answer told) t = told.value ≡ Ok t
+Gave _ t = ⊥
+
+-- a take of this history gave the ticket
+abbrev pub IsGivenIn : List KeptEntry → Ticket → Type 0
+IsGivenIn es t = (e : KeptEntry) × (Contains es e × Gave e.did t)
 
 -- the history has one entry more: this event and this reply, by this caller
 pub record Comes (caller : ℕ) (event : Event) (reply : step.Reply) (old new : List KeptEntry) : Type 0 where

@@ -1,5 +1,5 @@
 -- What the calls of a shelf that is kept behind a lock ask for and do.
-use Rattle.std.specs.Prelude.{◌≡◌, ℕ, Bool, Option, Result}
+use Rattle.std.specs.Prelude.{◌≡◌, ℕ, Bool, Option, Result, IfOk}
 use Rattle.script_value.specs.declared.outcome.Reply.{Reply}
 use Rattle.script_value.specs.declared.value.Value.{Value}
 use Rattle.script_value.specs.Views.{meaning}
@@ -12,24 +12,27 @@ use Rattle.replay_spec.specs.Step as step
 use Rattle.shelf.specs.Visits.{Ticket, ticket_of, reply_of}
 use Rattle.machine_states.specs.declared.segment.Segment.{Segment}
 use Rattle.shelf.specs.Views.{IsRunIfAny, book_in, library_in, taken_of}
+use Rattle.shelf.specs.Tickets.{GoesOnFromItsPage}
 use Rattle.site.specs.declared.kept.KeptShelf.{KeptShelf}
-use Rattle.site.specs.Entries.{Comes, Sweeps, entries_of}
+use Rattle.site.specs.Entries.{Comes, Sweeps, IsGivenIn, entries_of}
 use Rattle.site.specs.Openings.{opened_library}
 use Rattle.site.specs.Sound.{IsSound, Holds, Gives}
 
 module _ {D N : Type 0} (view : D → View) (tells : Bool) (coming : N → ℕ → ℕ) where
-  -- a kept shelf is sound, with its history since it was opened
-  abbrev pub IsSoundShelf : KeptShelf D N → Type 0
-  IsSoundShelf k = IsSound view tells coming k.opened k.shelf (entries_of k.history)
+  -- a kept shelf is sound, with its history since it was opened, and the tickets that were given there go on from their pages
+  pub record IsSoundShelf (k : KeptShelf D N) : Type 0 where
+    pub is : IsSound view tells coming k.opened k.shelf (entries_of k.history)
+    pub tickets : (t : Ticket) → IsGivenIn k.history t → GoesOnFromItsPage view k.shelf t
 
-  -- by the history of a kept shelf the caller holds the ticket
-  abbrev pub IsHeldOn : KeptShelf D N → (caller : ℕ) → Ticket → Type 0
-  IsHeldOn k caller t = Holds view tells coming k.opened (entries_of k.history) caller t
+  -- by the history of a kept shelf the caller holds the ticket, which was given there
+  pub record IsHeldOn (k : KeptShelf D N) (caller : ℕ) (t : Ticket) : Type 0 where
+    pub holds : Holds view tells coming k.opened (entries_of k.history) caller t
+    pub given : IsGivenIn k.history t
 
   -- by the history after a take the caller was given what it was told
-  abbrev pub GivesOn : (caller : ℕ) → Target → Value → Result Ticket Reply → (old new : KeptShelf D N) → Type 0
-  GivesOn caller target answer told old new =
-      Gives view tells coming old.opened (entries_of new.history) caller (target_of target) (meaning answer) told
+  pub record GivesOn (caller : ℕ) (target : Target) (answer : Value) (told : Result Ticket Reply) (old new : KeptShelf D N) : Type 0 where
+    pub gives : Gives view tells coming old.opened (entries_of new.history) caller (target_of target) (meaning answer) told
+    pub given : IfOk told (IsGivenIn new.history)
 
 module _ {D N : Type 0} where
   -- the scripts are those that the journal of a kept shelf told

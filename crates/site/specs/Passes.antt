@@ -17,7 +17,7 @@ use Rattle.history_spec.specs.Laws.{take_of}
 use Rattle.history_spec.specs.Passes.{Goes, publish_of}
 use Rattle.site.specs.declared.entry.KeptEntry.{KeptEntry}
 use Rattle.site.specs.declared.opening.Opening.{Opening}
-use Rattle.site.specs.Entries.{entry, entries_of}
+use Rattle.site.specs.Entries.{entry, entries_of, IsGivenIn}
 use Rattle.site.specs.Openings.{opened_library, IsOwnOpening, start_of, source_of, count_of, book_then}
 use Rattle.site.specs.Sound.{Holds, IsNoTicket}
 
@@ -62,11 +62,12 @@ module _ {D N : Type 0} (view : D → View) (tells : Bool) (coming : N → ℕ �
     pub goes : IsOwnOpening view tells opening
         → Goes (source_of coming opening) (count_of view opening.shelf.value) now (start_of view opening) v.caller (seen_by v) added (seen_by w)
 
-  -- the pass holds the ticket, by what it has seen
+  -- the pass holds the ticket, by what it has seen: a take gave it there
   pub record HoldsTicket (v : Known D N) (t : Ticket) : Type 0 where
     pub opening : Opening D N
     pub opening_is : v.opening ≡ opening ∷ []
     pub holds : Holds view tells coming opening (seen_by v) v.caller t
+    pub given : IsGivenIn v.seen t
 
   -- the history that was found is as long as a history may be, and no entry was made
   abbrev pub IsWorn : Known D N → Reply → Known D N → Type 0

@@ -108,6 +108,13 @@ publish-requires-clause-script g c =
     (held_there_so g.D.Disk.view g.D.Disk.tells s.shelves.items s.tickets c.len.result c.shelf_for-place.result c.args.worker x x c.in-Some.ticket
     c.requires.fit c.in-Some.ensures.ticket (c.len.ensures ∙ s.shelves.ok.0) c.shelf_for-place.ensures c.index_mut-shelf.ensures.value).script
 
+pub publish-requires-clause-goes : goal.publish-requires-clause-goes
+publish-requires-clause-goes g c =
+    let s = c.args.staff.now in
+    let x = c.index_mut-shelf.result.now in
+    (held_there_so g.D.Disk.view g.D.Disk.tells s.shelves.items s.tickets c.len.result c.shelf_for-place.result c.args.worker x x c.in-Some.ticket
+    c.requires.fit c.in-Some.ensures.ticket (c.len.ensures ∙ s.shelves.ok.0) c.shelf_for-place.ensures c.index_mut-shelf.ensures.value).goes
+
 -- a ticket of an own shelf that is published is for the visit of its target
 visits : {D : Type 0} (view : D → View) (tells : Bool) (xs : List (Shelf D Counting)) (ts : List (Option Ticket)) (k worker : ℕ)
     (x : Shelf D Counting) (t : Ticket) → TicketsGoOnToFit → AreOwn view tells xs ts → slice_get xs k ≡ Some x
@@ -155,7 +162,7 @@ returns-clause-fit g c =
     let here = at_index xs k x x at.1 c.index_mut-shelf.ensures.value in
     subst (λ (ts : List (Option Ticket)). AreFit view g.D.Disk.tells (slice_set xs k y) ts) (sym c.in-Some.ensures.without)
     (fit_publish view g.D.Disk.tells xs s.tickets k c.args.worker x y t c.requires.fit here c.in-Some.ensures.ticket at.0
-    c.publish.ensures.spent c.publish.ensures.in_order c.publish.ensures.rules c.publish.ensures.library)
+    c.publish.ensures.spent c.publish.ensures.in_order c.publish.ensures.rules c.publish.ensures.library c.publish.ensures.tickets)
 
 pub returns-clause-own : goal.returns-clause-own
 returns-clause-own g c own =

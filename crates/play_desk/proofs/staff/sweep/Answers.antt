@@ -37,7 +37,7 @@ returns-clause-fit g c =
     let here = at_index xs k x x c.requires.place c.index_mut.ensures.value in
     let h = happens view x y _ (swept_of r) c.sweep.ensures.event in
     fit_sweep view g.D.Disk.tells xs c.args.staff.now.tickets k x y c.args.tick r c.requires.fit here h
-    c.sweep.ensures.in_order c.sweep.ensures.rules c.sweep.ensures.library
+    c.sweep.ensures.in_order c.sweep.ensures.rules c.sweep.ensures.library c.sweep.ensures.tickets
 
 pub returns-clause-own : goal.returns-clause-own
 returns-clause-own g c own =

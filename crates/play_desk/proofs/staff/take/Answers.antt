@@ -135,7 +135,7 @@ returns-in-Err-clause-fit g c =
     let here = at_index xs k x x low c.index_mut-shelf.ensures.value in
     let h = happens view x y (take d a) (reply_of e) c.in-Err.ensures.event in
     let same = left_alone (book_in view x) (book_in view y) _ e (took c.refused_is_unchanged.ensures view x y d a (reply_of e) h) in
-    fit_same view g.D.Disk.tells xs s.tickets k x y c.requires.fit here same c.in-Err.ensures.in_order c.in-Err.ensures.rules c.in-Err.ensures.library
+    fit_same view g.D.Disk.tells xs s.tickets k x y c.requires.fit here same c.in-Err.ensures.in_order c.in-Err.ensures.rules c.in-Err.ensures.library c.in-Err.ensures.tickets
 
 pub returns-in-Err-clause-own : goal.returns-in-Err-clause-own
 returns-in-Err-clause-own g c own =
@@ -218,8 +218,8 @@ returns-in-Ok-take-clause-fit g c =
     let it = took c.refused_is_unchanged.ensures view x y d a (taken t.number t.nonce) h in
     let target : target_of t.target ≡ d = ap (λ (z : next.Ticket). z.target) c.in-Ok-take.ensures.ticket in
     fit_take view g.D.Disk.tells xs s.tickets k c.args.worker x y t c.requires.fit here it.2 it.0
-    c.in-Ok-take.ensures.runs c.in-Ok-take.ensures.script
-    (ap (λ (z : Destination). shelf_for (length xs) c.args.worker z) target ∙ place) c.in-Ok-take.ensures.in_order c.in-Ok-take.ensures.rules c.in-Ok-take.ensures.library
+    c.in-Ok-take.ensures.runs c.in-Ok-take.ensures.script c.in-Ok-take.ensures.goes
+    (ap (λ (z : Destination). shelf_for (length xs) c.args.worker z) target ∙ place) c.in-Ok-take.ensures.in_order c.in-Ok-take.ensures.rules c.in-Ok-take.ensures.library c.in-Ok-take.ensures.tickets
 
 pub returns-in-Ok-take-clause-own : goal.returns-in-Ok-take-clause-own
 returns-in-Ok-take-clause-own g c own =

@@ -9,4 +9,4 @@ new-requires-clause-fresh g c k x e = let f = c.requires.fresh k x e in (f.0, f.
 pub returns-in-Err-clause-back : goal.returns-in-Err-clause-back
 returns-in-Err-clause-back g c =
     same_shelves {D = g.row.D.Denot} {N = g.row.N.Denot} c.args.shelves.items c.in-Err.shelves.items c.in-Err.ensures.back
-    (λ k x y x_is r. r.0.untouched (ap entries_of r.2) ∙ (ap (λ o. o.shelf.value) r.1 ∙ (c.requires.fresh k x x_is).2))
+    (λ k x y x_is r. r.0.is.untouched (ap entries_of r.2) ∙ (ap (λ o. o.shelf.value) r.1 ∙ (c.requires.fresh k x x_is).2))

@@ -78,7 +78,7 @@ returns-clause-back g c k h d n es h_is d_is n_is es_is =
       opened = x.0.opened;
       opening_is = ap (λ w. w.opening) (one_of (sym h_is ∙ z.1)) ∙ z.2.opening_is;
       stands = subst (λ l. StandsFor {D = g.row.D.Denot} {N = g.row.N.Denot} view tells coming x.0.opened d n (entries_of l)) (sym history)
-          (stands_for {D = g.row.D.Denot} {N = g.row.N.Denot} view tells coming x.0.opened x.0.shelf (entries_of x.0.history) d n z.2.sound (sym x.2) nonces);
+          (stands_for {D = g.row.D.Denot} {N = g.row.N.Denot} view tells coming x.0.opened x.0.shelf (entries_of x.0.history) d n z.2.sound.is (sym x.2) nonces);
       callers = λ who le. ap (λ l. own_of who (entries_of l)) history ∙ (own_map who x.0.history ∙ ap entries_of (z.2.callers who le));
     }
 

@@ -2,8 +2,9 @@ use Rattle.std.proofs.Common.{rules, arith, ◌≡◌, ◌<◌, ◌^◌, inr, �
 use Rattle.replay_spec.specs.Step as step
 use Rattle.shelf.specs.Visits.{ticket_of, reply_of}
 use Rattle.site.specs.Entries.{entries_of, Comes}
+use Rattle.site.specs.Keeping.{IsSoundShelf, IsHeldOn}
 use Rattle.site.specs.Sound.{IsSound, Holds}
-use Rattle.site.proofs.Holding.{holds_on}
+use Rattle.site.proofs.Holding.{holds_on, given_on}
 use Rattle.site.proofs.Turns.{Turn, published, adds_one, match_ok, match_err, seen_so, from_did, worn}
 use Rattle.site.proofs.Seats.{own_on, same_opening}
 use Rattle.site.proofs.site.Site.publish_at.Goals as goal
@@ -21,10 +22,11 @@ turn-told-requires-clause-callable g c = λ a at p reached.
     let h = c.requires.held a at in
     let so = seen_so a.known.caller a.known.seen p.now.history reached.2.0 reached.2.1 in
     let same = same_opening a.known.opening h.opening p.now.opened h.opening_is reached.1.0 in
-    let mine : Holds {D = g.row.D.Denot} {N = g.row.N.Denot} view tells coming p.now.opened (entries_of p.now.history) by c.args.ticket =
+    let holds : Holds {D = g.row.D.Denot} {N = g.row.N.Denot} view tells coming p.now.opened (entries_of p.now.history) by c.args.ticket =
     subst (λ (n : ℕ). Holds {D = g.row.D.Denot} {N = g.row.N.Denot} view tells coming p.now.opened (entries_of p.now.history) n c.args.ticket) by_is
     (holds_on {D = g.row.D.Denot} {N = g.row.N.Denot} view tells coming p.now.opened (entries_of a.known.seen) (entries_of p.now.history) a.known.caller c.args.ticket so.front so.own
     (subst (λ (o : _). Holds {D = g.row.D.Denot} {N = g.row.N.Denot} view tells coming o (entries_of a.known.seen) a.known.caller c.args.ticket) same h.holds)) in
+    let mine : IsHeldOn {D = g.row.D.Denot} {N = g.row.N.Denot} view tells coming p.now by c.args.ticket = record { holds = holds; given = given_on a.known.seen p.now.history c.args.ticket reached.2.0 h.given } in
     let run = c.requires.segment a p.now.opened at reached.1.0 in
     search rules
 
@@ -36,11 +38,11 @@ turn-told-requires-clause-keeps g c = λ a at x told y reached did.
     let coming = g.N.Nonces.nonce in
     let by = c.caller-by.result in
     let by_is : a.known.caller ≡ by = (c.requires.own.seats c.args.shelf a at).caller_is ∙ sym c.caller-by.ensures in
-    let sound : IsSound {D = g.row.D.Denot} {N = g.row.N.Denot} view tells coming did.left.now.opened did.left.now.shelf (entries_of did.left.now.history) = search rules in
+    let sound : IsSoundShelf {D = g.row.D.Denot} {N = g.row.N.Denot} view tells coming did.left.now = search rules in
     let opened : did.left.now.opened ≡ did.shown.now.opened = search rules in
     let comes-there : Comes by (step.publish (ticket_of c.args.ticket)) (reply_of told) did.shown.now.history did.left.now.history = search rules in
     let comes : Comes by (step.publish (ticket_of c.args.ticket)) (reply_of told) x.history y.history = subst (λ (z : _). Comes by (step.publish (ticket_of c.args.ticket)) (reply_of told) z.history y.history) did.shows (subst (λ (z : _). Comes by (step.publish (ticket_of c.args.ticket)) (reply_of told) did.shown.now.history z.history) did.leaves comes-there) in (
-      subst (λ (z : _). IsSound {D = g.row.D.Denot} {N = g.row.N.Denot} view tells coming z.opened z.shelf (entries_of z.history)) did.leaves sound,
+      subst (λ (z : _). IsSoundShelf {D = g.row.D.Denot} {N = g.row.N.Denot} view tells coming z) did.leaves sound,
       sym (ap (λ z. z.opened) did.leaves) ∙ (opened ∙ ap (λ z. z.opened) did.shows),
       refl,
       adds_one by a.known.caller (step.publish (ticket_of c.args.ticket)) (reply_of told) x.history y.history by_is comes,
@@ -77,7 +79,7 @@ returns-in-Ok-clause-published g c =
       opening_is = t.2.1.0;
       begins = t.2.2.0;
       own_is = t.2.2.1;
-      sound = subst (λ o. IsSound {D = g.row.D.Denot} {N = g.row.N.Denot} view tells coming o y.shelf (entries_of y.history)) t.4.1 t.4.0;
+      sound = subst (λ o. IsSound {D = g.row.D.Denot} {N = g.row.N.Denot} view tells coming o y.shelf (entries_of y.history)) t.4.1 t.4.0.is;
       seen_is = t.5;
     } in
     (at.0, at.1, at.2, at.3, published {D = g.row.D.Denot} {N = g.row.N.Denot} view tells coming at.0.known at.1 x y turn by c.args.ticket told by_is comes)
@@ -90,5 +92,5 @@ returns-in-Err-clause-published g c =
     let at = match_err _ _ _ _ c.turn-told.ensures.turned c.in-Err.is in
     let t = at.4 in
     let x = t.0 in
-    let turn : Turn {D = g.row.D.Denot} {N = g.row.N.Denot} view tells coming at.0.known at.1 x x = record { opening_is = t.2.0; begins = t.3.0; own_is = t.3.1; sound = t.1; seen_is = t.5 } in
+    let turn : Turn {D = g.row.D.Denot} {N = g.row.N.Denot} view tells coming at.0.known at.1 x x = record { opening_is = t.2.0; begins = t.3.0; own_is = t.3.1; sound = t.1.is; seen_is = t.5 } in
     (at.0, at.1, at.2, at.3, inr (worn {D = g.row.D.Denot} {N = g.row.N.Denot} view tells coming at.0.known at.1 x x turn t.4 refl))

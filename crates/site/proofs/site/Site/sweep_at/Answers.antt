@@ -1,6 +1,7 @@
 use Rattle.std.proofs.Common.{rules, arith, ◌≡◌, ◌<◌, ◌^◌, inr, refl, sym, ◌∙◌, subst, ap, length}
 use Rattle.site.specs.Entries.{entries_of, Sweeps}
 use Rattle.shelf.specs.Views.{book_in}
+use Rattle.site.specs.Keeping.{IsSoundShelf}
 use Rattle.site.specs.Sound.{IsSound}
 use Rattle.site.proofs.Turns.{Turn, swept, adds_swept, match_ok, match_err, from_did, worn}
 use Rattle.site.proofs.Seats.{own_on}
@@ -26,11 +27,11 @@ turn-told-requires-clause-keeps g c = λ a at x told y reached did.
     let coming = g.N.Nonces.nonce in
     let by = c.caller-by.result in
     let by_is : a.known.caller ≡ by = (c.requires.own.seats c.args.shelf a at).caller_is ∙ sym c.caller-by.ensures in
-    let sound : IsSound {D = g.row.D.Denot} {N = g.row.N.Denot} view tells coming did.left.now.opened did.left.now.shelf (entries_of did.left.now.history) = search rules in
+    let sound : IsSoundShelf {D = g.row.D.Denot} {N = g.row.N.Denot} view tells coming did.left.now = search rules in
     let opened : did.left.now.opened ≡ did.shown.now.opened = search rules in
     let sweeps-there : Sweeps by c.args.tick told (book_in {D = g.row.D.Denot} {N = g.row.N.Denot} g.D.Disk.view did.shown.now.shelf).clock did.shown.now.history did.left.now.history = search rules in
     let sweeps : Sweeps by c.args.tick told (book_in {D = g.row.D.Denot} {N = g.row.N.Denot} g.D.Disk.view x.shelf).clock x.history y.history = subst (λ (z : _). Sweeps by c.args.tick told (book_in {D = g.row.D.Denot} {N = g.row.N.Denot} g.D.Disk.view z.shelf).clock z.history y.history) did.shows (subst (λ (z : _). Sweeps by c.args.tick told (book_in {D = g.row.D.Denot} {N = g.row.N.Denot} g.D.Disk.view did.shown.now.shelf).clock did.shown.now.history z.history) did.leaves sweeps-there) in (
-      subst (λ (z : _). IsSound {D = g.row.D.Denot} {N = g.row.N.Denot} view tells coming z.opened z.shelf (entries_of z.history)) did.leaves sound,
+      subst (λ (z : _). IsSoundShelf {D = g.row.D.Denot} {N = g.row.N.Denot} view tells coming z) did.leaves sound,
       sym (ap (λ z. z.opened) did.leaves) ∙ (opened ∙ ap (λ z. z.opened) did.shows),
       refl,
       adds_swept by a.known.caller c.args.tick told (book_in {D = g.row.D.Denot} {N = g.row.N.Denot} g.D.Disk.view x.shelf).clock x.history y.history by_is sweeps,
@@ -67,10 +68,10 @@ returns-in-Ok-clause-swept g c =
       opening_is = t.2.1.0;
       begins = t.2.2.0;
       own_is = t.2.2.1;
-      sound = subst (λ o. IsSound {D = g.row.D.Denot} {N = g.row.N.Denot} view tells coming o y.shelf (entries_of y.history)) t.4.1 t.4.0;
+      sound = subst (λ o. IsSound {D = g.row.D.Denot} {N = g.row.N.Denot} view tells coming o y.shelf (entries_of y.history)) t.4.1 t.4.0.is;
       seen_is = t.5;
     } in
-    (at.0, at.1, at.2, at.3, swept {D = g.row.D.Denot} {N = g.row.N.Denot} view tells coming at.0.known at.1 x y turn by c.args.tick told by_is t.2.0 sweeps)
+    (at.0, at.1, at.2, at.3, swept {D = g.row.D.Denot} {N = g.row.N.Denot} view tells coming at.0.known at.1 x y turn by c.args.tick told by_is t.2.0.is sweeps)
 
 pub returns-in-Err-clause-swept : goal.returns-in-Err-clause-swept
 returns-in-Err-clause-swept g c =
@@ -80,5 +81,5 @@ returns-in-Err-clause-swept g c =
     let at = match_err _ _ _ _ c.turn-told.ensures.turned c.in-Err.is in
     let t = at.4 in
     let x = t.0 in
-    let turn : Turn {D = g.row.D.Denot} {N = g.row.N.Denot} view tells coming at.0.known at.1 x x = record { opening_is = t.2.0; begins = t.3.0; own_is = t.3.1; sound = t.1; seen_is = t.5 } in
+    let turn : Turn {D = g.row.D.Denot} {N = g.row.N.Denot} view tells coming at.0.known at.1 x x = record { opening_is = t.2.0; begins = t.3.0; own_is = t.3.1; sound = t.1.is; seen_is = t.5 } in
     (at.0, at.1, at.2, at.3, inr (worn {D = g.row.D.Denot} {N = g.row.N.Denot} view tells coming at.0.known at.1 x x turn t.4 refl))
