@@ -1,5 +1,5 @@
 -- What opening and closing the shelves of a server leaves of its rack.
-use Rattle.std.proofs.Common.{◌≡◌, ◌≢◌, ◌<◌, ◌≤◌, ◌+◌, ◌-◌, ◌^◌, ◌++◌, ◌∷◌, ◌∙◌, ◌⊎◌, inl, inr, ℕ, zero, suc, List, [], length, Bool, true, false, IsTrue, Some, refl, sym, ap, subst, arith}
+use Rattle.std.proofs.Common.{◌≡◌, ◌≢◌, ◌<◌, ◌≤◌, ◌+◌, ◌-◌, ◌^◌, ◌++◌, ◌∷◌, ◌∙◌, ◌⊎◌, ⊎_elim, inl, inr, ℕ, zero, suc, List, [], length, Bool, true, false, IsTrue, Some, refl, sym, ap, subst, arith}
 use Rattle.std.specs.Prelude.{min, slice_get, ◌&&◌}
 use Rattle.std.proofs.lemmas.Bool.{and_parts}
 use Rattle.std.proofs.lemmas.List.{length-append}
@@ -260,7 +260,7 @@ untaken_asked before after count risen shelf cause.NotEmpty h asked = absurd h
 untaken_asked before after count risen shelf (cause.Damaged place) h asked = absurd h
 untaken_asked before after count risen shelf (cause.Other place) h asked = absurd h
 untaken_asked before after count risen shelf (cause.Full length) h asked = absurd h
-untaken_asked before after count risen shelf cause.Memory h asked = tt
+untaken_asked before after count risen shelf cause.Memory h asked = ⊎_elim (λ until. inr (inr until)) (λ none. inl none.1) asked
 
 -- all disks were taken
 pub taken_asked : (before after : RackView) (count shelf : ℕ) (why : OpenCause) → AsksForFirst count before after → AsksByCause before after count shelf why
@@ -269,7 +269,7 @@ taken_asked before after count shelf cause.NotEmpty asked = asked
 taken_asked before after count shelf (cause.Damaged place) asked = asked
 taken_asked before after count shelf (cause.Other place) asked = asked
 taken_asked before after count shelf (cause.Full length) asked = asked
-taken_asked before after count shelf cause.Memory asked = tt
+taken_asked before after count shelf cause.Memory asked = inr (inl asked)
 
 -- disks that were taken came home
 pub given_asked : (count : ℕ) (before middle after : RackView) → AsksForFirst count before middle → AsksForNone middle after → AsksForFirst count before after

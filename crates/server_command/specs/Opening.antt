@@ -115,10 +115,11 @@ abbrev pub AsksAsTaken : (before after : RackView) → (count shelf : ℕ) → O
 AsksAsTaken before after count shelf why = AsksUntil count shelf before after ⊎ ((why ≡ cause.Memory) × AsksForNone before after)
 
 -- the disks that were asked for until a shelf was not opened for this: all, each once and in order; or up to its own, where that was not
--- taken
+-- taken; or none, for want of memory
 abbrev pub AsksByCause : (before after : RackView) → (count shelf : ℕ) → OpenCause → Type 0
 AsksByCause before after count shelf cause.Disk = AsksForFirst count before after ⊎ AsksUntil count shelf before after
-AsksByCause before after count shelf cause.Memory = ⊤
+AsksByCause before after count shelf cause.Memory =
+    AsksForNone before after ⊎ (AsksForFirst count before after ⊎ AsksUntil count shelf before after)
 AsksByCause before after count shelf why = AsksForFirst count before after
 
 -- each of these disks was given back to the place of its number: the rack holds what a crash may leave on it, where both tell

@@ -5,7 +5,7 @@ ghost use Rattle.setup_reader.specs.Views.{parsed_of};
 ghost use Rattle.command_words.specs.Plain.{AreInRange, IsInRange};
 ghost use Rattle.play_desk.specs.Opening.{AreHome};
 ghost use Rattle.server_command.specs.Command.{Came, Outputs, OutputsFor, PlaysSteps, asked_of, met_of};
-ghost use Rattle.server_command.specs.Order.{RestsFor};
+ghost use Rattle.server_command.specs.Order.{AsksRack, PlaysInOrder};
 ghost use Rattle.server_command.specs.Output.{Hands, ending_of, sinks_of};
 ghost use Rattle.server_command.specs.Racks.{AreBack, racks_of};
 ghost use Rattle.server_command.specs.Serving.{Faults};
@@ -56,6 +56,8 @@ fn play_all<O: Sink, D: Disk, R: Rack<D>>(
     ensures outputs { PlaysSteps (racks_of (R.tells && D.tells) (R.view rack.old) (R.view rack.new))
         options.now (scripts_of setup) steps.now result
         (sinks_of (O.view output.old) (O.view output.new)) }
+    ensures asked { PlaysInOrder (racks_of (R.tells && D.tells) (R.view rack.old) (R.view rack.new))
+        options.now.shelves result }
     ensures hands { Hands result (O.view output.old) (O.view output.new) }
     ensures back { AreBack (R.view rack.old) (R.view rack.new) }
 {
@@ -92,6 +94,8 @@ fn run_setup<O: Sink, D: Disk, R: Rack<D>>(
     ensures outputs { OutputsFor (racks_of (R.tells && D.tells) (R.view rack.old) (R.view rack.new))
         (asked_of job.now) (Ok (parsed_of parsed.entry)) result
         (sinks_of (O.view output.old) (O.view output.new)) }
+    ensures asked { AsksRack (racks_of (R.tells && D.tells) (R.view rack.old) (R.view rack.new))
+        (asked_of job.now) result }
     ensures hands { Hands result (O.view output.old) (O.view output.new) }
     ensures back { AreBack (R.view rack.old) (R.view rack.new) }
 {
@@ -114,6 +118,8 @@ fn run_input<O: Sink, D: Disk, R: Rack<D>>(
     requires home { AreHome (R.view rack.old).out }
     ensures outputs { Outputs (racks_of (R.tells && D.tells) (R.view rack.old) (R.view rack.new))
         (asked_of job.now) input.now result (sinks_of (O.view output.old) (O.view output.new)) }
+    ensures asked { AsksRack (racks_of (R.tells && D.tells) (R.view rack.old) (R.view rack.new))
+        (asked_of job.now) result }
     ensures hands { Hands result (O.view output.old) (O.view output.new) }
     ensures back { AreBack (R.view rack.old) (R.view rack.new) }
 {
@@ -139,7 +145,7 @@ pub(crate) fn run_job<I: Source, O: Sink, D: Disk, R: Rack<D>>(
         (met_of words (I.view input.old) (I.view input.new)
         (sinks_of (O.view output.old) (O.view output.new))
         (racks_of (R.tells && D.tells) (R.view rack.old) (R.view rack.new)) door seeds) }
-    ensures rests { RestsFor (racks_of (R.tells && D.tells) (R.view rack.old) (R.view rack.new))
+    ensures asked { AsksRack (racks_of (R.tells && D.tells) (R.view rack.old) (R.view rack.new))
         (asked_of job.now) result }
     ensures hands { Hands result (O.view output.old) (O.view output.new) }
     ensures back { AreBack (R.view rack.old) (R.view rack.new) }

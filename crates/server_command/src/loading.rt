@@ -3,6 +3,7 @@ ghost use Rattle.web_outside.specs.Pieces.{HandsAllOn};
 ghost use Rattle.command_words.specs.Plain.{CanLoad};
 ghost use Rattle.play_desk.specs.Opening.{AreHome};
 ghost use Rattle.server_command.specs.Loading.{HasLeft, TellsMeasure};
+ghost use Rattle.server_command.specs.Order.{PlaysInOrder};
 ghost use Rattle.server_command.specs.Output.{Hands, HandsOnIfDone, sinks_of};
 ghost use Rattle.server_command.specs.Racks.{AreBack, racks_of};
 
@@ -45,6 +46,8 @@ pub fn load_all<O: Sink, D: Disk, R: Rack<D>>(
     requires home { AreHome (R.view rack.old).out }
     ensures leaves { HasLeft (racks_of (R.tells && D.tells) (R.view rack.old) (R.view rack.new))
         options.now result (sinks_of (O.view output.old) (O.view output.new)) }
+    ensures asked { PlaysInOrder (racks_of (R.tells && D.tells) (R.view rack.old) (R.view rack.new))
+        options.now.options.shelves result }
     ensures hands { Hands result (O.view output.old) (O.view output.new) }
     ensures back { AreBack (R.view rack.old) (R.view rack.new) }
 {

@@ -1,9 +1,10 @@
-use Rattle.std.proofs.Common.{ap, refl, subst, arith}
+use Rattle.std.proofs.Common.{ap, inl, inr, refl, subst, arith}
 use Rattle.std.specs.Prelude.{◌&&◌}
 use Rattle.script_nodes.specs.Views.{scripts_of}
 use Rattle.play_steps.specs.Step.{steps_of}
 use Rattle.play_steps.specs.Transcript.{bad_line, done}
 use Rattle.play_steps.specs.declared.run.PlayEnd.TheVariants.{Reopen}
+use Rattle.play_desk.specs.Asking.{AsksForAll, AsksUntil}
 use Rattle.play_desk.specs.Opening.{IsClosedBy, IsLeft}
 use Rattle.play_desk.proofs.Asking.{asked_through}
 use Rattle.play_desk.proofs.Closing.{left_home}
@@ -13,6 +14,7 @@ use Rattle.server_command.specs.Telling.{TellsUnopened}
 use Rattle.measured_run.proofs.Going.{told_by}
 use Rattle.server_command.proofs.Opened.{again_outputs, first_outputs}
 use Rattle.server_command.proofs.Openings.{both_tell}
+use Rattle.server_command.proofs.Orders.{done_asked, line_asked, memory_asked, unopened_asked}
 use Rattle.server_command.proofs.Playing.{done_outputs, line_outputs, memory_outputs, write_outputs}
 use Rattle.server_command.proofs.Runs.{begins, halted, lost, loses, paused, ran}
 use Rattle.server_command.proofs.jobs.play_all.Goals as goal
@@ -142,6 +144,50 @@ returns-in-Reopen-clause-outputs g c = λ bytes h.
     (λ t place e. c.in-Reopen.ensures.other t shelf place (ap (λ w. Reopen shelf w) e))
     c.play-end.ensures.later
     (subst (λ w. TellsUnopened shelf w c.tell_unopened-in-Reopen.result (sinks_of mid new)) c.of-why.ensures c.tell_unopened-in-Reopen.ensures.tells)
+
+-- ---- what was asked of the rack
+
+pub returns-in-Err-clause-asked : goal.returns-in-Err-clause-asked
+returns-in-Err-clause-asked g c =
+    let rack = racks_of (g.R.Rack.tells && g.D.Disk.tells) (g.R.Rack.view c.args.rack.now) (g.R.Rack.view c.open_desk.new.rack) in
+    let until = subst (λ n. AsksUntil n c.in-Err.fault.shelf rack.before rack.after) c.rules_of-rules.ensures.asked.shelves c.in-Err.ensures.asked_until in
+    unopened_asked rack c.args.options.now.shelves c.in-Err.fault.shelf c.in-Err.fault.why c.tell_unopened.result _ c.tell_unopened.ensures.tells
+    (inl (c.in-Err.fault.shelf, until))
+
+pub returns-in-Done-clause-asked : goal.returns-in-Done-clause-asked
+returns-in-Done-clause-asked g c =
+    let rack = racks_of (g.R.Rack.tells && g.D.Disk.tells) (g.R.Rack.view c.args.rack.now) (g.R.Rack.view c.close.new.rack) in
+    let all = subst (λ n. AsksForAll n rack.before rack.after) c.rules_of-rules.ensures.asked.shelves
+    (asked_through c.rules_of-rules.result.shelves rack.before (g.R.Rack.view c.open_desk.new.rack) (g.R.Rack.view c.play-end.new.devices) rack.after c.in-Ok.ensures.asked c.in-Done.ensures.asked c.close.ensures.asked) in
+    done_asked rack c.args.options.now.shelves c.hand_on.result _ _ c.hand_on.ensures.status all
+
+pub returns-in-Line-clause-asked : goal.returns-in-Line-clause-asked
+returns-in-Line-clause-asked g c =
+    let rack = racks_of (g.R.Rack.tells && g.D.Disk.tells) (g.R.Rack.view c.args.rack.now) (g.R.Rack.view c.close.new.rack) in
+    let all = subst (λ n. AsksForAll n rack.before rack.after) c.rules_of-rules.ensures.asked.shelves
+    (asked_through c.rules_of-rules.result.shelves rack.before (g.R.Rack.view c.open_desk.new.rack) (g.R.Rack.view c.play-end.new.devices) rack.after c.in-Ok.ensures.asked c.in-Line.ensures.asked c.close.ensures.asked) in
+    line_asked rack c.args.options.now.shelves c.in-Line.number c.tell_line.result _ c.tell_line.ensures.tells all
+
+pub returns-in-Write-clause-asked : goal.returns-in-Write-clause-asked
+returns-in-Write-clause-asked g c =
+    let rack = racks_of (g.R.Rack.tells && g.D.Disk.tells) (g.R.Rack.view c.args.rack.now) (g.R.Rack.view c.close.new.rack) in
+    let all = subst (λ n. AsksForAll n rack.before rack.after) c.rules_of-rules.ensures.asked.shelves
+    (asked_through c.rules_of-rules.result.shelves rack.before (g.R.Rack.view c.open_desk.new.rack) (g.R.Rack.view c.play-end.new.devices) rack.after c.in-Ok.ensures.asked c.in-Write.ensures.asked c.close.ensures.asked) in
+    all
+
+pub returns-in-Memory-clause-asked : goal.returns-in-Memory-clause-asked
+returns-in-Memory-clause-asked g c =
+    let rack = racks_of (g.R.Rack.tells && g.D.Disk.tells) (g.R.Rack.view c.args.rack.now) (g.R.Rack.view c.close.new.rack) in
+    let all = subst (λ n. AsksForAll n rack.before rack.after) c.rules_of-rules.ensures.asked.shelves
+    (asked_through c.rules_of-rules.result.shelves rack.before (g.R.Rack.view c.open_desk.new.rack) (g.R.Rack.view c.play-end.new.devices) rack.after c.in-Ok.ensures.asked c.in-Memory.ensures.asked c.close.ensures.asked) in
+    memory_asked rack c.args.options.now.shelves c.no_memory.result c.no_memory.ensures.status (inr (inr all))
+
+pub returns-in-Reopen-clause-asked : goal.returns-in-Reopen-clause-asked
+returns-in-Reopen-clause-asked g c =
+    let rack = racks_of (g.R.Rack.tells && g.D.Disk.tells) (g.R.Rack.view c.args.rack.now) (g.R.Rack.view c.close.new.rack) in
+    let all = subst (λ n. AsksForAll n rack.before rack.after) c.rules_of-rules.ensures.asked.shelves
+    (asked_through c.rules_of-rules.result.shelves rack.before (g.R.Rack.view c.open_desk.new.rack) (g.R.Rack.view c.play-end.new.devices) rack.after c.in-Ok.ensures.asked c.in-Reopen.ensures.asked c.close.ensures.asked) in
+    unopened_asked rack c.args.options.now.shelves c.in-Reopen.shelf _ c.tell_unopened-in-Reopen.result _ c.tell_unopened-in-Reopen.ensures.tells (inr all)
 
 -- ---- the rack behind it
 

@@ -5,6 +5,7 @@ use Rattle.server_command.specs.Command.{asked_of}
 use Rattle.server_command.specs.Output.{ending_of}
 use Rattle.server_command.proofs.Endings.{at_rest, early, fault_outputs, untouched}
 use Rattle.server_command.proofs.Causes.{job_reads}
+use Rattle.server_command.proofs.Orders.{fault_asked, unheld_asked}
 use Rattle.server_command.proofs.jobs.run_input.Goals as goal
 
 pub returns-in-Err-At-clause-outputs : goal.returns-in-Err-At-clause-outputs
@@ -16,3 +17,10 @@ returns-in-Err-At-clause-outputs g c =
 pub returns-in-Err-Memory-clause-outputs : goal.returns-in-Err-Memory-clause-outputs
 returns-in-Err-Memory-clause-outputs g c = early _ _ _ _ _ _ _ _ c.no_memory.ensures.status c.no_memory.ensures.line
     (λ settles. untouched _ _ (asked_of c.args.job.now) _)
+
+pub returns-in-Err-At-clause-asked : goal.returns-in-Err-At-clause-asked
+returns-in-Err-At-clause-asked g c =
+    fault_asked _ (asked_of c.args.job.now) (fault_of c.in-Err-At.error) c.tell_fault.result _ c.tell_fault.ensures.line (at_rest _ _)
+
+pub returns-in-Err-Memory-clause-asked : goal.returns-in-Err-Memory-clause-asked
+returns-in-Err-Memory-clause-asked g c = unheld_asked _ (asked_of c.args.job.now) c.no_memory.result c.no_memory.ensures.status (at_rest _ _)

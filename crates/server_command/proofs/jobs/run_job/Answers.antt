@@ -5,7 +5,7 @@ use Rattle.server_command.specs.Output.{sinks_of}
 use Rattle.server_command.specs.Racks.{racks_of}
 use Rattle.server_command.proofs.Causes.{came, unread_by, unread_came}
 use Rattle.server_command.proofs.Endings.{at_rest}
-use Rattle.server_command.proofs.Orders.{job_rests, unread_rests}
+use Rattle.server_command.proofs.Orders.{unread_asked}
 use Rattle.server_command.proofs.jobs.run_job.Goals as goal
 
 pub returns-in-Ok-clause-comes : goal.returns-in-Ok-clause-comes
@@ -25,8 +25,5 @@ returns-in-Err-clause-comes g c = λ words door seeds.
     (at_rest _ _))
     (at_rest _ _)
 
-pub returns-in-Ok-clause-rests : goal.returns-in-Ok-clause-rests
-returns-in-Ok-clause-rests g c = job_rests _ (asked_of c.args.job.now) _ c.run_input.result _ c.run_input.ensures.outputs
-
-pub returns-in-Err-clause-rests : goal.returns-in-Err-clause-rests
-returns-in-Err-clause-rests g c = unread_rests _ (asked_of c.args.job.now) c.in-Err.fault c.tell_unread.result c.tell_unread.ensures.status (at_rest _ _)
+pub returns-in-Err-clause-asked : goal.returns-in-Err-clause-asked
+returns-in-Err-clause-asked g c = unread_asked _ (asked_of c.args.job.now) c.in-Err.fault c.tell_unread.result c.tell_unread.ensures.status (at_rest _ _)

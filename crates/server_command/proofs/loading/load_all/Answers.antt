@@ -1,4 +1,4 @@
-use Rattle.std.proofs.Common.{◌≡◌, ◌≤◌, ◌^◌, Err, subst, List, arith, rules}
+use Rattle.std.proofs.Common.{◌≡◌, ◌≤◌, ◌^◌, Err, inl, inr, refl, subst, List, arith, rules}
 use Rattle.std.specs.Prelude.{◌&&◌}
 use Rattle.std.proofs.lemmas.List.{length-map}
 use Rattle.lock_row.proofs.Places.{map_get}
@@ -6,6 +6,7 @@ use Rattle.script_nodes.specs.Setup.{Named}
 use Rattle.replay_spec.specs.Runs.{Shelf}
 use Rattle.script_nodes.specs.Views.{scripts_of}
 use Rattle.play_steps.specs.declared.performing.Halt.TheVariants.{Memory, Reopen}
+use Rattle.play_desk.specs.Asking.{AsksForAll, AsksUntil}
 use Rattle.play_desk.specs.Opening.{AllStayKept, IsClosedBy, IsLeft}
 use Rattle.play_desk.proofs.Asking.{asked_through}
 use Rattle.play_desk.proofs.Closing.{left_home}
@@ -16,6 +17,7 @@ use Rattle.server_command.specs.Racks.{racks_of}
 use Rattle.server_command.specs.Telling.{TellsUnopened}
 use Rattle.server_command.proofs.Loads.{again_leaves, error_is, first_leaves, loaded_by, lost_if, measure_leaves, memory_leaves, short_if, untouched}
 use Rattle.server_command.proofs.Openings.{both_tell}
+use Rattle.server_command.proofs.Orders.{measure_asked, memory_asked, unopened_asked}
 use Rattle.server_command.proofs.Playing.{Begins}
 use Rattle.server_command.proofs.Runs.{begins}
 use Rattle.server_command.proofs.loading.load_all.Goals as goal
@@ -137,3 +139,36 @@ returns-in-Err-Memory-clause-back g c =
 pub returns-in-Err-Reopen-clause-back : goal.returns-in-Err-Reopen-clause-back
 returns-in-Err-Reopen-clause-back g c =
     record { home = c.close.ensures.home; later = omega (arith, c.in-Ok-open_desk.ensures.later_open, c.load-end.ensures.later, c.close.ensures.later) }
+
+-- ---- what was asked of the rack
+
+pub returns-in_default-clause-asked : goal.returns-in_default-clause-asked
+returns-in_default-clause-asked g c = memory_asked _ c.args.options.now.options.shelves c.no_memory.result c.no_memory.ensures.status (inl refl)
+
+pub returns-in-Err-clause-asked : goal.returns-in-Err-clause-asked
+returns-in-Err-clause-asked g c =
+    let rack = racks_of (g.R.Rack.tells && g.D.Disk.tells) (g.R.Rack.view c.args.rack.now) (g.R.Rack.view c.open_desk.new.rack) in
+    let until = subst (λ n. AsksUntil n c.in-Err.fault.shelf rack.before rack.after) c.rules_of-rules.ensures.asked.shelves c.in-Err.ensures.asked_until in
+    unopened_asked rack c.args.options.now.options.shelves c.in-Err.fault.shelf c.in-Err.fault.why c.tell_unopened.result _ c.tell_unopened.ensures.tells
+    (inl (c.in-Err.fault.shelf, until))
+
+pub returns-in-Ok-end-clause-asked : goal.returns-in-Ok-end-clause-asked
+returns-in-Ok-end-clause-asked g c =
+    let rack = racks_of (g.R.Rack.tells && g.D.Disk.tells) (g.R.Rack.view c.args.rack.now) (g.R.Rack.view c.close.new.rack) in
+    let all = subst (λ n. AsksForAll n rack.before rack.after) c.rules_of-rules.ensures.asked.shelves
+    (asked_through c.rules_of-rules.result.shelves rack.before (g.R.Rack.view c.open_desk.new.rack) (g.R.Rack.view c.load-end.new.devices) rack.after c.in-Ok-open_desk.ensures.asked c.in-Ok-end.ensures.asked c.close.ensures.asked) in
+    measure_asked rack c.args.options.now.options.shelves c.in-Ok-end.measure c.tell_measure.result _ c.tell_measure.ensures.outputs all
+
+pub returns-in-Err-Memory-clause-asked : goal.returns-in-Err-Memory-clause-asked
+returns-in-Err-Memory-clause-asked g c =
+    let rack = racks_of (g.R.Rack.tells && g.D.Disk.tells) (g.R.Rack.view c.args.rack.now) (g.R.Rack.view c.close.new.rack) in
+    let all = subst (λ n. AsksForAll n rack.before rack.after) c.rules_of-rules.ensures.asked.shelves
+    (asked_through c.rules_of-rules.result.shelves rack.before (g.R.Rack.view c.open_desk.new.rack) (g.R.Rack.view c.load-end.new.devices) rack.after c.in-Ok-open_desk.ensures.asked c.load-end.ensures.asked c.close.ensures.asked) in
+    memory_asked rack c.args.options.now.options.shelves c.no_memory-in-Err-Memory.result c.no_memory-in-Err-Memory.ensures.status (inr (inr all))
+
+pub returns-in-Err-Reopen-clause-asked : goal.returns-in-Err-Reopen-clause-asked
+returns-in-Err-Reopen-clause-asked g c =
+    let rack = racks_of (g.R.Rack.tells && g.D.Disk.tells) (g.R.Rack.view c.args.rack.now) (g.R.Rack.view c.close.new.rack) in
+    let all = subst (λ n. AsksForAll n rack.before rack.after) c.rules_of-rules.ensures.asked.shelves
+    (asked_through c.rules_of-rules.result.shelves rack.before (g.R.Rack.view c.open_desk.new.rack) (g.R.Rack.view c.load-end.new.devices) rack.after c.in-Ok-open_desk.ensures.asked c.load-end.ensures.asked c.close.ensures.asked) in
+    unopened_asked rack c.args.options.now.options.shelves c.in-Err-Reopen.shelf _ c.tell_unopened-in-Err-Reopen.result _ c.tell_unopened-in-Err-Reopen.ensures.tells (inr all)

@@ -9,7 +9,7 @@ use Rattle.server_command.specs.Order.{AsksInOrder, asks_of, both}
 use Rattle.server_command.specs.Racks.{racks_of}
 use Rattle.server_command.proofs.Causes.{asks_if, asks_nothing, unworded}
 use Rattle.server_command.proofs.Endings.{at_rest, no_chances}
-use Rattle.server_command.proofs.Orders.{load_rests, unworded_order}
+use Rattle.server_command.proofs.Orders.{unworded_order}
 use Rattle.server_command.proofs.program.run.Goals as goal
 
 pub returns-in-Ok-Check-clause-explained : goal.returns-in-Ok-Check-clause-explained
@@ -25,7 +25,7 @@ returns-in-Ok-Check-clause-order g c =
     let rack = racks_of (g.R.Rack.tells && g.D.Disk.tells) (g.R.Rack.view c.args.rack.now) (g.R.Rack.view c.run_job.new.rack) in
     let is : c.read_words.result ≡ Ok Check = search rules in
     let asked = asks_if (texts c.args.words.now) _ Check is c.read_words.ensures.fine c.read_words.ensures.found in
-    subst (λ a. AsksInOrder asks rack a c.run_job.result) (sym asked) (refl, (refl, refl), c.run_job.ensures.rests)
+    subst (λ a. AsksInOrder asks rack a c.run_job.result) (sym asked) (refl, (refl, refl), c.run_job.ensures.asked)
 
 pub returns-in-Ok-Play-clause-explained : goal.returns-in-Ok-Play-clause-explained
 returns-in-Ok-Play-clause-explained g c =
@@ -40,7 +40,7 @@ returns-in-Ok-Play-clause-order g c =
     let rack = racks_of (g.R.Rack.tells && g.D.Disk.tells) (g.R.Rack.view c.args.rack.now) (g.R.Rack.view c.run_job-in-Ok-Play.new.rack) in
     let is : c.read_words.result ≡ Ok (Play c.in-Ok-Play.options) = search rules in
     let asked = asks_if (texts c.args.words.now) _ (Play c.in-Ok-Play.options) is c.read_words.ensures.fine c.read_words.ensures.found in
-    subst (λ a. AsksInOrder asks rack a c.run_job-in-Ok-Play.result) (sym asked) (refl, (refl, refl), c.run_job-in-Ok-Play.ensures.rests)
+    subst (λ a. AsksInOrder asks rack a c.run_job-in-Ok-Play.result) (sym asked) (refl, (refl, refl), c.run_job-in-Ok-Play.ensures.asked)
 
 pub returns-in-Ok-Load-clause-explained : goal.returns-in-Ok-Load-clause-explained
 returns-in-Ok-Load-clause-explained g c =
@@ -56,7 +56,7 @@ returns-in-Ok-Load-clause-order g c =
     let is : c.read_words.result ≡ Ok (Load c.in-Ok-Load.options) = search rules in
     let asked = asks_if (texts c.args.words.now) _ (Load c.in-Ok-Load.options) is c.read_words.ensures.fine c.read_words.ensures.found in
     subst (λ a. AsksInOrder asks rack a c.load_all.result) (sym asked)
-    (refl, (refl, refl), load_rests rack c.in-Ok-Load.options c.load_all.result _ c.load_all.ensures.leaves)
+    (refl, (refl, refl), c.load_all.ensures.asked)
 
 pub returns-in-Ok-Serve-clause-explained : goal.returns-in-Ok-Serve-clause-explained
 returns-in-Ok-Serve-clause-explained g c =
