@@ -2,6 +2,7 @@ ghost use Rattle.std.specs.Prelude.{true, IfOk};
 ghost use Rattle.script_nodes.specs.Views.{scripts_of};
 ghost use Rattle.web_disk.specs.Disks.{memory_view};
 ghost use Rattle.setup_reader.specs.Texts.{IsReadSetup};
+ghost use Rattle.shelf.specs.Ranges.{AreInRange};
 ghost use Rattle.shelf.specs.Views.{IsInOrder};
 
 use crate::texts::{datum, target};
@@ -29,7 +30,27 @@ const RULES: Rules = Rules {
     pages: 64,
 };
 
-/// The shelf of a disk; or why it was not opened, and the disk.
+/// The shelf of a disk under these rules; or why it was not opened, and the disk.
+pub fn tried_under<D: Disk + Drop>(
+    alloc: Global,
+    disk: D,
+    setup: &Setup,
+    rules: Rules,
+) -> Result<Result<Shelf<D, Counting>, (BeginFault, D)>, Fail>
+    requires read { IsReadSetup (scripts_of setup.now) }
+    requires range { AreInRange rules }
+    ensures { IfOk result (λ r. IfOk r (IsInOrder D.view D.tells)) }
+{
+    if !can_begin(rules.number, setup) {
+        return Err(Fail::from("no setup of a shelf"));
+    }
+    match Shelf::begin(alloc, disk, Counting::new(), setup, rules) {
+        Ok(shelf) => Ok(Ok(shelf)),
+        Err((fault, disk, _)) => Ok(Err((fault, disk))),
+    }
+}
+
+/// The same under the rules of these tests.
 pub fn tried<D: Disk + Drop>(
     alloc: Global,
     disk: D,
@@ -38,25 +59,33 @@ pub fn tried<D: Disk + Drop>(
     requires { IsReadSetup (scripts_of setup.now) }
     ensures { IfOk result (λ r. IfOk r (IsInOrder D.view D.tells)) }
 {
-    if !can_begin(RULES.number, setup) {
-        return Err(Fail::from("no setup of a shelf"));
-    }
-    match Shelf::begin(alloc, disk, Counting::new(), setup, RULES) {
-        Ok(shelf) => Ok(Ok(shelf)),
-        Err((fault, disk, _)) => Ok(Err((fault, disk))),
+    tried_under(alloc, disk, setup, RULES)
+}
+
+/// The shelf of a disk of these bytes under these rules, which has to be opened.
+pub fn reopened_under(
+    alloc: Global,
+    bytes: Vec<u8>,
+    setup: &Setup,
+    rules: Rules,
+) -> Result<MemoryShelf, Fail>
+    requires read { IsReadSetup (scripts_of setup.now) }
+    requires range { AreInRange rules }
+    ensures { IfOk result (IsInOrder memory_view true) }
+{
+    let disk = MemoryDisk::new(alloc, bytes, Vec::new(alloc))?;
+    match tried_under(alloc, disk, setup, rules)? {
+        Ok(shelf) => Ok(shelf),
+        Err(_) => Err(Fail::from("no shelf")),
     }
 }
 
-/// The shelf of a disk of these bytes, which has to be opened.
+/// The same under the rules of these tests.
 pub fn reopened(alloc: Global, bytes: Vec<u8>, setup: &Setup) -> Result<MemoryShelf, Fail>
     requires { IsReadSetup (scripts_of setup.now) }
     ensures { IfOk result (IsInOrder memory_view true) }
 {
-    let disk = MemoryDisk::new(alloc, bytes, Vec::new(alloc))?;
-    match tried(alloc, disk, setup)? {
-        Ok(shelf) => Ok(shelf),
-        Err(_) => Err(Fail::from("no shelf")),
-    }
+    reopened_under(alloc, bytes, setup, RULES)
 }
 
 /// The shelf of an empty disk.

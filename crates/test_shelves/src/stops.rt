@@ -1,15 +1,15 @@
 //! Shelves whose disk stops, or fails once, at each of its calls, and which are opened again behind a crash.
-ghost use Rattle.std.specs.Prelude.{true, IfOk};
+ghost use Rattle.std.specs.Prelude.{true};
 ghost use Rattle.script_nodes.specs.Views.{scripts_of};
 ghost use Rattle.setup_reader.specs.Texts.{IsReadSetup};
 ghost use Rattle.web_disk.specs.Disks.{memory_view};
 ghost use Rattle.shelf.specs.Views.{IsInOrder};
 
-use crate::openings::{MemoryShelf, answered, bytes_of, created, put_away, reopened, tried};
+use crate::openings::{MemoryShelf, answered, bytes_of, created, put_away, reopened};
 use crate::texts::{SUM, datum, setup, text_of};
+use crate::troubles::{Trouble, WRECKS, left_by_opening, opened_despite, troubled};
 use script_nodes::Setup;
 use script_value::{Bytes, Refusal, Reply};
-use shelf::BeginFault;
 use std::alloc::Global;
 use std::test::Fail;
 use web_disk::{MemoryDisk, Wreck};
@@ -107,52 +107,8 @@ const SHOWN: &[Shown] = &[
     },
 ];
 
-/// How far what was not synced is on the disk, the byte in lost places, and whether those at the end are gone.
-pub const WRECKS: &[Wreck] = &[
-    Wreck {
-        reached: u64::MAX,
-        fill: 0,
-        short: false,
-    },
-    Wreck {
-        reached: 0,
-        fill: 0,
-        short: true,
-    },
-    Wreck {
-        reached: 0,
-        fill: 1,
-        short: false,
-    },
-    Wreck {
-        reached: 60,
-        fill: 171,
-        short: false,
-    },
-];
-
 // Behind so many calls of its disk a run of these visits has come to its end.
 const MOST_CALLS: u64 = 48;
-
-// What is wrong with the calls of a disk.
-#[derive(Clone, Copy, Debug)]
-enum Trouble {
-    // It stops behind so many.
-    Stop(u64),
-    // The one of this number fails.
-    Fault(u64),
-}
-
-impl Trouble {
-    // Where four openings behind it stop. An opening makes two calls for a record that a visit made four for, and then it mends
-    // the end of the disk: these are the calls by which it does.
-    fn stops(self) -> [u64; 4] {
-        let half = match self {
-            Trouble::Stop(call) | Trouble::Fault(call) => call / 2,
-        };
-        [half + 2, half + 3, half + 4, half + 5]
-    }
-}
 
 // Refuses a shelf that is not down.
 fn expect_down(alloc: Global, shelf: &mut MemoryShelf) -> Result<(), Fail>
@@ -204,41 +160,6 @@ fn visits_told(alloc: Global, shelf: &mut MemoryShelf) -> Result<usize, Fail>
     Ok(VISITS.len())
 }
 
-// The calls that fail by such a trouble.
-fn failing(alloc: Global, trouble: Trouble) -> Result<Vec<u64>, Fail> {
-    let mut calls = Vec::new(alloc);
-    if let Trouble::Fault(call) = trouble {
-        calls.push(call)?;
-    }
-    Ok(calls)
-}
-
-// The disk of these bytes with such a trouble.
-fn troubled(alloc: Global, bytes: &[u8], trouble: Trouble) -> Result<MemoryDisk, Fail> {
-    let calls = failing(alloc, trouble)?;
-    let mut disk = MemoryDisk::new(alloc, bytes.to_vec(alloc)?, calls)?;
-    if let Trouble::Stop(calls) = trouble {
-        disk.stop_at(calls);
-    }
-    Ok(disk)
-}
-
-// The shelf of a disk, or the disk, where that refuses the shelf.
-fn opened_despite(
-    alloc: Global,
-    setup: &Setup,
-    disk: MemoryDisk,
-) -> Result<Result<MemoryShelf, MemoryDisk>, Fail>
-    requires { IsReadSetup (scripts_of setup.now) }
-    ensures { IfOk result (λ r. IfOk r (IsInOrder memory_view true)) }
-{
-    match tried(alloc, disk, setup)? {
-        Ok(shelf) => Ok(Ok(shelf)),
-        Err((BeginFault::DiskFault, disk)) => Ok(Err(disk)),
-        Err(_) => Err(Fail::from("another fault")),
-    }
-}
-
 // What a disk of these bytes is behind a run on it, and how many visits were told.
 fn ran(
     alloc: Global,
@@ -255,25 +176,6 @@ fn ran(
             Ok((disk, told))
         }
         Err(disk) => Ok((disk, 0)),
-    }
-}
-
-// What a crash leaves of a disk of these bytes that stops behind so many calls while it is opened.
-fn left_by_opening(
-    alloc: Global,
-    setup: &Setup,
-    bytes: &[u8],
-    stop: u64,
-    wreck: Wreck,
-) -> Result<Vec<u8>, Fail>
-    requires { IsReadSetup (scripts_of setup.now) }
-{
-    match opened_despite(alloc, setup, troubled(alloc, bytes, Trouble::Stop(stop))?)? {
-        Ok(shelf) => {
-            let (disk, _nonces) = shelf.close();
-            Ok(disk.crash(wreck))
-        }
-        Err(disk) => Ok(disk.crash(wreck)),
     }
 }
 
@@ -355,8 +257,8 @@ fn more_than_told(
     let left = disk.crash(wreck);
     let kept = visits_of(alloc, setup, &left)?;
     for stop in trouble.stops() {
-        let once = left_by_opening(alloc, setup, &left, stop, wreck)?;
-        let twice = left_by_opening(alloc, setup, &once, stop, wreck)?;
+        let once = left_by_opening(alloc, setup, &left, Trouble::Stop(stop), wreck)?;
+        let twice = left_by_opening(alloc, setup, &once, Trouble::Stop(stop), wreck)?;
         if visits_of(alloc, setup, &twice)? != kept {
             return Err(Fail::from("an opening that stops changes what is kept"));
         }
