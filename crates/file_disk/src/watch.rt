@@ -1,5 +1,6 @@
 // What is read of a journal when it is opened, as the standard error tells it: how far it is, each second, and at its end how
-// many records there were and how long it took. It looks at the calls of a file alone, and changes nothing of what they give.
+// many records there were and how long it took; and how long it took to write another file in its place. It looks at the calls
+// of a file alone, and changes nothing of what they give.
 ghost use Rattle.std.specs.Prelude.{◌≡◌, true, slice_get};
 ghost use Rattle.file_disk.specs.Watches.{is_byte, is_page, is_start, one_more};
 
@@ -69,21 +70,31 @@ impl Counts {
     }
 }
 
-/// Tells of the opening of a journal that is a file.
+// What is done with a file.
+#[derive(Clone, Copy, Debug, PartialEq, Eq)]
+enum Stage {
+    // Its journal is read, if it has one.
+    Opening,
+    // The journal is open, and nothing more is told.
+    Open,
+    // It was cut to nothing, and is written anew.
+    Rewriting,
+}
+
+/// Tells of a file with a journal, when that is opened or written anew.
 #[derive(Drop)]
 pub struct Watch<'r, R> {
     rt: &'r R,
     // The path of the file.
     path: String,
-    // When it was opened; none where the clock could not be read, and then nothing is told of the time.
+    // When it was opened or cut to nothing; none where the clock could not be read, and then no time is told.
     since: Option<Instant>,
     // How many bytes it has.
     length: u64,
     // How many seconds were told of.
     seconds: u64,
     counts: Counts,
-    // The journal is open, and nothing more is told.
-    is_open: bool,
+    stage: Stage,
 }
 
 impl<'r, R: Clock + Eprint> Watch<'r, R> {
@@ -96,7 +107,7 @@ impl<'r, R: Clock + Eprint> Watch<'r, R> {
             length: 0,
             seconds: 0,
             counts: Counts::NONE,
-            is_open: false,
+            stage: Stage::Opening,
         }
     }
 
@@ -132,6 +143,16 @@ impl<'r, R: Clock + Eprint> Watch<'r, R> {
         let _ = eprintln!(self.rt; "hovgyelit: {path}: a new journal");
     }
 
+    // Tells how long it took to write the file anew.
+    fn tell_rewritten(&self) {
+        let millis = self.elapsed().unwrap_or(0);
+        let path = self.path.as_str();
+        let length = self.length;
+        let _ = eprintln!(self.rt;
+            "hovgyelit: {path}: written anew, {length} bytes in {millis} ms"
+        );
+    }
+
     // Tells how far it is.
     fn tell_progress(&self, place: u64) {
         let path = self.path.as_str();
@@ -144,12 +165,12 @@ impl<'r, R: Clock + Eprint> Watch<'r, R> {
 
     /// These bytes were read at this place. The records end at the first gate behind one that is not open.
     pub fn saw(&mut self, place: u64, bytes: &[u8]) {
-        if self.is_open {
+        if self.stage != Stage::Opening {
             return;
         }
         if let [gate] = bytes {
             if *gate != OPEN && self.counts.records > 0 {
-                self.is_open = true;
+                self.stage = Stage::Open;
                 self.tell_open();
                 return;
             }
@@ -158,17 +179,40 @@ impl<'r, R: Clock + Eprint> Watch<'r, R> {
             self.counts.count(bytes);
         }
         let seconds = self.elapsed().unwrap_or(0) / 1_000;
-        if seconds > self.seconds {
+        if seconds > self.seconds && self.counts.records > 0 {
             self.seconds = seconds;
             self.tell_progress(place);
         }
     }
 
-    /// Something was written at this place. A journal whose first record is written is a new one.
-    pub fn wrote(&mut self, place: u64) {
-        if !self.is_open && place == FIRST_RECORD {
-            self.is_open = true;
-            self.tell_new();
+    /// So many bytes were written at this place. A journal whose first record is written is a new one.
+    pub fn wrote(&mut self, place: u64, count: usize) {
+        match self.stage {
+            Stage::Opening => {
+                if place == FIRST_RECORD {
+                    self.stage = Stage::Open;
+                    self.tell_new();
+                }
+            }
+            Stage::Open => {}
+            Stage::Rewriting => {
+                self.length = self.length.saturating_add(count as u64);
+            }
+        }
+    }
+
+    /// The file was cut to nothing, to be written anew.
+    pub fn emptied(&mut self) {
+        self.stage = Stage::Rewriting;
+        self.since = Instant::now(self.rt).ok();
+        self.length = 0;
+    }
+
+    /// What was written is on the device.
+    pub fn synced(&mut self) {
+        if self.stage == Stage::Rewriting {
+            self.stage = Stage::Open;
+            self.tell_rewritten();
         }
     }
 }

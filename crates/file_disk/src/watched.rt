@@ -9,7 +9,7 @@ use std::time::Clock;
 use web_disk::Disk;
 use web_outside::Failed;
 
-/// A disk that is a file, whose opening is told on the standard error.
+/// A disk that is a file. How long it takes to open it, and to write it anew, is told on the standard error.
 #[derive(Drop)]
 pub struct WatchedFile<'r, R> {
     disk: FileDisk<File>,
@@ -47,16 +47,21 @@ impl<R: Clock + Eprint> Disk for WatchedFile<'_, R> {
     }
 
     fn write_at(&mut self, place: u64, piece: &[u8]) -> Result<(), Failed> {
-        self.watch.wrote(place);
+        self.watch.wrote(place, piece.len());
         self.disk.write_at(place, piece)
     }
 
     fn cut(&mut self, len: u64) -> Result<(), Failed> {
+        if len == 0 {
+            self.watch.emptied();
+        }
         self.disk.cut(len)
     }
 
     fn sync(&mut self) -> Result<(), Failed> {
-        self.disk.sync()
+        self.disk.sync()?;
+        self.watch.synced();
+        Ok(())
     }
 
     fn room(&mut self, end: u64) -> Result<(), AllocError> {

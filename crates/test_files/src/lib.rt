@@ -9,3 +9,5 @@ mod files;
 mod folders;
 #[cfg(test)]
 mod served;
+#[cfg(test)]
+mod three;

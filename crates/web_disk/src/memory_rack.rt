@@ -95,6 +95,7 @@ impl MemoryRack {
     fn put_back(&mut self, number: u32, disk: MemoryDisk)
         ensures there { place_of self.old number ≢ None →
             place_of self.new number ≡ Some (Some disk) }
+        ensures nowhere { place_of self.old number ≡ None → place_of self.new number ≡ None }
         ensures home { is_lent self.new number ≡ false }
         ensures others { (n : ℕ) → n ≢ number → place_of self.new n ≡ place_of self.old n }
         ensures wreck { self.new.wreck ≡ self.old.wreck }
@@ -186,8 +187,7 @@ impl Rack<MemoryDisk> for MemoryRack {
     }
 
     fn give(&mut self, number: u32, disk: MemoryDisk)
-        ensures images { is_lent self.old number ≡ true →
-            AreAmong (may_hold self.new number) (memory_view disk).images }
+        ensures images { AreAmong (may_hold self.new number) (memory_view disk).images }
         ensures there { is_lent self.old number ≡ true →
             place_of self.new number ≡ Some (Some disk) }
         ensures home { is_lent self.new number ≡ false }

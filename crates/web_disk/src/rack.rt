@@ -71,7 +71,7 @@ pub trait Rack<D: Disk> {
 
     /// Gives back the disk of this number. The faults of the disk since it was taken count as the rack's, for this number.
     fn give(&mut self, number: u32, disk: D)
-        ensures images { IsTrue tells → (view self.old).out number ≡ true →
+        ensures images { IsTrue tells →
             AreAmong ((view self.new).holds number) (D.view disk).images }
         ensures others { (n : ℕ) → n ≢ number →
             AreAmong ((view self.new).holds n) ((view self.old).holds n) }
