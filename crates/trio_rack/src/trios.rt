@@ -1,0 +1,110 @@
+ghost use Rattle.std.specs.Prelude.{◌≡◌, ◌≢◌, ◌≤◌, ◌<◌, ◌+◌, ◌-◌, ◌^◌, ℕ, true, false, IsTrue, min, IfOk, OnOk, OnErr, IsErrOf};
+ghost use Rattle.web_outside.specs.Causes.{Rose};
+ghost use Rattle.web_disk.specs.View.{AreAmong};
+ghost use Rattle.web_disk.specs.Takes.{failed_after};
+ghost use Rattle.disk_trio.specs.Trio.{trio_view};
+ghost use Rattle.trio_rack.specs.Trios.{shelves_of, sum_of_faults, AreFrom, AsksForThree, LeavesOtherDisks};
+
+use disk_trio::Disks;
+use std::alloc::Global;
+use web_disk::{Disk, Rack, RackFault};
+
+/// Takes the three disks of a shelf out of the directory: its two files, and the root that names one of
+/// them. Where one is not taken, those before it go back.
+pub fn take_trio<D: Disk, R: Rack<D>>(
+    rack: &mut R,
+    alloc: Global,
+    directory: &str,
+    shelf: u32,
+) -> Result<Disks<D>, RackFault>
+    requires shelf { shelf < 16 }
+    ensures unopened { IfOk result (λ disks. disks.known ≡ false) }
+    ensures images { IsTrue R.tells → IfOk result (λ disks.
+        AreAmong (trio_view disks).images ((shelves_of (R.view rack.old)).holds shelf)) }
+    ensures each { IsTrue R.tells →
+        IfOk result (λ disks. AreFrom (R.view rack.old) shelf disks) }
+    ensures fresh { IfOk result (λ disks. (trio_view disks).faults ≡ 0) }
+    ensures out { OnOk result ((shelves_of (R.view rack.new)).out shelf ≡ true) }
+    ensures others { (n : ℕ) → n ≢ shelf → AreAmong
+        ((shelves_of (R.view rack.new)).holds n) ((shelves_of (R.view rack.old)).holds n) }
+    ensures other_disks { LeavesOtherDisks shelf (R.view rack.old) (R.view rack.new) }
+    ensures others_out { (n : ℕ) → n ≢ shelf →
+        (shelves_of (R.view rack.new)).out n ≡ (shelves_of (R.view rack.old)).out n }
+    ensures err { IsTrue R.tells → OnErr result ((n : ℕ) → AreAmong
+        ((shelves_of (R.view rack.new)).holds n) ((shelves_of (R.view rack.old)).holds n)) }
+    ensures err_home { OnErr result ((n : ℕ) → (shelves_of (R.view rack.old)).out n ≡ false
+        → (shelves_of (R.view rack.new)).out n ≡ false) }
+    ensures failed { IsErrOf result RackFault.Failed →
+        Rose (R.view rack.old).faults (R.view rack.new).faults }
+    ensures later { (R.view rack.old).faults ≤ (R.view rack.new).faults }
+    ensures asked { AsksForThree shelf result (R.view rack.old) (R.view rack.new) }
+    ensures counted { (shelves_of (R.view rack.new)).failed shelf
+        ≡ failed_after result ((shelves_of (R.view rack.old)).failed shelf) }
+    ensures others_counted { (n : ℕ) → n ≢ shelf →
+        (shelves_of (R.view rack.new)).failed n ≡ (shelves_of (R.view rack.old)).failed n }
+{
+    let a = match rack.take(alloc, directory, shelf) {
+        Ok(a) => a,
+        Err(fault) => return Err(fault),
+    };
+    let b = match rack.take(alloc, directory, 16 + shelf) {
+        Ok(b) => b,
+        Err(fault) => {
+            give_unused(rack, shelf, a);
+            return Err(fault);
+        }
+    };
+    match rack.take(alloc, directory, 32 + shelf) {
+        Ok(root) => Ok(Disks::new(a, b, root)),
+        Err(fault) => {
+            give_unused(rack, 16 + shelf, b);
+            give_unused(rack, shelf, a);
+            Err(fault)
+        }
+    }
+}
+
+/// Gives back the three disks of a shelf. Their faults count as the rack's, for this shelf.
+pub fn give_trio<D: Disk, R: Rack<D>>(rack: &mut R, shelf: u32, disks: Disks<D>)
+    requires shelf { shelf < 16 }
+    ensures images { IsTrue R.tells → IsTrue D.tells →
+        AreAmong ((shelves_of (R.view rack.new)).holds shelf) (trio_view disks).images }
+    ensures others { (n : ℕ) → n ≢ shelf → AreAmong
+        ((shelves_of (R.view rack.new)).holds n) ((shelves_of (R.view rack.old)).holds n) }
+    ensures home { (shelves_of (R.view rack.new)).out shelf ≡ false }
+    ensures other_disks { LeavesOtherDisks shelf (R.view rack.old) (R.view rack.new) }
+    ensures others_out { (n : ℕ) → n ≢ shelf →
+        (shelves_of (R.view rack.new)).out n ≡ (shelves_of (R.view rack.old)).out n }
+    ensures faults { (R.view rack.new).faults ≡ min
+        ((R.view rack.old).faults + (trio_view disks).faults) (2 ^ 64 - 1) }
+    ensures asked { (R.view rack.new).asked ≡ (R.view rack.old).asked }
+    ensures counted { (shelves_of (R.view rack.new)).failed shelf
+        ≡ (shelves_of (R.view rack.old)).failed shelf + sum_of_faults disks }
+    ensures counted_whole { (shelves_of (R.view rack.old)).failed shelf + (trio_view disks).faults
+        ≤ (shelves_of (R.view rack.new)).failed shelf }
+    ensures others_counted { (n : ℕ) → n ≢ shelf →
+        (shelves_of (R.view rack.new)).failed n ≡ (shelves_of (R.view rack.old)).failed n }
+{
+    let (a, b, root) = disks.close();
+    rack.give(shelf, a);
+    rack.give(16 + shelf, b);
+    rack.give(32 + shelf, root);
+}
+
+// Gives back the disk of this number, of which no call was made.
+fn give_unused<D: Disk, R: Rack<D>>(rack: &mut R, number: u32, disk: D)
+    requires { (D.view disk).faults ≡ 0 }
+    ensures images { IsTrue R.tells →
+        AreAmong ((R.view rack.new).holds number) (D.view disk).images }
+    ensures others { (n : ℕ) → n ≢ number →
+        AreAmong ((R.view rack.new).holds n) ((R.view rack.old).holds n) }
+    ensures home { (R.view rack.new).out number ≡ false }
+    ensures others_out { (n : ℕ) → n ≢ number → (R.view rack.new).out n ≡ (R.view rack.old).out n }
+    ensures faults { (R.view rack.new).faults ≡ (R.view rack.old).faults }
+    ensures asked { (R.view rack.new).asked ≡ (R.view rack.old).asked }
+    ensures counted { (n : ℕ) → (R.view rack.new).failed n ≡ (R.view rack.old).failed n }
+{
+    // A count is below 2^64, so it does not fall where nothing is added.
+    let _count = rack.faults();
+    rack.give(number, disk);
+}
