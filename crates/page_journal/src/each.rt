@@ -80,6 +80,7 @@ impl<D: Disk> Journal<D> {
         ensures quiet { IsQuiet (view_of D.view self.old) (view_of D.view self.new) }
         ensures len { length_of self.new ≡ length_of self.old }
         ensures whole { is_broken self.new ≡ is_broken self.old }
+        ensures format { self.new.format ≡ self.old.format }
         ensures sound { IsSound self.new }
         ensures settled { IsTrue D.tells → IsSettled D.view self.new }
         ensures cause { OnErr result
@@ -114,6 +115,7 @@ impl<D: Disk> Journal<D> {
         ensures ready { OnOk result (IsReady D.view self.new len) }
         ensures len { length_of self.new ≡ length_of self.old }
         ensures whole { is_broken self.new ≡ is_broken self.old }
+        ensures format { self.new.format ≡ self.old.format }
         ensures seen { (view_of D.view self.new).seen ≡ (view_of D.view self.old).seen }
         ensures images { NoNewImage (view_of D.view self.old) (view_of D.view self.new) }
         ensures time { Elapses (view_of D.view self.old) (view_of D.view self.new) }
@@ -134,6 +136,13 @@ impl<D: Disk> Journal<D> {
         self.end + 1
     }
 
+    /// The format of the file.
+    pub fn format(&self) -> u8
+        ensures { result ≡ self.now.format }
+    {
+        self.format
+    }
+
     /// How often a call of the disk has failed, up to the type's end.
     pub fn faults(&self) -> u64
         ensures { result ≡ (view_of D.view self.now).faults }
@@ -147,6 +156,7 @@ impl<D: Disk> Journal<D> {
     {
         let Journal {
             disk,
+            format: _,
             end: _,
             buffer: _,
             broken: _,

@@ -12,6 +12,9 @@ use wire_bytes::u32_to_wire;
 /// The greatest length of a journal, in bytes.
 pub const MAX_LEN: u64 = 1 << 30;
 
+/// The newest format, the one that is written.
+pub const NEWEST_FORMAT: u8 = 6;
+
 /// Why a record was not added.
 #[derive(Clone, Copy, Debug, PartialEq, Eq, Error)]
 pub enum AppendFault {
@@ -35,6 +38,8 @@ impl From<Failed> for AppendFault {
 #[derive(Drop)]
 pub struct Journal<D: Disk> {
     pub(crate) disk: D,
+    // The format of the file.
+    pub(crate) format: u8,
     // The place of the closed gate.
     pub(crate) end: u64,
     // Its room is enough for the longest record.
@@ -74,6 +79,7 @@ impl<D: Disk> Journal<D> {
         requires ready { IsReady D.view self.old (length body.now) }
 
         ensures sound { IsSound self.new }
+        ensures format { self.new.format ≡ self.old.format }
         ensures whole { OnOk result (is_broken self.new ≡ false) }
         ensures broken { IsErrOf result AppendFault.DiskFault → is_broken self.new ≡ true }
         ensures len { OnOk result (length_of self.new ≡ length_with self.old body.now) }
@@ -84,7 +90,7 @@ impl<D: Disk> Journal<D> {
         // A crash at any moment of the call leaves the records from before it, with the new one or without.
         ensures any_moment { IsTrue D.tells →
             LeavesOnly (view_of D.view self.old) (view_of D.view self.new)
-            (MayHold (bodies_in D.view self.old) body.now) }
+            (MayHold self.old.format (bodies_in D.view self.old) body.now) }
 
         ensures full { let len = length_with self.old body.now in
             2 ^ 30 < len → (result ≡ Err (AppendFault.Full len)) × (self.new ≡ self.old) }

@@ -1,13 +1,13 @@
-ghost use Rattle.std.specs.Prelude.{false, ◌≡◌, ◌<◌, ◌≤◌, ◌+◌, ◌^◌, length, IsTrue, IfOk, OnOk, IsErrOf};
-ghost use Rattle.page_journal.specs.Holding.{MayHoldNowAndThroughout, ClosedNowAndThroughout, IsBeforeOrWith};
-ghost use Rattle.page_journal.specs.Records.{Damaged, records, stored};
+ghost use Rattle.std.specs.Prelude.{false, true, ◌≡◌, ◌<◌, ◌≤◌, ◌+◌, ◌^◌, [], length, IsTrue, IfOk, OnOk, IsErrOf};
+ghost use Rattle.page_journal.specs.Holding.{MayHoldNowAndThroughout, ClosedNowAndThroughout, EitherNowAndThroughout, IsBeforeOrWith, IsOneOfEither};
+ghost use Rattle.page_journal.specs.Records.{Damaged, is_format, newest, records, stored};
 ghost use Rattle.page_journal.specs.Opened.{IsOpened, IsFault};
 ghost use Rattle.page_journal.specs.declared.repair.JournalFault.TheVariants.{DiskFault as OpenDiskFault, Memory as OpenMemory};
 ghost use Rattle.page_journal.specs.Settled.{HasFailed};
 
-use crate::Journal;
 use crate::mend::{create, settle};
 use crate::scan::{Extent, read_gates};
+use crate::{Journal, NEWEST_FORMAT};
 use std::alloc::{AllocError, Global};
 use thiserror::Error;
 use web_disk::Disk;
@@ -46,6 +46,7 @@ impl From<AllocError> for JournalFault {
 /// What an opened journal goes on with: the place of the closed gate, and a buffer with room for the longest record.
 #[derive(Drop)]
 pub struct Opening {
+    pub format: u8,
     pub end: u64,
     pub buffer: Vec<u8>,
 }
@@ -58,6 +59,7 @@ pub fn recover<D: Disk>(alloc: Global, disk: &mut D, len: u64) -> Result<Opening
     requires end { len ≤ (D.view disk.old).end }
     requires left { 1 ≤ (D.view disk.old).left }
     ensures fits { IfOk result (λ opening. opening.end + 1 ≤ 2 ^ 30) }
+    ensures known { IfOk result (λ opening. is_format opening.format ≡ true) }
     ensures opened { IsTrue D.tells →
         IfOk result (λ opening. IsOpened (D.view disk.old) (D.view disk.new) opening) }
     ensures refused { IsTrue D.tells → IsFault (D.view disk.old) (D.view disk.new) result }
@@ -67,6 +69,8 @@ pub fn recover<D: Disk>(alloc: Global, disk: &mut D, len: u64) -> Result<Opening
         MayHoldNowAndThroughout (D.view disk.old) (D.view disk.new) }
     ensures closed_stays { IsTrue D.tells →
         ClosedNowAndThroughout (D.view disk.old) (D.view disk.new) }
+    ensures either_stays { IsTrue D.tells →
+        EitherNowAndThroughout (D.view disk.old) (D.view disk.new) }
     ensures later { (D.view disk.old).faults ≤ (D.view disk.new).faults }
 {
     disk.sync()?;
@@ -76,10 +80,15 @@ pub fn recover<D: Disk>(alloc: Global, disk: &mut D, len: u64) -> Result<Opening
             place,
             gate,
             longest,
+            format,
         } => {
             let buffer = Vec::with_capacity(alloc, longest as usize)?;
             settle(disk, place, gate)?;
-            Ok(Opening { end: place, buffer })
+            Ok(Opening {
+                format,
+                end: place,
+                buffer,
+            })
         }
     }
 }
@@ -87,8 +96,11 @@ pub fn recover<D: Disk>(alloc: Global, disk: &mut D, len: u64) -> Result<Opening
 /// The same of any disk; an empty one gets a journal with no records.
 pub fn recover_or_create<D: Disk>(alloc: Global, disk: &mut D) -> Result<Opening, JournalFault>
     ensures fits { IfOk result (λ opening. opening.end + 1 ≤ 2 ^ 30) }
+    ensures known { IfOk result (λ opening. is_format opening.format ≡ true) }
     ensures opened { IsTrue D.tells →
         IfOk result (λ opening. IsOpened (D.view disk.old) (D.view disk.new) opening) }
+    ensures fresh { IsTrue D.tells → (D.view disk.old).seen ≡ []
+        → IfOk result (λ opening. opening.format ≡ newest) }
     ensures refused { IsTrue D.tells → IsFault (D.view disk.old) (D.view disk.new) result }
     ensures cause { IsErrOf result JournalFault.DiskFault →
         HasFailed (D.view disk.old) (D.view disk.new) }
@@ -96,6 +108,8 @@ pub fn recover_or_create<D: Disk>(alloc: Global, disk: &mut D) -> Result<Opening
         MayHoldNowAndThroughout (D.view disk.old) (D.view disk.new) }
     ensures closed_stays { IsTrue D.tells →
         ClosedNowAndThroughout (D.view disk.old) (D.view disk.new) }
+    ensures either_stays { IsTrue D.tells →
+        EitherNowAndThroughout (D.view disk.old) (D.view disk.new) }
     ensures later { (D.view disk.old).faults ≤ (D.view disk.new).faults }
 {
     let len = disk.len()?;
@@ -105,6 +119,7 @@ pub fn recover_or_create<D: Disk>(alloc: Global, disk: &mut D) -> Result<Opening
     }
     create(disk)?;
     Ok(Opening {
+        format: NEWEST_FORMAT,
         end: 8,
         buffer: Vec::new(alloc),
     })
@@ -112,15 +127,20 @@ pub fn recover_or_create<D: Disk>(alloc: Global, disk: &mut D) -> Result<Opening
 
 impl<D: Disk> Journal<D> {
     ghost use Rattle.page_journal.specs.Settled.{IsSettled, IsSound, bodies_in, is_broken};
-    ghost use Rattle.page_journal.specs.Opened.{IsIntactOrEmpty, disk_of, fault_of};
+    ghost use Rattle.page_journal.specs.Opened.{IsIntactOrEmpty, TellsFormat, disk_of, fault_of};
 
     /// Opens the journal of a disk: an empty disk gets one without records, and of any other the records are read and the end is mended. A disk that is refused is handed back.
     pub fn begin(alloc: Global, disk: D) -> Result<Journal<D>, (JournalFault, D)>
         ensures sound { IfOk result (λ journal. IsSound journal) }
         ensures whole { IfOk result (λ journal. is_broken journal ≡ false) }
+        ensures known { IfOk result (λ journal. is_format journal.format ≡ true) }
         ensures settled { IsTrue D.tells → IfOk result (λ journal. IsSettled D.view journal) }
         ensures records { IsTrue D.tells →
             IfOk result (λ journal. bodies_in D.view journal ≡ stored (D.view disk).seen) }
+        ensures format { IsTrue D.tells →
+            IfOk result (λ journal. TellsFormat (D.view disk).seen journal.format) }
+        ensures fresh { IsTrue D.tells → (D.view disk).seen ≡ []
+            → IfOk result (λ journal. journal.format ≡ newest) }
         ensures before_or_with { IsTrue D.tells →
             IfOk result (λ journal. IsBeforeOrWith (D.view disk) (bodies_in D.view journal)) }
         ensures intact { IsTrue D.tells → OnOk result (IsIntactOrEmpty (D.view disk)) }
@@ -132,12 +152,17 @@ impl<D: Disk> Journal<D> {
             MayHoldNowAndThroughout (D.view disk) (D.view (disk_of result)) }
         ensures closed_stays { IsTrue D.tells →
             ClosedNowAndThroughout (D.view disk) (D.view (disk_of result)) }
+        ensures either_stays { IsTrue D.tells →
+            EitherNowAndThroughout (D.view disk) (D.view (disk_of result)) }
+        ensures one_of_either { IsTrue D.tells →
+            IfOk result (λ journal. IsOneOfEither (D.view disk) (bodies_in D.view journal)) }
         ensures later { (D.view disk).faults ≤ (D.view (disk_of result)).faults }
     {
         let mut disk = disk;
         match recover_or_create(alloc, &mut disk) {
             Ok(opening) => Ok(Journal {
                 disk,
+                format: opening.format,
                 end: opening.end,
                 buffer: opening.buffer,
                 broken: false,

@@ -9,11 +9,12 @@ pub gates-init : goal.gates-init
 gates-init g c = record {
   taking = λ told.
       let settled = c.requires.settled told in
-      takes_none g.T.Take.takes c.args.taker.now _ settled.file (omega (arith, settled.end, settled.fits));
+      takes_none g.T.Take.takes c.args.taker.now _ c.args.self.now.format settled.file (omega (arith, settled.end, settled.fits));
   handing = record { done = []; here = refl {A = ℕ}; fits = omega arith; taken = refl };
   ready = c.requires.ready;
   quiet = quiet_none _ (g.met.D.Disk.only_now c.args.self.now.disk);
   end = refl {A = ℕ};
+  format = refl {A = ℕ};
   broken = refl;
   buffer = omega arith;
 }
@@ -47,6 +48,7 @@ gates-preserved g c = record {
       subst (λ (n : ℕ). g.T.Take.ready c.body.new.self n) next c.body.ensures.ready;
   quiet = quiet_then _ _ _ c.gates.invariant.quiet (quiet_then _ _ _ c.look.ensures.quiet c.read_body.ensures.quiet);
   end = c.gates.invariant.end;
+  format = c.gates.invariant.format;
   broken = c.gates.invariant.broken;
   buffer = omega (arith, c.gates.invariant.buffer, c.read_body.ensures.capacity);
 }
