@@ -7,8 +7,8 @@ use Rattle.script_value.specs.Val.{Val, list, vals_of}
 use Rattle.script_nodes.specs.Setup.{Named}
 use Rattle.value_bytes.specs.Reading.{Reader, read_several}
 use Rattle.value_bytes.proofs.Turns.{with_front, one_more}
-use Rattle.journal_records.specs.Records.{Record, texts_of}
-use Rattle.journal_records.specs.Reading.{is_nothing, read_front, read_record, alone}
+use Rattle.journal_records.specs.Records.{texts_of}
+use Rattle.journal_records.specs.Reading.{is_nothing}
 
 -- ---- pieces, one behind the other
 
@@ -86,21 +86,3 @@ pub is_nothing_test : (b : Bool) (vs : List Val) → (b ≡ true → vs ≡ []) 
 is_nothing_test b [] e = e.1 refl
 is_nothing_test true (v ∷ vs) e = absurd (cc (e.0 refl))
 is_nothing_test false (v ∷ vs) e = refl
-
--- ---- a whole body
-
-pub whole_record : (bytes rest : List ℕ) (r : Record) → read_front bytes ≡ Some (r, rest) → rest ≡ [] → read_record bytes ≡ Some r
-unfolding read_record
-whole_record bytes rest r e f = ap alone e ∙ ap (λ l. alone (Some (r, l))) f
-
-alone_not : (r : Record) (rest : List ℕ) → (rest ≡ [] → ⊥) → alone (Some (r, rest)) ≡ None
-alone_not r [] e = absurd (e refl)
-alone_not r (b ∷ rest) e = refl
-
-pub more_than_a_record : (bytes rest : List ℕ) (r : Record) → read_front bytes ≡ Some (r, rest) → (rest ≡ [] → ⊥) → read_record bytes ≡ None
-unfolding read_record
-more_than_a_record bytes rest r e f = ap alone e ∙ alone_not r rest f
-
-pub no_record : (bytes : List ℕ) → read_front bytes ≡ None → read_record bytes ≡ None
-unfolding read_record
-no_record bytes e = ap alone e

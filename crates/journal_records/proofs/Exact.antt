@@ -28,13 +28,13 @@ use Rattle.journal_records.proofs.Codec.{Codec, both, listed, IsSeen, seen_exact
 abbrev pub number_codec : Codec ℕ
 number_codec = below_codec numbers_end (lit≤ tt)
 
-abbrev deadline_codec : Codec ℕ
+abbrev pub deadline_codec : Codec ℕ
 deadline_codec = below_codec deadlines_end (lit≤ tt)
 
 abbrev short_codec : Codec ℕ
 short_codec = record { spelled = u32_bytes; fits = λ n. n < 2 ^ 32; read = read_u32; law = u32_exact }
 
-abbrev long_codec : Codec ℕ
+abbrev pub long_codec : Codec ℕ
 long_codec = record { spelled = u64_bytes; fits = λ n. n < 2 ^ 64; read = read_u64; law = u64_exact }
 
 abbrev pub string_codec : Codec (List ℕ)
@@ -120,7 +120,7 @@ effect_codec = record {
 
 -- ---- kinds of a send
 
-send_back : (k : SendKind) (rest : List ℕ) → read_send (send_byte k ∷ rest) ≡ Some (k, rest)
+pub send_back : (k : SendKind) (rest : List ℕ) → read_send (send_byte k ∷ rest) ≡ Some (k, rest)
 send_back Suspend rest = refl
 send_back Forward rest = refl
 
@@ -137,7 +137,7 @@ send_is b k e =
       ]
     ]
 
-send_exact : (bytes : List ℕ) (k : SendKind) (rest : List ℕ) → AreBytes bytes → read_send bytes ≡ Some (k, rest)
+pub send_exact : (bytes : List ℕ) (k : SendKind) (rest : List ℕ) → AreBytes bytes → read_send bytes ≡ Some (k, rest)
     → Spells (λ j. send_byte j ∷ []) (λ j. Unit {0}) bytes k rest
 send_exact bytes k rest small h =
     let b = bind_some (read_u8 bytes) (λ x. (send_of x.0 >>= λ s. Some (s, x.1))) (k, rest) h in
@@ -147,7 +147,7 @@ send_exact bytes k rest small h =
     let is : b.0.0 ≡ send_byte k = send_is b.0.0 s.0 s.1 ∙ ap send_byte parts.0 in
     record { whole = c.whole ∙ (λ i. is i ∷ parts.1 i); fit = tt }
 
-abbrev send_codec : Codec SendKind
+abbrev pub send_codec : Codec SendKind
 send_codec = record {
   spelled = λ k. send_byte k ∷ [];
   fits = λ k. Unit {0};
@@ -195,7 +195,7 @@ start_codec = both byte_codec nothing_codec
 abbrev answer_codec : Codec (ℕ × (ℕ × Val))
 answer_codec = both number_codec (both number_codec value_codec)
 
-origin_back : (o : Origin) (rest : List ℕ) → OriginFits o → read_origin (origin_bytes o ++ rest) ≡ Some (o, rest)
+pub origin_back : (o : Origin) (rest : List ℕ) → OriginFits o → read_origin (origin_bytes o ++ rest) ≡ Some (o, rest)
 origin_back (start script) rest fits = ap (seen_as start_from) (start_codec.law.back (script, nothing) rest (fits, refl))
 origin_back (answered instance page answer) rest fits =
     ap (seen_as answered_from) (answer_codec.law.back (instance, (page, answer)) rest (fits.instance, (fits.page, fits.answer)))
@@ -225,7 +225,7 @@ origin_spells kind bytes o rest small h =
       ]
     ]
 
-origin_exact : (bytes : List ℕ) (o : Origin) (rest : List ℕ) → AreBytes bytes → read_origin bytes ≡ Some (o, rest)
+pub origin_exact : (bytes : List ℕ) (o : Origin) (rest : List ℕ) → AreBytes bytes → read_origin bytes ≡ Some (o, rest)
     → Spells origin_bytes OriginFits bytes o rest
 origin_exact bytes o rest small h =
     let kind = bind_some (read_u8 bytes) (λ k. read_origin_of k.0 k.1) (o, rest) h in
@@ -233,7 +233,7 @@ origin_exact bytes o rest small h =
     let s = origin_spells kind.0.0 kind.0.1 o rest (rest_are_bytes bytes (kind.0.0 ∷ []) kind.0.1 k.whole small) kind.2 in
     record { whole = k.whole ∙ s.whole; fit = s.fit }
 
-abbrev origin_codec : Codec Origin
+abbrev pub origin_codec : Codec Origin
 origin_codec = record {
   spelled = origin_bytes;
   fits = OriginFits;
@@ -317,7 +317,7 @@ page_body : (ticket nonce : ℕ) (o : Origin) (effects : List Effect) (left : Li
 page_body ticket nonce (start script) effects left kind deadline evicted state = refl
 page_body ticket nonce (answered instance page answer) effects left kind deadline evicted state = refl
 
-page_fits : (ticket nonce : ℕ) (o : Origin) (effects : List Effect) (left : List TxName) (kind : SendKind) (deadline : ℕ) (evicted state : List ℕ)
+pub page_fits : (ticket nonce : ℕ) (o : Origin) (effects : List Effect) (left : List TxName) (kind : SendKind) (deadline : ℕ) (evicted state : List ℕ)
     → PageFits (record { ticket = ticket; nonce = nonce; origin = o; effects = effects; left = left; kind = kind; deadline = deadline; evicted = evicted; state = state })
     → ChangeFits (change_from ticket nonce o effects left kind deadline evicted) (Some state)
 page_fits ticket nonce (start script) effects left kind deadline evicted state fits = fits
@@ -391,7 +391,7 @@ draws_spells kind bytes r rest small k h =
     let x = drawn_codec.law.exact bytes s.0 rest small s.1 in
     subst (λ q. Body (kind ∷ bytes) q rest) s.2 (record { whole = λ i. k i ∷ x.whole i; fit = x.fit })
 
-kind_spells : (kind : ℕ) (bytes : List ℕ) (r : Record) (rest : List ℕ) → AreBytes bytes → read_kind kind bytes ≡ Some (r, rest) → Body (kind ∷ bytes) r rest
+pub kind_spells : (kind : ℕ) (bytes : List ℕ) (r : Record) (rest : List ℕ) → AreBytes bytes → read_kind kind bytes ≡ Some (r, rest) → Body (kind ∷ bytes) r rest
 kind_spells kind bytes r rest small h =
     elim (chosen (kind == 1) _ _ _ h) [
       | inl t ↦ begins_spells kind bytes r rest small (grind (arith, nat_tests, t.0)) t.1
@@ -428,7 +428,7 @@ front_exact = record { back = front_back; exact = front_spells }
 
 -- ---- a whole body
 
-alone_some : {A : Type 0} (o : Option (A × List ℕ)) (x : A) → alone o ≡ Some x → o ≡ Some (x, [])
+pub alone_some : {A : Type 0} (o : Option (A × List ℕ)) (x : A) → alone o ≡ Some x → o ≡ Some (x, [])
 alone_some None x e = absurd cc
 alone_some (Some (y, [])) x e =
     let same : y ≡ x = cc in

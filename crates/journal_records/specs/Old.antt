@@ -1,7 +1,7 @@
 -- How bodies are read in each of the formats 1 to 6. Format 6 is the one that is written; the older ones are only read.
 -- A page tells its state from format 2 on, and the pages that went for it from format 6 on. Another setup is told from format 4 on, and
 -- numbers that were drawn before a compaction from format 5 on.
-use Rattle.std.specs.Prelude.{◌≡◌, ℕ, ◌==◌, ◌&&◌, List, [], ◌∷◌, ◌++◌, Option, Some, None, nat_lt, if◌then◌else◌, refl}
+use Rattle.std.specs.Prelude.{◌≡◌, ℕ, ◌==◌, ◌&&◌, Bool, true, List, [], ◌∷◌, ◌++◌, Option, Some, None, nat_lt, if◌then◌else◌, refl}
 use Rattle.script_nodes.specs.declared.script.SendKind.TheVariants.{Suspend}
 use Rattle.value_bytes.specs.Reading.{Reader, seen_as, read_list, read_within}
 use Rattle.wire_bytes.specs.Spelling.{u64_bytes}
@@ -11,6 +11,10 @@ use Rattle.wire_bytes.specs.Reading.{read_u8, read_u64, read_bytes}
 use Rattle.journal_records.specs.Fields.{start, origin_bytes}
 use Rattle.journal_records.specs.Records.{Page, Record, changes, renews, draws, body_of, effects_bytes, names_bytes}
 use Rattle.journal_records.specs.Reading.{◌then◌, read_number, read_deadline, read_origin, read_effects, read_names, read_send, page_from, page_change, read_kind, alone, read_record}
+
+-- the number of the format that is written
+abbrev pub newest_format : ℕ
+newest_format = 6
 
 -- the list of pages that went for a page, which is empty before format 6
 abbrev pub read_gone : (format : ℕ) → Reader (List ℕ)
@@ -26,12 +30,22 @@ read_page_in format bytes =
     seen_as page_from
     ((read_number then (read_u64 then (read_origin then (read_effects then (read_names then (read_send then (read_deadline then (read_gone format then read_state format)))))))) bytes)
 
+-- a page in this format, as a record
+abbrev pub read_shown : (format : ℕ) → Reader Record
+read_shown format rest = seen_as (λ p. changes (page_change p) (Some p.state)) (read_page_in format rest)
+
+-- whether this format has no records of this kind, though the newest one has
+abbrev pub lacks : (format kind : ℕ) → Bool
+lacks format kind = if nat_lt format 4 && (kind == 6) then true else nat_lt format 5 && (kind == 7)
+
+-- whether this is the kind of a page, and the format tells less of one than the newest does
+abbrev pub is_older_page : (format kind : ℕ) → Bool
+is_older_page format kind = nat_lt format 6 && (kind == 2)
+
 -- a record of this kind in this format, where the format has the kind
 abbrev pub read_kind_in : (format kind : ℕ) → Reader Record
 read_kind_in format kind rest =
-    if nat_lt format 4 && (kind == 6) then None else
-    (if nat_lt format 5 && (kind == 7) then None else
-    (if nat_lt format 6 && (kind == 2) then seen_as (λ p. changes (page_change p) (Some p.state)) (read_page_in format rest) else read_kind kind rest))
+    if lacks format kind then None else (if is_older_page format kind then read_shown format rest else read_kind kind rest)
 
 -- the record at the front in this format
 abbrev pub read_front_in : (format : ℕ) → Reader Record
@@ -42,11 +56,6 @@ read_front_in format bytes = do
 -- the record whose body this is in this format
 unfoldable pub read_record_in : (format : ℕ) → List ℕ → Option Record
 read_record_in format bytes = alone (read_front_in format bytes)
-
--- in format 6 bodies are read as they are written
-format_6 : (bytes : List ℕ) → read_record_in 6 bytes ≡ read_record bytes
-unfolding read_record_in read_record
-format_6 bytes = refl
 
 -- the fields of a start up to its deadline, which the formats share
 abbrev start_front : List ℕ

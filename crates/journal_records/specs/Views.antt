@@ -12,8 +12,9 @@ use Rattle.instance_cells.specs.Views.{effect_of}
 use Rattle.replay_spec.specs.Book.{Change, Ending, Finish, ends, finishes, sweeps}
 use Rattle.journal_records.specs.Fields as spec
 use Rattle.value_bytes.specs.Spelling.{list_bytes}
-use Rattle.journal_records.specs.Records.{Record, begins, changes, renews, draws, Page, begin_of, renewal_of, bytes_in, page_bytes, ending_bytes, finish_bytes}
-use Rattle.journal_records.specs.Reading.{change_from, read_record}
+use Rattle.journal_records.specs.Records.{Record, begins, changes, renews, draws, Page, IsInGrammar, begin_of, renewal_of, bytes_in, page_bytes, ending_bytes, finish_bytes}
+use Rattle.journal_records.specs.Reading.{change_from}
+use Rattle.journal_records.specs.Old.{read_record_in}
 use Rattle.journal_records.specs.Laws.{IsBodyOf}
 use Rattle.journal_records.specs.declared.records.Origin.{Origin}
 use Rattle.journal_records.specs.declared.records.Origin.TheVariants as origin
@@ -113,9 +114,13 @@ recorded_of (recorded.Sweep clock) = changes (sweeps clock) None
 recorded_of (recorded.Texts setup) = renewal_of (scripts_of setup.now)
 recorded_of (recorded.Drawn number) = draws number
 
--- the record that bytes are the body of
-abbrev pub ReadsRecord : List ℕ → Option Logged → Type 0
-ReadsRecord bytes found = option_map logged_of found ≡ read_record bytes
+-- the record that bytes are the body of in this format
+abbrev pub ReadsRecord : (format : ℕ) → List ℕ → Option Logged → Type 0
+ReadsRecord format bytes found = option_map logged_of found ≡ read_record_in format bytes
+
+-- what is found can be written
+abbrev pub FindsFitting : Option Logged → Type 0
+FindsFitting found = IfSome found (λ l. IsInGrammar (logged_of l))
 
 -- the bytes are the body of what is found
 abbrev pub FindsItsBody : List ℕ → Option Logged → Type 0

@@ -6,7 +6,8 @@ ghost use Rattle.value_bytes.specs.Reading.{read_list};
 ghost use Rattle.value_bytes.specs.Views.{Reads, GrowsWithin};
 ghost use Rattle.journal_records.specs.Reading as spec;
 ghost use Rattle.journal_records.specs.Reading.{is_nothing, read_below};
-ghost use Rattle.journal_records.specs.Views.{script_of, effects_in, origin_of, ending_of, finish_of, logged_of, texts_in, ReadsRecord, FindsItsBody};
+ghost use Rattle.journal_records.specs.Old.{newest_format, lacks, is_older_page, read_gone, read_state, read_shown, read_kind_in, read_front_in};
+ghost use Rattle.journal_records.specs.Views.{script_of, effects_in, origin_of, ending_of, finish_of, logged_of, texts_in, ReadsRecord, FindsFitting, FindsItsBody};
 
 use crate::grammar::{DEADLINES_END, NUMBERS_END};
 use crate::records::{EndedRecord, FinishRecord, Logged, Origin, PageRecord};
@@ -18,14 +19,20 @@ use value_bytes::fields::{byte, count, number_32, number_64, signed_64, string};
 use value_bytes::{Unread, value};
 use wire_bytes::Cursor;
 
-/// The record whose body this is; none where it is the body of no record. No count in it makes anything grow beyond the bytes behind
-/// it.
-pub fn decode(alloc: Global, body: &[u8]) -> Result<Option<Logged>, AllocError>
-    ensures read { IfOk result (ReadsRecord body.now) }
-    ensures spelled { IfOk result (FindsItsBody body.now) }
+// The format that is written.
+const NEWEST: u8 = 6;
+
+/// The record whose body this is in a journal of this format; none where it is the body of no record of the format. No count in it
+/// makes anything grow beyond the bytes behind it.
+///
+/// A page of format 1 has no bytes of its state, and the newest format alone tells the pages that went for one.
+pub fn decode(alloc: Global, format: u8, body: &[u8]) -> Result<Option<Logged>, AllocError>
+    ensures read { IfOk result (ReadsRecord format body.now) }
+    ensures fits { IfOk result FindsFitting }
+    ensures spelled { format ≡ newest_format → IfOk result (FindsItsBody body.now) }
 {
     let mut cursor = Cursor::over(body);
-    match front(alloc, &mut cursor) {
+    match front(alloc, format, &mut cursor) {
         Ok(logged) => {
             if cursor.at_end() {
                 Ok(Some(logged))
@@ -39,20 +46,50 @@ pub fn decode(alloc: Global, body: &[u8]) -> Result<Option<Logged>, AllocError>
 }
 
 // The record at the front.
-fn front(alloc: Global, cursor: &mut Cursor<'_>) -> Result<Logged, Unread>
-    ensures { Reads logged_of result cursor.new (spec.read_front cursor.old) }
+fn front(alloc: Global, format: u8, cursor: &mut Cursor<'_>) -> Result<Logged, Unread>
+    ensures { Reads logged_of result cursor.new (read_front_in format cursor.old) }
 {
     let kind = byte(cursor)?;
+    in_format(alloc, format, kind, cursor)
+}
+
+// Whether a format has no records of this kind, though the newest one has.
+fn lacks(format: u8, kind: u8) -> bool
+    ensures { result ≡ lacks format kind }
+{
+    if format < 4 && kind == 6 {
+        return true;
+    }
+    format < 5 && kind == 7
+}
+
+// Whether this is the kind of a page, and the format tells less of one than the newest does.
+fn is_older_page(format: u8, kind: u8) -> bool
+    ensures { result ≡ is_older_page format kind }
+{
+    format < NEWEST && kind == 2
+}
+
+// A record of this kind in a format.
+fn in_format(alloc: Global, format: u8, kind: u8, cursor: &mut Cursor<'_>) -> Result<Logged, Unread>
+    ensures { Reads logged_of result cursor.new (read_kind_in format kind cursor.old) }
+{
+    if lacks(format, kind) {
+        return Err(Unread::Misspelled);
+    }
+    if is_older_page(format, kind) {
+        return page(alloc, format, cursor);
+    }
     of_kind(alloc, kind, cursor)
 }
 
-// A record of this kind.
+// A record of this kind in the newest format.
 fn of_kind(alloc: Global, kind: u8, cursor: &mut Cursor<'_>) -> Result<Logged, Unread>
     ensures { Reads logged_of result cursor.new (spec.read_kind kind cursor.old) }
 {
     match kind {
         1 => begin(alloc, cursor),
-        2 => page(alloc, cursor),
+        2 => page(alloc, NEWEST, cursor),
         3 => Ok(Logged::Ended(ended(alloc, cursor)?)),
         4 => Ok(Logged::Finish(finish(alloc, cursor)?)),
         5 => {
@@ -110,8 +147,8 @@ fn copied_string(alloc: Global, cursor: &mut Cursor<'_>) -> Result<Bytes, Unread
 }
 
 // A page that was shown, with the bytes of its state.
-fn page(alloc: Global, cursor: &mut Cursor<'_>) -> Result<Logged, Unread>
-    ensures { Reads logged_of result cursor.new (spec.read_kind 2 cursor.old) }
+fn page(alloc: Global, format: u8, cursor: &mut Cursor<'_>) -> Result<Logged, Unread>
+    ensures { Reads logged_of result cursor.new (read_shown format cursor.old) }
 {
     let ticket = number(cursor)?;
     let nonce = number_64(cursor)?;
@@ -120,8 +157,8 @@ fn page(alloc: Global, cursor: &mut Cursor<'_>) -> Result<Logged, Unread>
     let left = names(alloc, cursor)?;
     let kind = send_kind(cursor)?;
     let deadline = deadline(cursor)?;
-    let evicted = pages(alloc, cursor)?;
-    let state = copied_string(alloc, cursor)?;
+    let evicted = gone(alloc, format, cursor)?;
+    let state = state(alloc, format, cursor)?;
     let page = PageRecord {
         ticket,
         nonce,
@@ -280,6 +317,26 @@ fn pages(alloc: Global, cursor: &mut Cursor<'_>) -> Result<Vec<u64>, Unread>
         pages.push(page)?;
     }
     Ok(pages)
+}
+
+// The pages that went for a page, which the newest format alone tells.
+fn gone(alloc: Global, format: u8, cursor: &mut Cursor<'_>) -> Result<Vec<u64>, Unread>
+    ensures { Reads (λ v. v.items) result cursor.new (read_gone format cursor.old) }
+{
+    if format < NEWEST {
+        return Ok(Vec::new(alloc));
+    }
+    pages(alloc, cursor)
+}
+
+// The bytes of a page's state, which format 1 does not tell.
+fn state(alloc: Global, format: u8, cursor: &mut Cursor<'_>) -> Result<Bytes, Unread>
+    ensures { Reads (λ t. t) result cursor.new (read_state format cursor.old) }
+{
+    if format == 1 {
+        return Ok(Bytes::new(Vec::new(alloc)));
+    }
+    copied_string(alloc, cursor)
 }
 
 fn send_kind(cursor: &mut Cursor<'_>) -> Result<SendKind, Unread>

@@ -5,7 +5,7 @@ use Rattle.script_value.specs.declared.outcome.TxName.{TxName}
 use Rattle.script_nodes.specs.Setup.{Named}
 use Rattle.replay_spec.specs.Book.{Page, Instance, Change, opens, extends, ends, finishes, sweeps, Book, instance_at, page_at}
 use Rattle.replay_spec.specs.Change.{instances_by}
-use Rattle.replay_spec.specs.Compaction.{is_there, stays}
+use Rattle.replay_spec.specs.Compaction.{is_there}
 use Rattle.replay_spec.specs.Admission.{◌>>=◌, Place}
 use Rattle.replay_spec.specs.Recovery.{page_of_numbers, number_in, is_repeated, with_number}
 use Rattle.replay_spec.specs.Invariant.{Among, IsOf, AreOrderly}
@@ -35,7 +35,6 @@ pub record Beside (ls : List Instance) (m k : Made) : Type 0 where
   pub states : SameStates k.book.instances m.earlier k.earlier
   pub first : k.book.file.scripts ≡ m.book.file.scripts
   pub head : k.book.file.head ≡ m.book.file.head
-  pub lines : k.book.file.lines ≡ filter (stays ls) m.book.file.lines
 
 -- ---- a record needs no more of a book than its shelf, setup, clock and instances
 
@@ -110,7 +109,7 @@ same_cons q d n ss ts old = by_test (q == n) refl
     by_test true e = refl
     by_test false e = old (λ same. let yes : (q == n) ≡ true = grind (arith, nat_tests, same) in let no : ⊥ = cc in no)
 
-other_cons : (q : ℕ) (d : Suspended) (n : ℕ) (ss : States) → (q ≡ n → ⊥) → state_at n ((q, d) ∷ ss) ≡ state_at n ss
+pub other_cons : (q : ℕ) (d : Suspended) (n : ℕ) (ss : States) → (q ≡ n → ⊥) → state_at n ((q, d) ∷ ss) ≡ state_at n ss
 other_cons q d n ss differs =
     let test : (q == n) ≡ false = grind (arith, nat_tests, differs) in ap (λ (t : Bool). if t then Some d else state_at n ss) test
 

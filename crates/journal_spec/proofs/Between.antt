@@ -1,8 +1,9 @@
 -- What disks that stand between two books hold.
-use Rattle.std.proofs.Common.{◌≡◌, ◌⊎◌, inl, inr, ℕ, List, [], ◌∷◌, ◌++◌, length, Option, Some, None, option_map, refl, sym, ◌∙◌, ap, subst, ⊎_elim}
+use Rattle.std.proofs.Common.{◌≡◌, ◌⊎◌, inl, inr, ℕ, true, List, [], ◌∷◌, ◌++◌, length, get_or, Option, Some, None, option_map, refl, sym, ◌∙◌, ap, subst, ⊎_elim}
 use Rattle.std.proofs.lemmas.List.{append-nil}
 use Rattle.script_nodes.specs.Setup.{Named}
-use Rattle.page_journal.specs.Records.{records, Intact}
+use Rattle.page_journal.specs.Records.{newest, is_format, format_of, records, Intact}
+use Rattle.page_journal.specs.Holding.{IsClosed, MayHold}
 use Rattle.page_journal.proofs.Holds.{just_these, before_or_after}
 use Rattle.replay_spec.specs.Book.{Change, Work, landing, compacting, Doubt, Book, reopened}
 use Rattle.replay_spec.specs.Rules.{Journal, Rules}
@@ -18,37 +19,69 @@ use Rattle.journal_records.specs.Records.{changes, body_of, IsInGrammar}
 use Rattle.journal_records.specs.Laws.{AreRecordsExact}
 use Rattle.journal_spec.specs.Before.{Earlier}
 use Rattle.journal_spec.specs.Lengths.{state_by, state_told, own_body}
-use Rattle.journal_spec.specs.Making.{Texts, Making, by_log, made_in, book_of, book_in_bytes}
+use Rattle.journal_spec.specs.Making.{Texts, Making, made_in, book_of}
+use Rattle.journal_spec.specs.Old.{book_of_format, format_of_now}
+use Rattle.journal_spec.specs.Bytes.{by_log, book_in_bytes}
+use Rattle.journal_spec.specs.Copying.{copies}
 use Rattle.journal_spec.specs.Opening.{renewal_body, opened_book}
 use Rattle.journal_spec.specs.Whole.{IsSpelledState, CanBeWritten}
-use Rattle.journal_spec.specs.Standing.{IsBook, Makes, MakesIn, flight, HasRoom, Between, Hold, HoldsOpening, if_kept, length_in}
+use Rattle.journal_spec.specs.Standing.{IsBook, Makes, MakesOf, MakesIn, Flight, still, adds, puts, flight_of, with_flight, format_with, HasRoom, Between, Carries, Hold, HoldsOpening, if_kept, length_in}
 use Rattle.journal_spec.specs.Owning.{IsOwnBefore}
-use Rattle.journal_spec.specs.Keeping.{IsTakenDoubt, IsOwnWork, IsOwnDoubt, AreOver, KeepsDoubt, KeepsWith, body_by, landed_bodies, IsWritable, at_stake}
-use Rattle.journal_spec.specs.Laws.{ImagesMakeBooks, OpenedImagesMakeBooks, BooksStandAlike, ACrashIsLostOrKept, RenewalsStandBetween, LandingsStandBetween, EventsStandBetween}
+use Rattle.journal_spec.specs.Keeping.{IsTakenDoubt, IsOwnWork, IsOwnDoubt, AreOver, KeepsDoubt, KeepsWith, body_by, landed_in, landed_bodies, IsWritable, at_stake}
+use Rattle.journal_spec.specs.Laws.{ImagesMakeBooks, OpenedImagesMakeBooks, BooksStandAlike, ACrashIsLostOrKept, RenewalsStandBetween, LandingsStandBetween, EventsStandBetween, compacted_book, CompactionsStandBetween, MigrationsStandBetween}
 use Rattle.journal_spec.proofs.Brief.{moved_state, moved_told}
 use Rattle.journal_spec.proofs.Setups.{recovered_setup}
 use Rattle.journal_spec.proofs.Appending.{event_appends}
 use Rattle.journal_spec.proofs.Taking.{land_own, moved_before, IsMoved, still_by}
+use Rattle.journal_spec.proofs.Fitting.{any_fit, made_fits}
+use Rattle.journal_spec.proofs.Rewriting.{copies_make, migrations_make}
 use Rattle.journal_spec.proofs.Kept.{appended, event_kept_so, event_told, renewed_kept, landing_kept}
 
--- bytes that hold these bodies make what they make
-pub read_as : (texts : Texts) (shelf : ℕ) (bodies : List (List ℕ)) (bytes : List ℕ) → records bytes ≡ Intact bodies → book_in_bytes texts shelf bytes ≡ book_of texts shelf bodies
+-- bytes that hold these bodies make what they make, by the format that the bytes tell
+pub read_as : (texts : Texts) (shelf : ℕ) (bodies : List (List ℕ)) (bytes : List ℕ) → records bytes ≡ Intact bodies
+    → book_in_bytes texts shelf bytes ≡ book_of_format (format_of bytes) texts shelf bodies
 read_as texts shelf bodies [] is = absurd (let no : ⊥ = cc in no)
-read_as texts shelf bodies (b ∷ bytes) is = ap (by_log texts shelf) is
+read_as texts shelf bodies (b ∷ bytes) is = ap (by_log (format_of (b ∷ bytes)) texts shelf) is
 
-makes_in : (texts : Texts) (shelf : ℕ) (bodies : List (List ℕ)) (bytes : List ℕ) (b : Book) → records bytes ≡ Intact bodies → Makes texts shelf bodies b → MakesIn texts shelf bytes b
-makes_in texts shelf bodies bytes b is (earlier, makes) = (earlier, ap made_in (read_as texts shelf bodies bytes is) ∙ makes)
+-- in the newest format bodies make what they make
+pub makes_now : (texts : Texts) (shelf : ℕ) (bodies : List (List ℕ)) (b : Book) → Makes texts shelf bodies b → MakesOf texts shelf newest bodies b
+makes_now texts shelf bodies b (earlier, is) = (earlier, ap made_in (format_of_now texts shelf bodies) ∙ is)
 
-found_in : (texts : Texts) (shelf : ℕ) (before after : Book) (bodies : List (List ℕ)) (more : Option (List ℕ)) → HasRoom bodies more → Makes texts shelf bodies before
-    → Makes texts shelf (bodies ++ flight more) after → (image : List ℕ) → Hold bodies more image → MakesIn texts shelf image before ⊎ MakesIn texts shelf image after
-found_in texts shelf before after bodies None room first second image closed = inl (makes_in texts shelf bodies image before (just_these bodies image room closed) first)
-found_in texts shelf before after bodies (Some body) room first second image may = ⊎_elim
-    (λ is. inl (makes_in texts shelf bodies image before is first))
-    (λ is. inr (makes_in texts shelf (bodies ++ body ∷ []) image after is second))
-    (before_or_after bodies body image room may)
+pub now_makes : (texts : Texts) (shelf : ℕ) (bodies : List (List ℕ)) (b : Book) → MakesOf texts shelf newest bodies b → Makes texts shelf bodies b
+now_makes texts shelf bodies b (earlier, is) = (earlier, sym (ap made_in (format_of_now texts shelf bodies)) ∙ is)
+
+-- the format that the bytes of a journal tell
+pub closed_format : (f : ℕ) (bodies : List (List ℕ)) (bytes : List ℕ) → IsClosed f bodies bytes → format_of bytes ≡ f
+closed_format f bodies bytes closed = ap (λ (l : List ℕ). get_or l 7 0) closed.is
+
+pub may_format : (f : ℕ) (bodies : List (List ℕ)) (body bytes : List ℕ) → MayHold f bodies body bytes → format_of bytes ≡ f
+may_format f bodies body bytes (inl closed) = closed_format f bodies bytes closed
+may_format f bodies body bytes (inr in_flight) = ap (λ (l : List ℕ). get_or l 7 0) in_flight.is
+
+makes_in : (texts : Texts) (shelf f : ℕ) (bodies : List (List ℕ)) (bytes : List ℕ) (b : Book) → format_of bytes ≡ f → records bytes ≡ Intact bodies
+    → MakesOf texts shelf f bodies b → MakesIn texts shelf bytes b
+makes_in texts shelf f bodies bytes b format is (earlier, makes) =
+    (earlier, ap made_in (read_as texts shelf bodies bytes is ∙ ap (λ (n : ℕ). book_of_format n texts shelf bodies) format) ∙ makes)
+
+found_in : (texts : Texts) (shelf : ℕ) (before after : Book) (f : ℕ) → is_format f ≡ true → (bodies : List (List ℕ)) (t : Flight) → HasRoom bodies t
+    → MakesOf texts shelf f bodies before → MakesOf texts shelf (format_with f t) (with_flight bodies t) after → (image : List ℕ) → Hold f bodies t image
+    → MakesIn texts shelf image before ⊎ MakesIn texts shelf image after
+found_in texts shelf before after f known bodies still room first second image closed =
+    inl (makes_in texts shelf f bodies image before (closed_format f bodies image closed) (just_these f bodies image known room closed) first)
+found_in texts shelf before after f known bodies (adds body) room first second image may =
+    let format = may_format f bodies body image may in
+    ⊎_elim
+    (λ is. inl (makes_in texts shelf f bodies image before format is first))
+    (λ is. inr (makes_in texts shelf f (bodies ++ body ∷ []) image after format is second))
+    (before_or_after f bodies body image known room may)
+found_in texts shelf before after f known bodies (puts e others) room first second image (inl closed) =
+    inl (makes_in texts shelf f bodies image before (closed_format f bodies image closed) (just_these f bodies image known room.0 closed) first)
+found_in texts shelf before after f known bodies (puts e others) room first second image (inr closed) =
+    inr (makes_in texts shelf e others image after (closed_format e others image closed) (just_these e others image room.2 room.1 closed) second)
 
 pub make_books : ImagesMakeBooks
-make_books texts shelf before after k image held = found_in texts shelf before after k.bodies k.more k.room k.first k.second image held
+make_books texts shelf before after k image held =
+    found_in texts shelf before after k.format k.known k.bodies k.flight k.room k.first k.second image held
 
 is_book_of : (m : Making) (b c : Book) → reopened c ≡ reopened b → IsBook m b → IsBook m c
 is_book_of m b c same (earlier, is) = (earlier, is ∙ ap (λ (x : Book). Some (record { book = x; earlier = earlier })) (sym same))
@@ -90,7 +123,7 @@ abbrev StakeMakes : Texts → (shelf : ℕ) → List (List ℕ) → Rules → (b
 StakeMakes texts shelf bodies rules b d stake o =
     let more = option_map (own_body b) stake in
     let after = recovered (of_length (length_in more)) kept o d in
-    Makes texts shelf (bodies ++ flight more) after × (reopened (recovered rules kept o d) ≡ reopened after)
+    Makes texts shelf (with_flight bodies (flight_of more)) after × (reopened (recovered rules kept o d) ≡ reopened after)
 
 -- what was landed leaves nothing in doubt
 landed_makes : (texts : Texts) (shelf : ℕ) (bodies : List (List ℕ)) (rules : Rules) (b d : Book) (c : Change) (o : Option Doubt) → o ≡ None
@@ -142,10 +175,10 @@ work_makes x texts shelf bodies rules b d count (landing c inside) over down hol
 doubt_makes : AreRecordsExact → (texts : Texts) (shelf : ℕ) (bodies : List (List ℕ)) (rules : Rules) (b d : Book) (o : Option Doubt) → AreOver rules shelf
     → d.down ≡ o → (k : KeepsDoubt texts shelf bodies d) → ((o ≡ None → ⊥) → IsMoved b d) → IsOwnBefore k.keeps.earlier b (doubted o) → IsWritable b (doubted o)
     → StakeMakes texts shelf bodies rules b d (doubted o) o
-doubt_makes x texts shelf bodies rules b d None over down holds still before spelled =
-    (subst (λ (bs : List (List ℕ)). Makes texts shelf bs d) (sym (append-nil bodies)) (holds.keeps.earlier, holds.keeps.makes), refl)
-doubt_makes x texts shelf bodies rules b d (Some doubt) over down holds still before spelled =
-    work_makes x texts shelf bodies rules b d doubt.count doubt.work over down holds (still (λ none. let no : ⊥ = cc in no)) before spelled
+doubt_makes x texts shelf bodies rules b d None over down holds unmoved before spelled =
+    ((holds.keeps.earlier, holds.keeps.makes), refl)
+doubt_makes x texts shelf bodies rules b d (Some doubt) over down holds unmoved before spelled =
+    work_makes x texts shelf bodies rules b d doubt.count doubt.work over down holds (unmoved (λ none. let no : ⊥ = cc in no)) before spelled
 
 -- books that are the same after a crash
 worked_reopened : (r : Rules) (w : Work) (b : Book) → reopened (worked r w b) ≡ reopened (worked r w (reopened b))
@@ -163,17 +196,18 @@ kept_alike r (Some doubt) b c same =
     worked_reopened r doubt.work b ∙ (ap (λ (y : Book). reopened (worked r doubt.work y)) same ∙ sym (worked_reopened r doubt.work c))
 
 between_alike : (texts : Texts) (shelf : ℕ) (a b c d : Book) → reopened a ≡ reopened c → reopened b ≡ reopened d → (k : Between texts shelf a b)
-    → (l : Between texts shelf c d) × (l.bodies ≡ k.bodies) × (l.more ≡ k.more)
+    → (l : Between texts shelf c d) × Carries k.format k.bodies k.flight l
 between_alike texts shelf a b c d first second k = (
   record {
+    format = k.format;
+    known = k.known;
     bodies = k.bodies;
-    more = k.more;
+    flight = k.flight;
     room = k.room;
-    first = is_book_of (book_of texts shelf k.bodies) a c (sym first) k.first;
-    second = is_book_of (book_of texts shelf (k.bodies ++ flight k.more)) b d (sym second) k.second;
+    first = is_book_of (book_of_format k.format texts shelf k.bodies) a c (sym first) k.first;
+    second = is_book_of (book_of_format (format_with k.format k.flight) texts shelf (with_flight k.bodies k.flight)) b d (sym second) k.second;
   },
-  refl,
-  refl,
+  record { format = refl; bodies_are = refl; flight_is = refl },
 )
 
 pub stand_alike : BooksStandAlike
@@ -215,11 +249,17 @@ stake_makes : AreRecordsExact → (texts : Texts) (shelf : ℕ) (bodies : List (
     → ((c : Change) → o ≡ Some c → d.down ≡ None) → (o ≡ None → (d.down ≡ None → ⊥) → IsMoved b d) → (earlier : Earlier)
     → (k : KeepsWith texts shelf bodies (landed_bodies b o) d) → (o ≡ None → k.keeps.keeps.earlier ≡ earlier) → IsOwnBefore earlier b (at_stake o d) → IsWritable b (at_stake o d)
     → StakeMakes texts shelf bodies rules b d (at_stake o d) d.down
-stake_makes x texts shelf bodies rules b d (Some c) over up still earlier holds same before spelled =
+stake_makes x texts shelf bodies rules b d (Some c) over up unmoved earlier holds same before spelled =
     landed_makes texts shelf bodies rules b d c d.down (up c refl) (holds.keeps.keeps.earlier, holds.keeps.keeps.makes)
-stake_makes x texts shelf bodies rules b d None over up still earlier holds same before spelled =
+stake_makes x texts shelf bodies rules b d None over up unmoved earlier holds same before spelled =
     let all : KeepsTold texts shelf d earlier bodies = subst (KeepsTold texts shelf d earlier) (append-nil bodies) (holds.keeps, same refl) in
-    doubt_makes x texts shelf bodies rules b d d.down over refl all.0 (still refl) (subst (λ (e : Earlier). IsOwnBefore e b (doubted d.down)) (sym all.1) before) spelled
+    doubt_makes x texts shelf bodies rules b d d.down over refl all.0 (unmoved refl) (subst (λ (e : Earlier). IsOwnBefore e b (doubted d.down)) (sym all.1) before) spelled
+
+-- bodies with one in flight, or none, make what they make in the newest format
+now_with : (texts : Texts) (shelf : ℕ) (bodies : List (List ℕ)) (more : Option (List ℕ)) (b : Book) → Makes texts shelf (with_flight bodies (flight_of more)) b
+    → MakesOf texts shelf (format_with newest (flight_of more)) (with_flight bodies (flight_of more)) b
+now_with texts shelf bodies None b makes = makes_now texts shelf bodies b makes
+now_with texts shelf bodies (Some body) b makes = makes_now texts shelf (bodies ++ body ∷ []) b makes
 
 pub stand_between : AreRecordsExact → EventsStandBetween
 stand_between x texts shelf bodies rules b nonce event fate over appends setup lawful holds before spelled room =
@@ -227,6 +267,7 @@ stand_between x texts shelf bodies rules b nonce event fate over appends setup l
     let o = lands rules b event fate in
     let gone = goes rules b nonce event fate in
     let doubt = appended b b.down holds.keeps.recoverable.doubted holds.keeps.recoverable.doubt in
+    let more = option_map (own_body b) (at_stake o d) in
     let here = landed_before holds.keeps.earlier b o d before in
     let can = landed_spelled b o d spelled in
     let then_it = event_kept_so x texts shelf bodies rules b nonce event fate over appends setup lawful holds here can in
@@ -234,14 +275,15 @@ stand_between x texts shelf bodies rules b nonce event fate over appends setup l
     let made_so = stake_makes x texts shelf bodies rules b d o over (up_by rules b d o gone) (still_by rules b d o gone (event_appends rules b nonce event fate appends setup doubt) doubt)
     holds.keeps.earlier then_it told_so before spelled in (
       record {
+        format = newest;
+        known = refl;
         bodies = bodies;
-        more = option_map (own_body b) (at_stake o d);
+        flight = flight_of more;
         room = room;
-        first = (holds.keeps.earlier, holds.keeps.makes);
-        second = made_so.0;
+        first = makes_now texts shelf bodies b (holds.keeps.earlier, holds.keeps.makes);
+        second = now_with texts shelf bodies more (recovered (of_length (length_in more)) kept d.down d) made_so.0;
       },
-      refl,
-      refl,
+      record { format = refl; bodies_are = refl; flight_is = refl },
       made_so.1,
     )
 
@@ -249,26 +291,74 @@ pub renewal_between : AreRecordsExact → RenewalsStandBetween
 renewal_between x texts shelf bodies b scripts holds given differs room =
     let then_it = (renewed_kept x texts shelf bodies b scripts holds given differs).keeps.keeps in (
       record {
+        format = newest;
+        known = refl;
         bodies = bodies;
-        more = Some (renewal_body scripts);
+        flight = adds (renewal_body scripts);
         room = room;
-        first = (holds.earlier, holds.makes);
-        second = (then_it.earlier, then_it.makes);
+        first = makes_now texts shelf bodies b (holds.earlier, holds.makes);
+        second = makes_now texts shelf (bodies ++ renewal_body scripts ∷ []) (opened_book shelf scripts b) (then_it.earlier, then_it.makes);
       },
-      refl,
-      refl,
+      record { format = refl; bodies_are = refl; flight_is = refl },
     )
 
 pub landing_between : AreRecordsExact → LandingsStandBetween
 landing_between x texts shelf bodies b c state inside holds up fits taken out room =
     let then_it = landing_kept x texts shelf bodies b c state inside holds up fits taken out in (
       record {
+        format = newest;
+        known = refl;
         bodies = bodies;
-        more = Some (body_by c state);
+        flight = adds (body_by c state);
         room = room;
-        first = (holds.earlier, holds.makes);
-        second = (then_it.earlier, then_it.makes);
+        first = makes_now texts shelf bodies b (holds.earlier, holds.makes);
+        second = makes_now texts shelf (bodies ++ body_by c state ∷ []) (landed_in (length (body_by c state)) c inside b) (then_it.earlier, then_it.makes);
       },
-      refl,
-      refl,
+      record { format = refl; bodies_are = refl; flight_is = refl },
+    )
+
+-- the copies that a compaction makes, in the place of the bodies that they were made of
+pub compaction_between : AreRecordsExact → CompactionsStandBetween
+compaction_between x texts shelf first bodies m bytes makes fits copies_fit =
+    let these = first ∷ bodies in
+    let others = copies newest texts shelf first bodies m in
+    let k = copies_make x texts shelf first bodies m bytes makes in
+    let again : m.book ≡ reopened m.book = (made_fits x texts shelf these m makes).again in
+    let after = compacted_book m.book in
+    let same : k.0.book ≡ reopened after = k.2.book ∙ ap compacted_book again in (
+      record {
+        format = newest;
+        known = refl;
+        bodies = these;
+        flight = puts newest others;
+        room = (fits, copies_fit, refl);
+        first = makes_now texts shelf these m.book (m.earlier, makes ∙ ap (λ (y : Book). Some (record { book = y; earlier = m.earlier })) again);
+        second = makes_now texts shelf others after (k.0.earlier, k.1 ∙ ap (λ (y : Book). Some (record { book = y; earlier = k.0.earlier })) same);
+      },
+      record { format = refl; bodies_are = refl; flight_is = refl },
+    )
+
+-- what is written of a file of an older format, in its place
+pub migration_between : AreRecordsExact → MigrationsStandBetween
+migration_between x format texts shelf first bodies m known anew bytes makes fits copies_fit =
+    let these = first ∷ bodies in
+    let others = copies format texts shelf first bodies m in
+    let k = migrations_make x format texts shelf first bodies m known anew bytes makes copies_fit in
+    let again : m.book ≡ reopened m.book = (any_fit x format texts shelf these m makes).again in
+    let after : k.0.book ≡ reopened k.0.book = (made_fits x texts shelf others k.0 k.1).again in (
+      k.0,
+      k.1,
+      k.2,
+      (
+        record {
+          format = format;
+          known = known;
+          bodies = these;
+          flight = puts newest others;
+          room = (fits, copies_fit, refl);
+          first = (m.earlier, makes ∙ ap (λ (y : Book). Some (record { book = y; earlier = m.earlier })) again);
+          second = makes_now texts shelf others k.0.book (k.0.earlier, k.1 ∙ ap (λ (y : Book). Some (record { book = y; earlier = k.0.earlier })) after);
+        },
+        record { format = refl; bodies_are = refl; flight_is = refl },
+      ),
     )

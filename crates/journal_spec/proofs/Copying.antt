@@ -1,83 +1,116 @@
--- Bodies that are copied make the book of the compacted file.
-use Rattle.std.proofs.Common.{◌≡◌, ◌⊎◌, inl, inr, ℕ, ◌+◌, ◌<◌, ◌==◌, List, [], ◌∷◌, ◌++◌, map, length, Option, Some, None, Bool, true, false, refl, sym, ap, subst, ◌∙◌, ⊎_elim, arith, if◌then◌else◌}
+-- Bodies that stay make the book of the compacted file.
+use Rattle.std.proofs.Common.{◌≡◌, ◌⊎◌, inl, inr, ℕ, zero, suc, ◌+◌, ◌<◌, ◌==◌, List, [], ◌∷◌, ◌++◌, map, length, Option, Some, None, Bool, true, false, refl, sym, ap, subst, ◌∙◌, ⊎_elim, arith, if◌then◌else◌}
+use Rattle.std.specs.Int.{byte_at, bytes_low_first}
+use Rattle.wire_bytes.specs.Spelling.{u64_bytes}
 use Rattle.script_nodes.specs.Setup.{Named}
 use Rattle.replay_spec.specs.Book.{Instance, File, Book, reopened}
 use Rattle.replay_spec.specs.Rules.{first_file}
 use Rattle.replay_spec.specs.Compaction.{last_sweeps, compaction, lines_length, file_length}
+use Rattle.replay_spec.specs.Invariant.{Among}
 use Rattle.replay_spec.specs.Remade.{IsOrderlyMade}
 use Rattle.replay_spec.proofs.Living.{none_there, all_live}
 use Rattle.replay_spec.proofs.Compacted.{first_orderly, parts_same}
+use Rattle.value_bytes.specs.Laws.{AreBytes}
 use Rattle.journal_records.specs.Fields.{numbers_end}
 use Rattle.journal_records.specs.Records.{Record, begins, changes, renews, draws, body_of}
 use Rattle.journal_records.specs.Reading.{read_record}
-use Rattle.journal_records.specs.Laws.{AreRecordsExact}
+use Rattle.journal_records.specs.Old.{read_record_in}
+use Rattle.journal_records.specs.Laws.{TellsNoPage, AreRecordsExact}
 use Rattle.journal_spec.specs.Before.{Earlier, Made, plain}
-use Rattle.journal_spec.specs.Making.{Texts, Making, nothing, begun, made, other, began, first_setup, first_by, next_by, with_drawn, second_by, with_bodies, made_in, book_of}
-use Rattle.journal_spec.specs.Copying.{Entry, body_in, line_of, entries_after, entry_by, entries, entries_joined, SameStates, IsCompacted, CopiesMakeTheBook}
-use Rattle.journal_spec.proofs.Fitting.{made_fits}
+use Rattle.journal_spec.specs.Making.{Texts, Making, nothing, begun, made, other, began, first_setup, first_by, with_drawn, second_by, with_body, with_bodies, made_in, book_of}
+use Rattle.journal_spec.specs.Old.{next_at, second_at, with_bodies_at, book_of_format}
+use Rattle.journal_spec.specs.Owning.{OfEach, IsOwnRecord, AreOwn, IsLandedRecord, AreLanded, AreOwnIn}
+use Rattle.journal_spec.specs.Reading.{AreAllBytes}
+use Rattle.journal_spec.specs.Copying.{Entry, body_in, line_of, entries_after, entry_by, entries, entries_joined, copies, SameStates, IsCompacted, IsMigrated}
+use Rattle.journal_spec.proofs.Fitting.{any_fit}
 use Rattle.journal_spec.proofs.Beside.{Beside}
+use Rattle.journal_spec.proofs.OwnStates.{HoldEntries, AreOwnFrom, own_from}
+use Rattle.journal_spec.proofs.OwnEntries.{own_joined, small_joined, landed_entries, EachFrom, of_each, each_made}
 use Rattle.journal_spec.proofs.Walking.{no_book}
-use Rattle.journal_spec.proofs.Copied.{Walked, walk}
-use Rattle.journal_spec.proofs.Joining.{join_entries, facts_joined, lines_joined, entries_orderly, file_of_entries, length_of_entries, logged_of_entries, bodies_made}
+use Rattle.journal_spec.proofs.Copied.{HasLines, Walked, Rewrites, walk}
+use Rattle.journal_spec.proofs.Joining.{AreSure, join_entries, facts_joined, lines_joined, entries_orderly, file_of_entries, length_of_entries, logged_of_entries, bodies_made}
 
-other_stays : (texts : Texts) (shelf place : ℕ) (bodies : List (List ℕ)) (p : ℕ) → with_bodies texts shelf place bodies (other p) ≡ other p
-other_stays texts shelf place [] p = refl
-other_stays texts shelf place (body ∷ bodies) p = other_stays texts shelf (place + 5 + length body) bodies p
+-- what tells no page is a record of the newest format too
+pub alike_now : AreRecordsExact → (f : ℕ) (body : List ℕ) (r : Record) → AreBytes body → TellsNoPage r → read_record_in f body ≡ Some r → read_record body ≡ Some r
+alike_now x f body r small none read = let b = x.alike f body r small read none in ap read_record b.spelled ∙ x.back r b.fits
+
+other_stays : (f : ℕ) (texts : Texts) (shelf place : ℕ) (bodies : List (List ℕ)) (p : ℕ) → with_bodies_at f texts shelf place bodies (other p) ≡ other p
+other_stays f texts shelf place [] p = refl
+other_stays f texts shelf place (body ∷ bodies) p = other_stays f texts shelf (place + 5 + length body) bodies p
 
 -- ---- the first records
 
-first_is : (texts : Texts) (shelf n later : ℕ) (bodies : List (List ℕ)) (m : Made) (r : Option Record) → made_in (with_bodies texts shelf later bodies (first_by texts shelf 8 n r)) ≡ Some m
-    → (scripts : List Named) × (first_by texts shelf 8 n r ≡ begun (began shelf n scripts))
-first_is texts shelf n later bodies m None is = absurd (no_book texts shelf later bodies 8 m is)
-first_is texts shelf n later bodies m (Some (changes c state)) is = absurd (no_book texts shelf later bodies 8 m is)
-first_is texts shelf n later bodies m (Some (renews named)) is = absurd (no_book texts shelf later bodies 8 m is)
-first_is texts shelf n later bodies m (Some (draws number)) is = absurd (no_book texts shelf later bodies 8 m is)
-first_is texts shelf n later bodies m (Some (begins s named)) is = by_setup (texts named) is
+-- what a first record tells of which a book is made
+pub record First (texts : Texts) (shelf n : ℕ) (r : Option Record) : Type 0 where
+  pub scripts : List Named
+  pub on : ℕ
+  pub named : List (List ℕ × List ℕ)
+  pub read : r ≡ Some (begins on named)
+  pub is : first_by texts shelf 8 n r ≡ begun (began shelf n scripts)
+
+pub first_is : (f : ℕ) (texts : Texts) (shelf n later : ℕ) (bodies : List (List ℕ)) (m : Made) (r : Option Record) → made_in (with_bodies_at f texts shelf later bodies (first_by texts shelf 8 n r)) ≡ Some m
+    → First texts shelf n r
+first_is f texts shelf n later bodies m None is = absurd (no_book f texts shelf later bodies 8 m is)
+first_is f texts shelf n later bodies m (Some (changes c state)) is = absurd (no_book f texts shelf later bodies 8 m is)
+first_is f texts shelf n later bodies m (Some (renews named)) is = absurd (no_book f texts shelf later bodies 8 m is)
+first_is f texts shelf n later bodies m (Some (draws number)) is = absurd (no_book f texts shelf later bodies 8 m is)
+first_is f texts shelf n later bodies m (Some (begins s named)) is =
+    let at = by_setup (texts named) is in
+    record { scripts = at.0; on = s; named = named; read = refl; is = at.1 }
   where
-    by_test : (scripts : List Named) (t : Bool) → made_in (with_bodies texts shelf later bodies (if t then begun (began shelf n scripts) else other 8)) ≡ Some m
+    by_test : (scripts : List Named) (t : Bool) → made_in (with_bodies_at f texts shelf later bodies (if t then begun (began shelf n scripts) else other 8)) ≡ Some m
         → (ss : List Named) × ((if t then begun (began shelf n scripts) else other 8) ≡ begun (began shelf n ss))
     by_test scripts true here = (scripts, refl)
     by_test scripts false here =
-        let none : None ≡ Some m = sym (ap made_in (other_stays texts shelf later bodies 8)) ∙ here in absurd (let no : ⊥ = cc in no)
+        let none : None ≡ Some m = sym (ap made_in (other_stays f texts shelf later bodies 8)) ∙ here in absurd (let no : ⊥ = cc in no)
 
-    by_setup : (o : Option (List Named)) → made_in (with_bodies texts shelf later bodies (first_setup shelf 8 n s o)) ≡ Some m → (ss : List Named) × (first_setup shelf 8 n s o ≡ begun (began shelf n ss))
-    by_setup None here = absurd (no_book texts shelf later bodies 8 m here)
+    by_setup : (o : Option (List Named)) → made_in (with_bodies_at f texts shelf later bodies (first_setup shelf 8 n s o)) ≡ Some m
+        → (ss : List Named) × (first_setup shelf 8 n s o ≡ begun (began shelf n ss))
+    by_setup None here = absurd (no_book f texts shelf later bodies 8 m here)
     by_setup (Some scripts) here = by_test scripts (s == shelf) here
 
 -- what stands behind the first record, and behind one that tells of a compaction
-record Second (ls : List Instance) (texts : Texts) (shelf place : ℕ) (bodies : List (List ℕ)) (first e : Made) : Type 0 where
+record Second (f : ℕ) (ls : List Instance) (texts : Texts) (shelf place : ℕ) (bodies : List (List ℕ)) (first e : Made) : Type 0 where
   from : Made
   later : ℕ
   rest : List (List ℕ)
-  is : made_in (with_bodies texts shelf later rest (made from)) ≡ Some e
-  same : entries ls texts shelf place bodies (begun first) ≡ entries ls texts shelf later rest (made from)
+  small : AreAllBytes rest
+  is : made_in (with_bodies_at f texts shelf later rest (made from)) ≡ Some e
+  same : entries f ls texts shelf place bodies (begun first) ≡ entries f ls texts shelf later rest (made from)
+  own : AreOwnFrom f texts shelf place bodies (begun first) → AreOwnFrom f texts shelf later rest (made from)
   which : (from ≡ first) ⊎ ((number : ℕ) × (from ≡ with_drawn number first))
 
-second_is : (ls : List Instance) (texts : Texts) (shelf place : ℕ) (bodies : List (List ℕ)) (first e : Made) → made_in (with_bodies texts shelf place bodies (begun first)) ≡ Some e
-    → Second ls texts shelf place bodies first e
-second_is ls texts shelf place [] first e is = record { from = first; later = place; rest = []; is = is; same = refl; which = inl refl }
-second_is ls texts shelf place (body ∷ bodies) first e is = by_record (read_record body) refl
+second_is : (f : ℕ) (ls : List Instance) (texts : Texts) (shelf place : ℕ) (bodies : List (List ℕ)) (first e : Made) → AreAllBytes bodies
+    → made_in (with_bodies_at f texts shelf place bodies (begun first)) ≡ Some e → Second f ls texts shelf place bodies first e
+second_is f ls texts shelf place [] first e small is =
+    record { from = first; later = place; rest = []; small = tt; is = is; same = refl; own = λ o. tt; which = inl refl }
+second_is f ls texts shelf place (body ∷ bodies) first e small is = by_record (read_record_in f body) refl
   where
-    plainly : (r : Option Record) → read_record body ≡ r → second_by texts place (length body) first r ≡ next_by texts place (length body) first r → Second ls texts shelf place (body ∷ bodies) first e
+    plainly : (r : Option Record) → read_record_in f body ≡ r → second_at f texts place (length body) first r ≡ next_at f texts place (length body) first r
+        → Second f ls texts shelf place (body ∷ bodies) first e
     plainly r read alike =
-        let one : second_by texts place (length body) first (read_record body) ≡ next_by texts place (length body) first (read_record body) =
-        ap (second_by texts place (length body) first) read ∙ (alike ∙ sym (ap (next_by texts place (length body) first) read)) in
+        let one : second_at f texts place (length body) first (read_record_in f body) ≡ next_at f texts place (length body) first (read_record_in f body) =
+        ap (second_at f texts place (length body) first) read ∙ (alike ∙ sym (ap (next_at f texts place (length body) first) read)) in
         record {
           from = first;
           later = place;
           rest = body ∷ bodies;
-          is = ap (λ (x : Making). made_in (with_bodies texts shelf (place + 5 + length body) bodies x)) (sym one) ∙ is;
-          same = ap (λ (x : Making). entry_by ls texts first body (read_record body) ++ entries ls texts shelf (place + 5 + length body) bodies x) one;
+          small = small;
+          is = ap (λ (x : Making). made_in (with_bodies_at f texts shelf (place + 5 + length body) bodies x)) (sym one) ∙ is;
+          same = ap (λ (x : Making). entry_by f ls texts first body (read_record_in f body) ++ entries f ls texts shelf (place + 5 + length body) bodies x) one;
+          own = λ o. (o.0, subst (AreOwnFrom f texts shelf (place + 5 + length body) bodies) one o.1);
           which = inl refl;
         }
 
-    by_record : (r : Option Record) → read_record body ≡ r → Second ls texts shelf place (body ∷ bodies) first e
+    by_record : (r : Option Record) → read_record_in f body ≡ r → Second f ls texts shelf place (body ∷ bodies) first e
     by_record (Some (draws number)) read = record {
       from = with_drawn number first;
       later = place + 5 + length body;
       rest = bodies;
-      is = ap (λ (r : Option Record). made_in (with_bodies texts shelf (place + 5 + length body) bodies (second_by texts place (length body) first r))) (sym read) ∙ is;
-      same = ap (λ (r : Option Record). entry_by ls texts first body r ++ entries ls texts shelf (place + 5 + length body) bodies (second_by texts place (length body) first r)) read;
+      small = small.1;
+      is = ap (λ (r : Option Record). made_in (with_bodies_at f texts shelf (place + 5 + length body) bodies (second_at f texts place (length body) first r))) (sym read) ∙ is;
+      same = ap (λ (r : Option Record). entry_by f ls texts first body r ++ entries f ls texts shelf (place + 5 + length body) bodies (second_at f texts place (length body) first r)) read;
+      own = λ o. subst (λ (r : Option Record). AreOwnFrom f texts shelf (place + 5 + length body) bodies (second_at f texts place (length body) first r)) read o.1;
       which = inr (number, refl);
     }
     by_record None read = plainly None read refl
@@ -96,7 +129,6 @@ first_beside ls shelf n number scripts = record {
   states = λ j i k p found shown. absurd (let no : ⊥ = cc in no);
   first = refl;
   head = refl;
-  lines = refl;
 }
 
 drawn_beside : (ls : List Instance) (shelf n before number : ℕ) (scripts : List Named) → Beside ls (with_drawn before (began shelf n scripts)) (with_drawn number (began shelf n scripts))
@@ -109,7 +141,6 @@ drawn_beside ls shelf n before number scripts = record {
   states = λ j i k p found shown. absurd (let no : ⊥ = cc in no);
   first = refl;
   head = refl;
-  lines = refl;
 }
 
 drawn_orderly : (shelf n number : ℕ) (scripts : List Named) → IsOrderlyMade (plain (with_drawn number (began shelf n scripts)))
@@ -117,79 +148,194 @@ drawn_orderly shelf n number scripts = first_orderly shelf (record (first_file (
 
 -- ---- what copies make
 
-module _ (texts : Texts) (shelf n : ℕ) (scripts : List Named) (m : Made) (es : List Entry) (again : m.book ≡ reopened m.book) where
+module _ (same owned : Type 0) (sure : List ℕ → Type 0) (texts : Texts) (shelf n : ℕ) (scripts : List Named) (m : Made) (es : List Entry) (again : m.book ≡ reopened m.book) where
   abbrev start : Made
   start = with_drawn m.book.logged (began shelf n scripts)
 
   abbrev is : List Instance
   is = m.book.instances
 
-  pub compacted : Walked is texts m es start → IsCompacted m (entries_after (entries_joined es) start)
-  compacted w =
+  -- the book behind the copies is the one that was compacted, but for its length and its file
+  made_again : Walked same owned sure is texts m es start → let k = entries_after (entries_joined es) start in
+      (size : ℕ) (file : File) → k.book.length ≡ size → k.book.file ≡ file → k.book ≡ record m.book { length = size; file = file }
+  made_again w size file size_is file_is =
       let mid = entries_after es start in
       let ts = entries_joined es in
       let k = entries_after ts start in
       let joined = join_entries es start w.taken in
       let like = joined.1.like in
       let h = w.at_end in
-      let g = compaction m.book in
       let whole : mid.book.instances ≡ is = h.instances ∙ all_live is is (λ i e. e) in
+      let logged : k.book.logged ≡ m.book.logged = logged_of_entries sure texts m.book.logged ts start joined.0 (facts_joined sure texts m.book.logged es w.facts) refl in
+      let after : k.book ≡ reopened k.book = (entries_orderly ts start (drawn_orderly shelf n m.book.logged scripts)).again in
+      let parts = parts_same k.book m.book size file (like.shelf ∙ h.shelf) (like.scripts ∙ h.scripts) (like.clock ∙ h.clock) logged size_is file_is (like.instances ∙ whole) in
+      after ∙ (parts ∙ ap (λ (y : Book). record y { length = size; file = file }) (sym again))
+
+  same_states : Walked same owned sure is texts m es start → SameStates is m.earlier (entries_after (entries_joined es) start).earlier
+  same_states w =
+      let mid = entries_after es start in
+      let joined = join_entries es start w.taken in
+      let whole : mid.book.instances ≡ is = w.at_end.instances ∙ all_live is is (λ i e. e) in
+      subst (λ (e : Earlier). SameStates is m.earlier e) (sym joined.1.earlier) (subst (λ (js : List Instance). SameStates js m.earlier mid.earlier) whole w.at_end.states)
+
+  pub compacted : Walked same owned sure is texts m es start → IsMigrated m (entries_after (entries_joined es) start) × (same → IsCompacted m (entries_after (entries_joined es) start))
+  compacted w =
+      let mid = entries_after es start in
+      let ts = entries_joined es in
+      let k = entries_after ts start in
+      let joined = join_entries es start w.taken in
+      let g = compaction m.book in
       let mid_file = file_of_entries es start w.taken in
       let k_file = file_of_entries ts start joined.0 in
-      let lines : map line_of ts ≡ g.lines =
-      lines_joined es ∙ ap last_sweeps (ap (λ (f : File). f.lines) (sym mid_file) ∙ h.lines) in
-      let first : start.book.file.scripts ≡ m.book.file.scripts = ap (λ (f : File). f.scripts) (sym mid_file) ∙ h.first in
-      let head : start.book.file.head ≡ m.book.file.head = ap (λ (f : File). f.head) (sym mid_file) ∙ h.head in
-      let file : k.book.file ≡ g = k_file ∙ (λ i. record { scripts = first i; head = head i; drawn = Some m.book.logged; lines = lines i }) in
-      let size : k.book.length ≡ file_length g =
-      length_of_entries ts start joined.0 ∙ (λ i. (head i + 14) + lines_length (lines i)) in
-      let logged : k.book.logged ≡ m.book.logged = logged_of_entries texts m.book.logged ts start joined.0 (facts_joined texts m.book.logged es w.facts) refl in
-      let after : k.book ≡ reopened k.book = (entries_orderly ts start (drawn_orderly shelf n m.book.logged scripts)).again in
-      let parts = parts_same k.book m.book (file_length g) g (like.shelf ∙ h.shelf) (like.scripts ∙ h.scripts) (like.clock ∙ h.clock) logged size file (like.instances ∙ whole) in
-      record {
-        book = after ∙ (parts ∙ ap (λ (y : Book). record y { length = file_length g; file = g }) (sym again));
-        states =
-            subst (λ (e : Earlier). SameStates is m.earlier e) (sym joined.1.earlier)
-            (subst (λ (js : List Instance). SameStates js m.earlier mid.earlier) whole h.states);
-      }
+      let first : start.book.file.scripts ≡ m.book.file.scripts = ap (λ (f : File). f.scripts) (sym mid_file) ∙ w.at_end.first in
+      let head : start.book.file.head ≡ m.book.file.head = ap (λ (f : File). f.head) (sym mid_file) ∙ w.at_end.head in (
+        record {
+          book = made_again w k.book.length k.book.file refl refl;
+          first = ap (λ (f : File). f.scripts) k_file ∙ first;
+          drawn = ap (λ (f : File). f.drawn) k_file;
+          states = same_states w;
+        },
+        λ (p : same).
+            let lines : map line_of ts ≡ g.lines = lines_joined es ∙ ap last_sweeps (ap (λ (f : File). f.lines) (sym mid_file) ∙ w.lines p) in
+            let file : k.book.file ≡ g = k_file ∙ (λ i. record { scripts = first i; head = head i; drawn = Some m.book.logged; lines = lines i }) in
+            let size : k.book.length ≡ file_length g = length_of_entries ts start joined.0 ∙ (λ i. (head i + 14) + lines_length (lines i)) in
+            record { book = made_again w (file_length g) g size file; states = same_states w },
+      )
 
   pub copied : AreRecordsExact → m.book.logged < numbers_end + 1 → (first : List ℕ) → first_by texts shelf 8 (length first) (read_record first) ≡ begun (began shelf n scripts)
-      → Walked is texts m es start
+      → Walked same owned sure is texts m es start → AreSure sure (map body_in (entries_joined es))
       → made_in (book_of texts shelf (first ∷ (body_of (draws m.book.logged) ∷ map body_in (entries_joined es)))) ≡ Some (entries_after (entries_joined es) start)
-  copied x low first at_first w =
+  copied x low first at_first w all =
       let d = body_of (draws m.book.logged) in
       let p = 8 + 5 + length first in
       let rest = map body_in (entries_joined es) in
-      let facts = facts_joined texts m.book.logged es w.facts in
+      let facts = facts_joined sure texts m.book.logged es w.facts in
       ap (λ (y : Making). made_in (with_bodies texts shelf p (d ∷ rest) y)) at_first
       ∙ (ap (λ (r : Option Record). made_in (with_bodies texts shelf (p + 5 + length d) rest (second_by texts p (length d) (began shelf n scripts) r))) (x.back (draws m.book.logged) low)
-      ∙ ap made_in (bodies_made texts m.book.logged shelf (p + 5 + length d) (entries_joined es) start (join_entries es start w.taken).0 facts))
+      ∙ ap made_in (bodies_made sure texts m.book.logged shelf (p + 5 + length d) (entries_joined es) start (join_entries es start w.taken).0 facts all))
 
-pub copies_make : AreRecordsExact → CopiesMakeTheBook
-copies_make x texts shelf first bodies m bytes makes =
+  -- what holds of each entry that is left holds of each body of the file
+  pub each_copied : AreRecordsExact → m.book.logged < numbers_end + 1 → (first : List ℕ) → first_by texts shelf 8 (length first) (read_record first) ≡ begun (began shelf n scripts)
+      → Walked same owned sure is texts m es start → AreSure sure (map body_in (entries_joined es))
+      → (P : Made → Option Record → Type 0) → ((k : Made) (number : ℕ) → P k (Some (draws number))) → HoldEntries P (entries_joined es) start
+      → OfEach P texts shelf (first ∷ (body_of (draws m.book.logged) ∷ map body_in (entries_joined es)))
+  each_copied x low first at_first w all P drawn held =
+      let d = body_of (draws m.book.logged) in
+      let p = 8 + 5 + length first in
+      let later = p + 5 + length d in
+      let rest = map body_in (entries_joined es) in
+      let back = x.back (draws m.book.logged) low in
+      let behind : with_body texts shelf p d (with_body texts shelf 8 first nothing) ≡ made start =
+      ap (with_body texts shelf p d) at_first ∙ ap (second_by texts p (length d) (began shelf n scripts)) back in
+      let facts = facts_joined sure texts m.book.logged es w.facts in
+      of_each P texts shelf (first ∷ (d ∷ rest)) (
+        λ k none. absurd (let no : ⊥ = cc in no),
+        (
+          λ k is. subst (P k) (sym back) (drawn k m.book.logged),
+          subst (EachFrom P texts shelf later rest) (sym behind)
+              (each_made P texts shelf sure m.book.logged later (entries_joined es) start (join_entries es start w.taken).0 facts all held),
+        ),
+      )
+
+-- the number that a compacted file tells is written in bytes
+cons_small : (b : ℕ) (bytes : List ℕ) → b < 256 → AreBytes bytes → AreBytes (b ∷ bytes)
+cons_small b bytes low small zero = low
+cons_small b bytes low small (suc i) = small i
+
+byte_small : (i n : ℕ) → byte_at i n < 256
+byte_small zero n = omega arith
+byte_small (suc i) n = omega arith
+
+low_first_small : (i count n : ℕ) → AreBytes (bytes_low_first i count n)
+low_first_small i zero n = λ k. omega arith
+low_first_small i (suc count) n = cons_small (byte_at i n) (bytes_low_first (suc i) count n) (byte_small i n) (low_first_small (suc i) count n)
+
+drawn_small : (n : ℕ) → AreBytes (body_of (draws n))
+drawn_small n = cons_small 7 (u64_bytes n) (omega arith) (low_first_small 0 8 n)
+
+-- what is asked of what the first records make
+pub record Starts (shelf n : ℕ) (scripts : List Named) (Has : Made → Type 0) : Type 0 where
+  pub begins : Has (began shelf n scripts)
+  pub drawn : (number : ℕ) → Has (with_drawn number (began shelf n scripts))
+
+-- it holds of the first records behind which bodies of this format make the book
+abbrev pub AtStart : (f : ℕ) → Texts → (shelf n : ℕ) → (e : Made) → (Has : Made → Type 0) → Type 0
+AtStart f texts shelf n e Has =
+    (from : Made) (later : ℕ) (rest : List (List ℕ)) → AreAllBytes rest → made_in (with_bodies_at f texts shelf later rest (made from)) ≡ Some e → Starts shelf n from.book.scripts Has
+
+-- What the bodies of a file of this format that stay make: its book again. Their states are own where those of the file are, none is passed over,
+-- they tell of no other number, and those that are copied are bytes.
+pub record Rewritten (f : ℕ) (same : Type 0) (texts : Texts) (shelf : ℕ) (first : List ℕ) (bodies : List (List ℕ)) (m : Made) : Type 0 where
+  pub k : Made
+  pub makes : made_in (book_of texts shelf (copies f texts shelf first bodies m)) ≡ Some k
+  pub migrated : IsMigrated m k
+  pub compacted : same → IsCompacted m k
+  pub own : AreOwnIn f texts shelf (first ∷ bodies) → AreOwn texts shelf (copies f texts shelf first bodies m)
+  pub landed : AreLanded texts shelf (copies f texts shelf first bodies m)
+  pub seen : (i : ℕ) → Among i k.earlier.seen → Among i m.earlier.seen
+  pub small : same → AreAllBytes (copies f texts shelf first bodies m)
+
+-- so it is of those of whose records this holds
+pub rewritten : AreRecordsExact → (f : ℕ) (same : Type 0) (sure : List ℕ → Type 0) (texts : Texts) (shelf : ℕ) (first : List ℕ) (bodies : List (List ℕ)) (m : Made) (Has : Made → Type 0)
+    → Rewrites f same sure m.book.instances texts m Has → AtStart f texts shelf (length first) m Has
+    → AreAllBytes (first ∷ bodies) → made_in (book_of_format f texts shelf (first ∷ bodies)) ≡ Some m
+    → ((d : List ℕ) (rest : List (List ℕ)) → copies f texts shelf first bodies m ≡ first ∷ (d ∷ rest) → AreSure sure rest)
+    → Rewritten f same texts shelf first bodies m
+rewritten x f same sure texts shelf first bodies m Has r starts bytes makes all =
     let n = length first in
-    let fits = made_fits x texts shelf (first ∷ bodies) m makes in
+    let fits = any_fit x f texts shelf (first ∷ bodies) m makes in
     let is = m.book.instances in
-    let one = first_is texts shelf n (8 + 5 + n) bodies m (read_record first) makes in
-    let scripts = one.0 in
+    let one = first_is f texts shelf n (8 + 5 + n) bodies m (read_record_in f first) makes in
+    let scripts = one.scripts in
     let m0 = began shelf n scripts in
-    let here = ap (λ (y : Making). made_in (with_bodies texts shelf (8 + 5 + n) bodies y)) (sym one.1) ∙ makes in
-    let two = second_is is texts shelf (8 + 5 + n) bodies m0 m here in
+    let here = ap (λ (y : Making). made_in (with_bodies_at f texts shelf (8 + 5 + n) bodies y)) (sym one.is) ∙ makes in
+    let two = second_is f is texts shelf (8 + 5 + n) bodies m0 m bytes.1 here in
     let start = with_drawn m.book.logged m0 in
-    let es = entries is texts shelf two.later two.rest (made two.from) in
+    let es = entries f is texts shelf two.later two.rest (made two.from) in
+    let setup : two.from.book.scripts ≡ scripts = ⊎_elim
+    (λ alike. ap (λ (y : Made). y.book.scripts) alike)
+    (λ (number, alike). ap (λ (y : Made). y.book.scripts) alike)
+    two.which in
+    let started = subst (λ (ss : List Named). Starts shelf n ss Has) setup (starts two.from two.later two.rest two.small two.is) in
     let beside : Beside is two.from start = ⊎_elim
-    (λ same. subst (λ (y : Made). Beside is y start) (sym same) (first_beside is shelf n m.book.logged scripts))
-    (λ (number, same). subst (λ (y : Made). Beside is y start) (sym same) (drawn_beside is shelf n number m.book.logged scripts))
+    (λ alike. subst (λ (y : Made). Beside is y start) (sym alike) (first_beside is shelf n m.book.logged scripts))
+    (λ (number, alike). subst (λ (y : Made). Beside is y start) (sym alike) (drawn_beside is shelf n number m.book.logged scripts))
+    two.which in
+    let lines : HasLines is two.from start = ⊎_elim
+    (λ alike. subst (λ (y : Made). HasLines is y start) (sym alike) refl)
+    (λ (number, alike). subst (λ (y : Made). HasLines is y start) (sym alike) refl)
     two.which in
     let orderly : IsOrderlyMade (plain two.from) = ⊎_elim
-    (λ same. subst (λ (y : Made). IsOrderlyMade (plain y)) (sym same) (first_orderly shelf (first_file (14 + n) scripts)))
-    (λ (number, same). subst (λ (y : Made). IsOrderlyMade (plain y)) (sym same) (drawn_orderly shelf n number scripts))
+    (λ alike. subst (λ (y : Made). IsOrderlyMade (plain y)) (sym alike) (first_orderly shelf (first_file (14 + n) scripts)))
+    (λ (number, alike). subst (λ (y : Made). IsOrderlyMade (plain y)) (sym alike) (drawn_orderly shelf n number scripts))
     two.which in
-    let w : Walked is texts m es start = walk is texts m (λ i none. none_there i is none) shelf two.later two.rest two.from start orderly (drawn_orderly shelf n m.book.logged scripts) beside two.is in
-    let low : m.book.logged < numbers_end + 1 = (let r = (fits.range bytes).drawn in let again : m.book.drawn ≡ m.book.logged = ap (λ (b : Book). b.drawn) fits.again in omega (arith, r, again)) in
-    let same : entries is texts shelf 8 (first ∷ bodies) nothing ≡ es = ap (entries is texts shelf (8 + 5 + n) bodies) one.1 ∙ two.same in (
-      entries_after (entries_joined es) start,
-      ap (λ (ts : List Entry). made_in (book_of texts shelf (first ∷ (body_of (draws m.book.logged) ∷ map body_in (entries_joined ts))))) same
-          ∙ copied texts shelf n scripts m es fits.again x low first one.1 w,
-      compacted texts shelf n scripts m es fits.again w,
-    )
+    let has : Has two.from = ⊎_elim (λ alike. subst Has (sym alike) started.begins) (λ (number, alike). subst Has (sym alike) (started.drawn number)) two.which in
+    let owned : Type 0 = AreOwnFrom f texts shelf two.later two.rest (made two.from) in
+    let w : Walked same owned sure is texts m es start =
+    walk f same sure is texts m Has r (λ i none. none_there i is none) shelf two.later two.rest two.from start two.small orderly has (drawn_orderly shelf n m.book.logged scripts) beside (λ p. lines) two.is in
+    let low : m.book.logged < numbers_end + 1 = (let few = (fits.range bytes).drawn in let again : m.book.drawn ≡ m.book.logged = ap (λ (b : Book). b.drawn) fits.again in omega (arith, few, again)) in
+    let alike : entries f is texts shelf 8 (first ∷ bodies) nothing ≡ es = ap (entries f is texts shelf (8 + 5 + n) bodies) one.is ∙ two.same in
+    let others : copies f texts shelf first bodies m ≡ first ∷ (body_of (draws m.book.logged) ∷ map body_in (entries_joined es)) =
+    ap (λ (ts : List Entry). first ∷ (body_of (draws m.book.logged) ∷ map body_in (entries_joined ts))) alike in
+    let now : first_by texts shelf 8 n (read_record first) ≡ begun m0 =
+    ap (first_by texts shelf 8 n) (alike_now x f first (begins one.on one.named) bytes.0 tt one.read ∙ sym one.read) ∙ one.is in
+    let ts = entries_joined es in
+    let joined = join_entries es start w.taken in
+    let may = all (body_of (draws m.book.logged)) (map body_in ts) others in
+    let whole = compacted same owned sure texts shelf n scripts m es fits.again w in
+    let its_own : AreOwnIn f texts shelf (first ∷ bodies) → owned =
+    λ own. two.own (subst (AreOwnFrom f texts shelf (8 + 5 + n) bodies) one.is (own_from f texts shelf (first ∷ bodies) own [] (first ∷ bodies) 8 nothing refl (λ bs. refl)).1) in
+    record {
+      k = entries_after ts start;
+      makes = ap (λ (bs : List (List ℕ)). made_in (book_of texts shelf bs)) others ∙ copied same owned sure texts shelf n scripts m es fits.again x low first now w may;
+      migrated = whole.0;
+      compacted = whole.1;
+      own = λ own.
+          subst (AreOwn texts shelf) (sym others)
+          (each_copied same owned sure texts shelf n scripts m es fits.again x low first now w may IsOwnRecord (λ y number. tt) (own_joined es start w.taken (w.own (its_own own))));
+      landed =
+          subst (AreLanded texts shelf) (sym others)
+          (each_copied same owned sure texts shelf n scripts m es fits.again x low first now w may IsLandedRecord (λ y number. tt) (landed_entries ts start joined.0));
+      seen = λ i there. w.at_end.seen i (subst (λ (e : Earlier). Among i e.seen) joined.1.earlier there);
+      small = λ p. subst AreAllBytes (sym others) (bytes.0, (drawn_small m.book.logged, small_joined es (w.small p)));
+    }

@@ -35,7 +35,7 @@ whole_redo c n m inside e g h =
 
 -- ---- one record more
 
-own_is_state : (b : Book) (c : Change) (d : Suspended) → own_told b c ≡ told d → state_by b c ≡ Some d
+pub own_is_state : (b : Book) (c : Change) (d : Suspended) → own_told b c ≡ told d → state_by b c ≡ Some d
 own_is_state b c d e = by_state (state_by b c) e
   where
     by_state : (o : Option Suspended) → told_own o ≡ told d → o ≡ Some d

@@ -6,10 +6,10 @@ use Rattle.script_value.specs.declared.outcome.TxName.{TxName}
 use Rattle.script_nodes.specs.Setup.{Named}
 use Rattle.page_journal.specs.Records.{framed, frames}
 use Rattle.page_journal.proofs.Frames.{length-framed, length-at_rest}
-use Rattle.replay_spec.specs.Book.{Instance, Opening, Change, opens, extends, ends, finishes, sweeps, Doubt, renewed, File, Book, instance_at, is_live, reopened}
+use Rattle.replay_spec.specs.Book.{Instance, Opening, Change, opens, extends, ends, finishes, sweeps, Doubt, changed, renewed, File, Book, instance_at, is_live, reopened}
 use Rattle.replay_spec.specs.Rules.{Rules, first_file}
 use Rattle.replay_spec.specs.Change.{mend, root_by, page_by, shown_by, ended_by, fresh, opened_by, instances_by, logged_by, clock_by, longer_by}
-use Rattle.replay_spec.specs.Recovery.{redone, of_length, first_of, used_up}
+use Rattle.replay_spec.specs.Recovery.{redone, of_length, taken_in, first_of, used_up}
 use Rattle.machine_states.specs.Machine.{inside_of}
 use Rattle.replay_spec.specs.Invariant.{Among, Apart}
 use Rattle.replay_spec.specs.Remade.{AreUsed, IsOrderlyMade}
@@ -19,19 +19,21 @@ use Rattle.replay_spec.proofs.Recovered.{made_orderly}
 use Rattle.replay_spec.proofs.Compacted.{line_orderly, first_orderly}
 use Rattle.journal_records.specs.Fields.{numbers_end}
 use Rattle.journal_records.specs.Records.{ChangeFits, Record, begins, changes, renews, draws}
-use Rattle.journal_records.specs.Reading.{read_record}
+use Rattle.journal_records.specs.Old.{newest_format, read_record_in}
 use Rattle.journal_records.specs.Laws.{AreRecordsExact}
 use Rattle.value_bytes.specs.Laws.{AreBytes}
 use Rattle.server_limits.specs.Limits.{most_fuel}
 use Rattle.journal_spec.specs.Before.{nothing_told, Made, plain}
-use Rattle.journal_spec.specs.Retaking.{Told, unread, misread, told, told_in, landing, retaken}
-use Rattle.journal_spec.specs.Making.{Texts, Making, nothing, begun, made, damaged, other, has_script, beside, began, first_setup, first_by, told_next, next_setup, next_by, with_drawn, second_by, with_body, with_bodies, made_in}
+use Rattle.journal_spec.specs.Retaking.{Told, unread, misread, told, landing, retaken}
+use Rattle.journal_spec.specs.Making.{Texts, Making, nothing, begun, made, damaged, other, has_script, beside, began, first_setup, first_by, told_next, next_setup, with_drawn, made_in}
+use Rattle.journal_spec.specs.Lengths.{own_told}
+use Rattle.journal_spec.specs.Old.{told_at, change_next, next_at, second_at, with_body_at, with_bodies_at, format_of_now}
 use Rattle.journal_spec.specs.Opening.{ReadsWhole}
 use Rattle.journal_spec.specs.Whole.{IsWhole, AreWhole}
 use Rattle.journal_spec.specs.Reading.{AreAllBytes}
 use Rattle.journal_spec.specs.Keeping.{IsTakenDoubt}
 use Rattle.journal_spec.specs.Spelling.{IsDoubtInRange}
-use Rattle.journal_spec.specs.Laws.{IsNoBegin, OnlyItsBeginBegins, BodiesMakeFittingBooks}
+use Rattle.journal_spec.specs.Laws.{IsNoBegin, OnlyItsBeginBegins, BodiesMakeFittingBooks, BodiesOfAnyFormatFit}
 use Rattle.journal_spec.proofs.Retaken.{retaken_orderly}
 
 -- scripts of instances are whole
@@ -176,33 +178,47 @@ redone_range : (rules : Rules) (c : Change) (state : Option (List ℕ)) (o : Opt
 redone_range rules c state None b h logged low = (let n = logged_range c state h in omega (arith, n, logged), low)
 redone_range rules c state (Some inside) b h logged low = (let n = logged_range c state h in omega (arith, n, logged), clock_range c state b.clock h low)
 
--- a record that is read, and lands with these names or is passed over
-taken_fits : AreRecordsExact → (all : Type 0) (texts : Texts) (shelf place : ℕ) (body : List ℕ) (m : Made) (c : Change) (state : Option (List ℕ)) (inside : List TxName) (t : Told)
-    → read_record body ≡ Some (changes c state) → (all → AreBytes body) → Fits all texts shelf place m
-    → Fits all texts shelf (place + 5 + length body) (retaken (length body) c (landing m c inside) t m)
-taken_fits x all texts shelf place body m c state inside t e are h =
+-- a record that is read in this format, and lands with these names or is passed over
+taken_fits : AreRecordsExact → (format : ℕ) (all : Type 0) (texts : Texts) (shelf place : ℕ) (body : List ℕ) (m : Made) (c : Change) (state : Option (List ℕ)) (o : Option (List TxName)) (t : Told)
+    → read_record_in format body ≡ Some (changes c state) → (all → AreBytes body) → IsOrderlyMade (plain (retaken (length body) c o t m)) → Fits all texts shelf place m
+    → Fits all texts shelf (place + 5 + length body) (retaken (length body) c o t m)
+taken_fits x format all texts shelf place body m c state o t e are orderly h =
     let n = length body in
-    let o = landing m c inside in
     let rules = redone_scripts (of_length n) c o m.book in
     record {
-      orderly = retaken_orderly n c inside t m h.orderly;
+      orderly = orderly;
       shelf_is = rules.1 ∙ h.shelf_is;
       named = h.named;
       read = h.read ∙ ap (λ (ss : List Named). Some ss) (sym rules.0);
       whole = λ whole. whole_redone (of_length n) c o m.book h.orderly.instances.apart (whole h.named m.book.scripts h.read) (h.whole whole);
-      range = λ bytes. redone_range (of_length n) c state o m.book (x.exact body (changes c state) (are bytes) e).fits (h.range bytes).0 (h.range bytes).1;
+      range = λ bytes. redone_range (of_length n) c state o m.book (x.fits format body (changes c state) (are bytes) e) (h.range bytes).0 (h.range bytes).1;
       long = λ bytes.
           let before = h.long bytes in
           let now : longer_by (of_length n).journal m.book c ≡ m.book.length + (length body + 5) = refl in
           omega (arith, rules.2, now, before);
     }
 
-told_fits : AreRecordsExact → (all : Type 0) (texts : Texts) (shelf place : ℕ) (body : List ℕ) (m : Made) (c : Change) (state : Option (List ℕ)) (t : Told)
-    → read_record body ≡ Some (changes c state) → (all → AreBytes body) → Fits all texts shelf place m
+told_fits : AreRecordsExact → (format : ℕ) (all : Type 0) (texts : Texts) (shelf place : ℕ) (body : List ℕ) (m : Made) (c : Change) (state : Option (List ℕ)) (t : Told)
+    → read_record_in format body ≡ Some (changes c state) → (all → AreBytes body) → Fits all texts shelf place m
     → FitsMaking all texts shelf (place + 5 + length body) (told_next place (length body) m c t)
-told_fits x all texts shelf place body m c state unread e are h = taken_fits x all texts shelf place body m c state [] unread e are h
-told_fits x all texts shelf place body m c state misread e are h = tt
-told_fits x all texts shelf place body m c state (told d) e are h = taken_fits x all texts shelf place body m c state (inside_of d.frames) (told d) e are h
+told_fits x format all texts shelf place body m c state unread e are h =
+    taken_fits x format all texts shelf place body m c state (landing m c []) unread e are (retaken_orderly (length body) c [] unread m h.orderly) h
+told_fits x format all texts shelf place body m c state misread e are h = tt
+told_fits x format all texts shelf place body m c state (told d) e are h =
+    taken_fits x format all texts shelf place body m c state (landing m c (inside_of d.frames)) (told d) e are (retaken_orderly (length body) c (inside_of d.frames) (told d) m h.orderly) h
+
+-- a record of a change, by what its format says of its page's state
+change_fits : AreRecordsExact → (format : ℕ) (all : Type 0) (texts : Texts) (shelf place : ℕ) (body : List ℕ) (m : Made) (c : Change) (state : Option (List ℕ))
+    → read_record_in format body ≡ Some (changes c state) → (all → AreBytes body) → Fits all texts shelf place m
+    → FitsMaking all texts shelf (place + 5 + length body) (change_next format place (length body) m c state)
+change_fits x format all texts shelf place body m c state e are h = by_test (format == 1)
+  where
+    by_test : (t : Bool)
+        → FitsMaking all texts shelf (place + 5 + length body)
+        (if t then made (retaken (length body) c (taken_in (plain m) c) (own_told m.book c) m) else told_next place (length body) m c (told_at format m.earlier m.book c state))
+    by_test true =
+        taken_fits x format all texts shelf place body m c state (taken_in (plain m) c) (own_told m.book c) e are (line_orderly (changed c (length body)) (plain m) h.orderly) h
+    by_test false = told_fits x format all texts shelf place body m c state (told_at format m.earlier m.book c state) e are h
 
 -- a record of another setup
 setup_fits : (all : Type 0) (texts : Texts) (shelf place : ℕ) (body : List ℕ) (m : Made) (named : List (List ℕ × List ℕ)) → Fits all texts shelf place m
@@ -221,56 +237,56 @@ setup_fits all texts shelf place body m named h = by_setup (texts named) refl
       long = λ bytes. let before = h.long bytes in omega (arith, before);
     }
 
-next_fits : AreRecordsExact → (all : Type 0) (texts : Texts) (shelf place : ℕ) (body : List ℕ) (m : Made) (o : Option Record) → read_record body ≡ o → (all → AreBytes body)
-    → Fits all texts shelf place m → FitsMaking all texts shelf (place + 5 + length body) (next_by texts place (length body) m o)
-next_fits x all texts shelf place body m None e are h = tt
-next_fits x all texts shelf place body m (Some (begins s named)) e are h = tt
-next_fits x all texts shelf place body m (Some (draws number)) e are h = tt
-next_fits x all texts shelf place body m (Some (renews named)) e are h = setup_fits all texts shelf place body m named h
-next_fits x all texts shelf place body m (Some (changes c state)) e are h = by_test (has_script (length m.book.scripts) c)
+next_fits : AreRecordsExact → (format : ℕ) (all : Type 0) (texts : Texts) (shelf place : ℕ) (body : List ℕ) (m : Made) (o : Option Record) → read_record_in format body ≡ o → (all → AreBytes body)
+    → Fits all texts shelf place m → FitsMaking all texts shelf (place + 5 + length body) (next_at format texts place (length body) m o)
+next_fits x format all texts shelf place body m None e are h = tt
+next_fits x format all texts shelf place body m (Some (begins s named)) e are h = tt
+next_fits x format all texts shelf place body m (Some (draws number)) e are h = tt
+next_fits x format all texts shelf place body m (Some (renews named)) e are h = setup_fits all texts shelf place body m named h
+next_fits x format all texts shelf place body m (Some (changes c state)) e are h = by_test (has_script (length m.book.scripts) c)
   where
-    by_test : (t : Bool) → FitsMaking all texts shelf (place + 5 + length body) (if t then told_next place (length body) m c (told_in m.earlier m.book c state) else damaged place)
+    by_test : (t : Bool) → FitsMaking all texts shelf (place + 5 + length body) (if t then change_next format place (length body) m c state else damaged place)
     by_test false = tt
-    by_test true = told_fits x all texts shelf place body m c state (told_in m.earlier m.book c state) e are h
+    by_test true = change_fits x format all texts shelf place body m c state e are h
 
 -- a record that tells of a compaction
-drawn_fits : AreRecordsExact → (all : Type 0) (texts : Texts) (shelf place : ℕ) (body : List ℕ) (m : Made) (number : ℕ) → read_record body ≡ Some (draws number) → (all → AreBytes body)
+drawn_fits : AreRecordsExact → (format : ℕ) (all : Type 0) (texts : Texts) (shelf place : ℕ) (body : List ℕ) (m : Made) (number : ℕ) → read_record_in format body ≡ Some (draws number) → (all → AreBytes body)
     → Begins texts shelf place m → Fits all texts shelf (place + 5 + length body) (with_drawn number m)
-drawn_fits x all texts shelf place body m number e are h =
+drawn_fits x format all texts shelf place body m number e are h =
     subst (λ (k : Made). Fits all texts shelf (place + 5 + length body) (with_drawn number k)) (sym h.is)
     (first_file_fits all texts shelf (place + 5 + length body) (record (first_file (14 + h.body) h.scripts) { drawn = Some number }) h.named h.read
-    (λ bytes. let low = (x.exact body (draws number) (are bytes) e).fits in omega (arith, low))
+    (λ bytes. let low = x.fits format body (draws number) (are bytes) e in omega (arith, low))
     (λ bytes.
-    let long : length body ≡ 9 = ap length (x.exact body (draws number) (are bytes) e).spelled in
+    let long : length body ≡ 9 = ap length (x.alike format body (draws number) (are bytes) e tt).spelled in
     let at = h.at in
     omega (arith, long, at)))
 
-second_fits : AreRecordsExact → (all : Type 0) (texts : Texts) (shelf place : ℕ) (body : List ℕ) (m : Made) (o : Option Record) → read_record body ≡ o → (all → AreBytes body)
-    → Begins texts shelf place m → FitsMaking all texts shelf (place + 5 + length body) (second_by texts place (length body) m o)
-second_fits x all texts shelf place body m None e are h = tt
-second_fits x all texts shelf place body m (Some (begins s named)) e are h = tt
-second_fits x all texts shelf place body m (Some (draws number)) e are h = drawn_fits x all texts shelf place body m number e are h
-second_fits x all texts shelf place body m (Some (renews named)) e are h = next_fits x all texts shelf place body m (Some (renews named)) e are (begins_fits all texts shelf place m h)
-second_fits x all texts shelf place body m (Some (changes c state)) e are h = next_fits x all texts shelf place body m (Some (changes c state)) e are (begins_fits all texts shelf place m h)
+second_fits : AreRecordsExact → (format : ℕ) (all : Type 0) (texts : Texts) (shelf place : ℕ) (body : List ℕ) (m : Made) (o : Option Record) → read_record_in format body ≡ o → (all → AreBytes body)
+    → Begins texts shelf place m → FitsMaking all texts shelf (place + 5 + length body) (second_at format texts place (length body) m o)
+second_fits x format all texts shelf place body m None e are h = tt
+second_fits x format all texts shelf place body m (Some (begins s named)) e are h = tt
+second_fits x format all texts shelf place body m (Some (draws number)) e are h = drawn_fits x format all texts shelf place body m number e are h
+second_fits x format all texts shelf place body m (Some (renews named)) e are h = next_fits x format all texts shelf place body m (Some (renews named)) e are (begins_fits all texts shelf place m h)
+second_fits x format all texts shelf place body m (Some (changes c state)) e are h = next_fits x format all texts shelf place body m (Some (changes c state)) e are (begins_fits all texts shelf place m h)
 
-one_fits : AreRecordsExact → (all : Type 0) (texts : Texts) (shelf place : ℕ) (body : List ℕ) (m : Making) → (all → AreBytes body) → FitsMaking all texts shelf place m
-    → FitsMaking all texts shelf (place + 5 + length body) (with_body texts shelf place body m)
-one_fits x all texts shelf place body nothing are h =
-    subst (λ (p : ℕ). FitsMaking all texts shelf (p + 5 + length body) (with_body texts shelf p body nothing)) (sym h) (first_fits all texts shelf body (read_record body))
-one_fits x all texts shelf place body (begun m) are h = second_fits x all texts shelf place body m (read_record body) refl are h
-one_fits x all texts shelf place body (made m) are h = next_fits x all texts shelf place body m (read_record body) refl are h
-one_fits x all texts shelf place body (damaged p) are h = tt
-one_fits x all texts shelf place body (other p) are h = tt
+one_fits : AreRecordsExact → (format : ℕ) (all : Type 0) (texts : Texts) (shelf place : ℕ) (body : List ℕ) (m : Making) → (all → AreBytes body) → FitsMaking all texts shelf place m
+    → FitsMaking all texts shelf (place + 5 + length body) (with_body_at format texts shelf place body m)
+one_fits x format all texts shelf place body nothing are h =
+    subst (λ (p : ℕ). FitsMaking all texts shelf (p + 5 + length body) (with_body_at format texts shelf p body nothing)) (sym h) (first_fits all texts shelf body (read_record_in format body))
+one_fits x format all texts shelf place body (begun m) are h = second_fits x format all texts shelf place body m (read_record_in format body) refl are h
+one_fits x format all texts shelf place body (made m) are h = next_fits x format all texts shelf place body m (read_record_in format body) refl are h
+one_fits x format all texts shelf place body (damaged p) are h = tt
+one_fits x format all texts shelf place body (other p) are h = tt
 
-all_fit : AreRecordsExact → (all : Type 0) (texts : Texts) (shelf place : ℕ) (bodies : List (List ℕ)) (m : Making) → (all → AreAllBytes bodies) → FitsMaking all texts shelf place m
-    → FitsMaking all texts shelf (place + length (frames bodies)) (with_bodies texts shelf place bodies m)
-all_fit x all texts shelf place [] m are h = let same : place ≡ place + 0 = omega arith in subst (λ (p : ℕ). FitsMaking all texts shelf p m) same h
-all_fit x all texts shelf place (body ∷ bodies) m are h =
+all_fit : AreRecordsExact → (format : ℕ) (all : Type 0) (texts : Texts) (shelf place : ℕ) (bodies : List (List ℕ)) (m : Making) → (all → AreAllBytes bodies) → FitsMaking all texts shelf place m
+    → FitsMaking all texts shelf (place + length (frames bodies)) (with_bodies_at format texts shelf place bodies m)
+all_fit x format all texts shelf place [] m are h = let same : place ≡ place + 0 = omega arith in subst (λ (p : ℕ). FitsMaking all texts shelf p m) same h
+all_fit x format all texts shelf place (body ∷ bodies) m are h =
     let same : place + 5 + length body + length (frames bodies) ≡ place + length (frames (body ∷ bodies)) = omega (arith, length-append (framed body) (frames bodies), length-framed body) in
-    let rest = with_bodies texts shelf place (body ∷ bodies) m in
+    let rest = with_bodies_at format texts shelf place (body ∷ bodies) m in
     subst (λ (p : ℕ). FitsMaking all texts shelf p rest) same
-    (all_fit x all texts shelf (place + 5 + length body) bodies (with_body texts shelf place body m) (λ bytes. (are bytes).1)
-    (one_fits x all texts shelf place body m (λ bytes. (are bytes).0) h))
+    (all_fit x format all texts shelf (place + 5 + length body) bodies (with_body_at format texts shelf place body m) (λ bytes. (are bytes).1)
+    (one_fits x format all texts shelf place body m (λ bytes. (are bytes).0) h))
 
 made_so : (all : Type 0) (texts : Texts) (shelf place : ℕ) (x : Making) (m : Made) → made_in x ≡ Some m → FitsMaking all texts shelf place x → Fits all texts shelf place m
 made_so all texts shelf place nothing m is h = absurd (let no : ⊥ = cc in no)
@@ -288,10 +304,10 @@ all_used b seen counted n there x = let low = counted n there in ⊎_elim (λ no
 any_rules : Rules
 any_rules = record { fuel = most_fuel; life = 0; instances = 0; pages = 0; journal = None }
 
-pub made_fits : AreRecordsExact → BodiesMakeFittingBooks
-made_fits x texts shelf bodies m is =
+pub any_fit : AreRecordsExact → BodiesOfAnyFormatFit
+any_fit x format texts shelf bodies m is =
     let h : Fits (AreAllBytes bodies) texts shelf (8 + length (frames bodies)) m =
-    made_so (AreAllBytes bodies) texts shelf (8 + length (frames bodies)) _ m is (all_fit x (AreAllBytes bodies) texts shelf 8 bodies nothing (λ bytes. bytes) refl) in
+    made_so (AreAllBytes bodies) texts shelf (8 + length (frames bodies)) _ m is (all_fit x format (AreAllBytes bodies) texts shelf 8 bodies nothing (λ bytes. bytes) refl) in
     record {
       again = h.orderly.again;
       shelf_is = h.shelf_is;
@@ -311,3 +327,6 @@ made_fits x texts shelf bodies m is =
       };
       long = λ bytes fits. let size = length-at_rest bodies in let l = h.long bytes in omega (arith, l, size);
     }
+
+pub made_fits : AreRecordsExact → BodiesMakeFittingBooks
+made_fits x texts shelf bodies m is = any_fit x newest_format texts shelf bodies m (ap made_in (format_of_now texts shelf bodies) ∙ is)

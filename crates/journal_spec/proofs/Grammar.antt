@@ -100,13 +100,13 @@ numbers_fit b k m g drawn (p, at) gone can n within low = (
 )
 
 -- how long the parts of a page are
-record Lengths (p : Page) : Type 0 where
-  effects : length (effects_bytes p.effects) ≤ length (page_bytes p)
-  left : length (names_bytes p.left) ≤ length (page_bytes p)
-  evicted : length (list_bytes u64_bytes p.evicted) ≤ length (page_bytes p)
-  state : length p.state ≤ length (page_bytes p)
+pub record Lengths (p : Page) : Type 0 where
+  pub effects : length (effects_bytes p.effects) ≤ length (page_bytes p)
+  pub left : length (names_bytes p.left) ≤ length (page_bytes p)
+  pub evicted : length (list_bytes u64_bytes p.evicted) ≤ length (page_bytes p)
+  pub state : length p.state ≤ length (page_bytes p)
 
-page_long : (p : Page) → Lengths p
+pub page_long : (p : Page) → Lengths p
 page_long p =
     let seven = list_bytes u64_bytes p.evicted ++ byte_string p.state in
     let six = u64_bytes p.deadline ++ seven in

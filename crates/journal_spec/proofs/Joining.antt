@@ -1,6 +1,7 @@
 -- Of sweeps that stand together the last one makes the same.
 use Rattle.std.proofs.Common.{◌≡◌, ℕ, ◌+◌, ◌≤◌, ◌<◌, max, List, [], ◌∷◌, ◌++◌, map, length, Option, Some, None, Bool, true, false, refl, sym, ap, subst, ◌∙◌, arith, if◌then◌else◌, append_assoc}
 use Rattle.std.specs.Prelude.{◌&&◌, nat_lt}
+use Rattle.std.specs.List.{AllByRecursion}
 use Rattle.std.proofs.lemmas.List.{append-nil}
 use Rattle.std.proofs.lemmas.Bool.Decides.{nat_tests}
 use Rattle.script_value.specs.declared.outcome.TxName.{TxName}
@@ -40,7 +41,7 @@ told_bare earlier b (ends e) state = refl
 told_bare earlier b (finishes f) state = refl
 told_bare earlier b (sweeps tick) state = refl
 
-told_like : (m k : Made) (c : Change) (state : Option (List ℕ)) → Alike m k → told_in k.earlier k.book c state ≡ told_in m.earlier m.book c state
+pub told_like : (m k : Made) (c : Change) (state : Option (List ℕ)) → Alike m k → told_in k.earlier k.book c state ≡ told_in m.earlier m.book c state
 told_like m k c state h =
     told_bare k.earlier k.book c state
     ∙ (ap (λ (b : Book). told_in k.earlier b c state) (bare_like k.book m.book h.like)
@@ -67,7 +68,7 @@ then_is : (m : Made) (c : Change) (state : Option (List ℕ)) (body : List ℕ) 
 then_is m c state body x names is f =
     ap (λ (y : Told). retaken (length body) c (landing m c (inside_told y)) y m) is ∙ ap (λ (o : Option (List TxName)). retaken (length body) c o x m) f
 
-alike_entry : (e : Entry) (m k : Made) → IsTakenEntry m e → Alike m k → IsTakenEntry k e × Alike (then_entry e m) (then_entry e k)
+pub alike_entry : (e : Entry) (m k : Made) → IsTakenEntry m e → Alike m k → IsTakenEntry k e × Alike (then_entry e m) (then_entry e k)
 alike_entry (settles scripts body) m k taken h = (
   tt,
   record { like = record { shelf = h.like.shelf; scripts = refl; clock = h.like.clock; instances = h.like.instances }; earlier = h.earlier },
@@ -90,7 +91,7 @@ alike_entries (e ∷ es) m k taken h =
     ((one.0, rest.0), rest.1)
 
 -- a sweep directly before another one makes no difference
-sweep_skips : (s t : ℕ) (p q : Option (List ℕ)) (a b : List ℕ) (m : Made) → IsTakenEntry m (tells (sweeps s) p a) → IsTakenEntry (then_entry (tells (sweeps s) p a) m) (tells (sweeps t) q b)
+pub sweep_skips : (s t : ℕ) (p q : Option (List ℕ)) (a b : List ℕ) (m : Made) → IsTakenEntry m (tells (sweeps s) p a) → IsTakenEntry (then_entry (tells (sweeps s) p a) m) (tells (sweeps t) q b)
     → IsTakenEntry m (tells (sweeps t) q b) × Alike (then_entry (tells (sweeps t) q b) (then_entry (tells (sweeps s) p a) m)) (then_entry (tells (sweeps t) q b) m)
 sweep_skips s t p q a b m (inside, (e, sure)) (names, (f, surely)) =
     let first = retaken (length a) (sweeps s) (Some inside) unread m in
@@ -137,17 +138,18 @@ join_entries (e ∷ es) m taken = join_ahead e (entries_joined es) m (entries_af
 
 -- ---- what else joined entries have
 
-facts_ahead : (texts : Texts) (top : ℕ) (e : Entry) (es : List Entry) → IsReadEntry texts e × IsBelowEntry top e → AreFacts texts top es → AreFacts texts top (entry_ahead e es)
-facts_ahead texts top e [] one all = (one, tt)
-facts_ahead texts top e (f ∷ es) one all = by_test (is_sweep (line_of e) && is_sweep (line_of f))
+facts_ahead : (sure : List ℕ → Type 0) (texts : Texts) (top : ℕ) (e : Entry) (es : List Entry) → IsReadEntry sure texts e × IsBelowEntry top e → AreFacts sure texts top es
+    → AreFacts sure texts top (entry_ahead e es)
+facts_ahead sure texts top e [] one all = (one, tt)
+facts_ahead sure texts top e (f ∷ es) one all = by_test (is_sweep (line_of e) && is_sweep (line_of f))
   where
-    by_test : (t : Bool) → AreFacts texts top (if t then f ∷ es else e ∷ f ∷ es)
+    by_test : (t : Bool) → AreFacts sure texts top (if t then f ∷ es else e ∷ f ∷ es)
     by_test true = all
     by_test false = (one, all)
 
-pub facts_joined : (texts : Texts) (top : ℕ) (es : List Entry) → AreFacts texts top es → AreFacts texts top (entries_joined es)
-facts_joined texts top [] h = tt
-facts_joined texts top (e ∷ es) h = facts_ahead texts top e (entries_joined es) h.0 (facts_joined texts top es h.1)
+pub facts_joined : (sure : List ℕ → Type 0) (texts : Texts) (top : ℕ) (es : List Entry) → AreFacts sure texts top es → AreFacts sure texts top (entries_joined es)
+facts_joined sure texts top [] h = tt
+facts_joined sure texts top (e ∷ es) h = facts_ahead sure texts top e (entries_joined es) h.0 (facts_joined sure texts top es h.1)
 
 lines_ahead : (e : Entry) (es : List Entry) → map line_of (entry_ahead e es) ≡ ahead_of (line_of e) (map line_of es)
 lines_ahead e [] = refl
@@ -189,14 +191,14 @@ length_of_entries (tells c state body ∷ es) k ((names, (f, sure)), taken) =
     ap (λ (x : Made). x.book.length) (then_is k c state body (told_in k.earlier k.book c state) names refl f) in
     omega (arith, rest, one)
 
-pub logged_of_entries : (texts : Texts) (top : ℕ) (es : List Entry) (k : Made) → AreTakenEntries es k → AreFacts texts top es → k.book.logged ≡ top → (entries_after es k).book.logged ≡ top
-logged_of_entries texts top [] k taken facts is = is
-logged_of_entries texts top (settles scripts body ∷ es) k taken facts is = logged_of_entries texts top es (then_entry (settles scripts body) k) taken.1 facts.1 is
-logged_of_entries texts top (tells c state body ∷ es) k ((names, (f, sure)), taken) facts is =
+pub logged_of_entries : (sure : List ℕ → Type 0) (texts : Texts) (top : ℕ) (es : List Entry) (k : Made) → AreTakenEntries es k → AreFacts sure texts top es → k.book.logged ≡ top → (entries_after es k).book.logged ≡ top
+logged_of_entries sure texts top [] k taken facts is = is
+logged_of_entries sure texts top (settles scripts body ∷ es) k taken facts is = logged_of_entries sure texts top es (then_entry (settles scripts body) k) taken.1 facts.1 is
+logged_of_entries sure texts top (tells c state body ∷ es) k ((names, (f, told_so)), taken) facts is =
     let one : (then_entry (tells c state body) k).book.logged ≡ max k.book.logged (logged_by c) =
     ap (λ (x : Made). x.book.logged) (then_is k c state body (told_in k.earlier k.book c state) names refl f) in
     let less : logged_by c ≤ top = facts.0.1 in
-    logged_of_entries texts top es (then_entry (tells c state body) k) taken facts.1 (omega (arith, one, is, less))
+    logged_of_entries sure texts top es (then_entry (tells c state body) k) taken facts.1 (omega (arith, one, is, less))
 
 -- ---- bodies of entries make what the entries make
 
@@ -205,17 +207,23 @@ next_told place n k c unread sure = refl
 next_told place n k c misread sure = absurd (sure refl)
 next_told place n k c (told d) sure = refl
 
-pub bodies_made : (texts : Texts) (top shelf place : ℕ) (es : List Entry) (k : Made) → AreTakenEntries es k → AreFacts texts top es
-    → with_bodies texts shelf place (map body_in es) (made k) ≡ made (entries_after es k)
-bodies_made texts top shelf place [] k taken facts = refl
-bodies_made texts top shelf place (settles scripts body ∷ es) k taken (((named, (read, is)), below), facts) =
-    let n = length body in
-    let next : with_body texts shelf place body (made k) ≡ made (then_entry (settles scripts body) k) = ap (next_by texts place n k) read ∙ ap (next_setup place n k) is in
-    ap (with_bodies texts shelf (place + 5 + n) (map body_in es)) next ∙ bodies_made texts top shelf (place + 5 + n) es (then_entry (settles scripts body) k) taken.1 facts
-bodies_made texts top shelf place (tells c state body ∷ es) k ((names, (f, sure)), taken) ((read, below), facts) =
+-- each of these bodies may be written
+abbrev pub AreSure : (sure : List ℕ → Type 0) → List (List ℕ) → Type 0
+AreSure sure bodies = AllByRecursion sure bodies
+
+pub entry_made : (sure : List ℕ → Type 0) (texts : Texts) (shelf place : ℕ) (e : Entry) (k : Made) → IsTakenEntry k e → IsReadEntry sure texts e → sure (body_in e)
+    → with_body texts shelf place (body_in e) (made k) ≡ made (then_entry e k)
+entry_made sure texts shelf place (settles scripts body) k taken (named, (read, is)) may = ap (next_by texts place (length body) k) read ∙ ap (next_setup place (length body) k) is
+entry_made sure texts shelf place (tells c state body) k (names, (f, told_so)) read may =
     let n = length body in
     let x = told_in k.earlier k.book c state in
     let has : has_script (length k.book.scripts) c ≡ true = held_script k.book c (inside_told x) names (landing_is k c (inside_told x) names f).0 in
-    let next : with_body texts shelf place body (made k) ≡ made (then_entry (tells c state body) k) =
-    ap (next_by texts place n k) read ∙ (ap (λ (t : Bool). if t then told_next place n k c x else damaged place) has ∙ next_told place n k c x sure) in
-    ap (with_bodies texts shelf (place + 5 + n) (map body_in es)) next ∙ bodies_made texts top shelf (place + 5 + n) es (then_entry (tells c state body) k) taken facts
+    ap (next_by texts place n k) (read may) ∙ (ap (λ (t : Bool). if t then told_next place n k c x else damaged place) has ∙ next_told place n k c x told_so)
+
+pub bodies_made : (sure : List ℕ → Type 0) (texts : Texts) (top shelf place : ℕ) (es : List Entry) (k : Made) → AreTakenEntries es k → AreFacts sure texts top es → AreSure sure (map body_in es)
+    → with_bodies texts shelf place (map body_in es) (made k) ≡ made (entries_after es k)
+bodies_made sure texts top shelf place [] k taken facts all = refl
+bodies_made sure texts top shelf place (e ∷ es) k taken facts all =
+    let later = place + 5 + length (body_in e) in
+    ap (with_bodies texts shelf later (map body_in es)) (entry_made sure texts shelf place e k taken.0 facts.0.0 all.0)
+    ∙ bodies_made sure texts top shelf later es (then_entry e k) taken.1 facts.1 all.1

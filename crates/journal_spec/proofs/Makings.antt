@@ -11,6 +11,7 @@ use Rattle.journal_records.specs.Laws.{AreRecordsExact}
 use Rattle.journal_spec.specs.Before.{Made}
 use Rattle.journal_spec.specs.Retaking.{Told, told_in}
 use Rattle.journal_spec.specs.Making.{Texts, Making, nothing, begun, made, damaged, other, has_script, began, first_setup, first_by, told_next, next_setup, next_by, second_by, with_body, with_bodies, made_in, book_of}
+use Rattle.journal_spec.specs.Old.{with_body_at, with_bodies_at}
 use Rattle.journal_spec.specs.Opening.{IsRead, first_body, renewal_body}
 use Rattle.journal_spec.specs.Keeping.{body_by}
 
@@ -26,6 +27,17 @@ with_push texts shelf place (first ∷ bodies) body m =
     let rest = with_bodies texts shelf (place + 5 + length first) bodies (with_body texts shelf place first m) in
     with_push texts shelf (place + 5 + length first) bodies body (with_body texts shelf place first m)
     ∙ ap (λ (n : ℕ). with_body texts shelf n body rest) (behind_first place first bodies)
+
+pub with_push_at : (format : ℕ) (texts : Texts) (shelf place : ℕ) (bodies : List (List ℕ)) (body : List ℕ) (m : Making)
+    → with_bodies_at format texts shelf place (bodies ++ body ∷ []) m
+    ≡ with_body_at format texts shelf (place + length (frames bodies)) body (with_bodies_at format texts shelf place bodies m)
+with_push_at format texts shelf place [] body m =
+    let same : place ≡ place + 0 = omega arith in
+    ap (λ (n : ℕ). with_body_at format texts shelf n body m) same
+with_push_at format texts shelf place (first ∷ bodies) body m =
+    let rest = with_bodies_at format texts shelf (place + 5 + length first) bodies (with_body_at format texts shelf place first m) in
+    with_push_at format texts shelf (place + 5 + length first) bodies body (with_body_at format texts shelf place first m)
+    ∙ ap (λ (n : ℕ). with_body_at format texts shelf n body rest) (behind_first place first bodies)
 
 -- behind a book the record of a change, and that of a setup, does not ask whether the book is the first record's
 next_made : (texts : Texts) (shelf place : ℕ) (body : List ℕ) (x : Making) (m : Made) (r : Record) → made_in x ≡ Some m → read_record body ≡ Some r

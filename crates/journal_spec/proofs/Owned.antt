@@ -112,7 +112,7 @@ before_rises s w (suc n) h (q ∷ qs) = by_state (state_over s.script t) refl
     by_state (Some p) e = (kept_shadows (arena_of s.script) w.script t p (is_state_over s.script t p e)).rise
 
 -- and each cell that it binds is bound behind it
-before_binds : (s : Named) → IsWhole s → (links : ℕ) (h : Home) (qs : List Page) (y : Answer) (d : Suspended) → state_over s.script (tape_of h qs y) ≡ Some d
+pub before_binds : (s : Named) → IsWhole s → (links : ℕ) (h : Home) (qs : List Page) (y : Answer) (d : Suspended) → state_over s.script (tape_of h qs y) ≡ Some d
     → BindsBefore (behind_at links (chain_tape h qs >>= state_over s.script)) d
 before_binds s w zero h qs y d e = tt
 before_binds s w (suc n) h [] y d e = tt

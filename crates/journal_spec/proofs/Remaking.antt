@@ -33,6 +33,7 @@ use Rattle.journal_spec.specs.Retaking.{Told, unread, misread, told, if_held, he
 use Rattle.journal_spec.specs.Lengths.{state_over, told_own, own_told}
 use Rattle.journal_spec.specs.Whole.{IsWhole, HasWholeScripts}
 use Rattle.journal_spec.proofs.Owned.{visit_state, names_cells}
+use Rattle.journal_spec.proofs.Telling.{IsQuiet}
 
 and_parts : (a b : Bool) → (a && b) ≡ true → (a ≡ true) × (b ≡ true)
 and_parts true b h = (refl, h)
@@ -52,7 +53,7 @@ effect_means (set c v) (add d n) h = absurd (let no : ⊥ = cc in no)
 effect_means (add c m) (read d w) h = absurd (let no : ⊥ = cc in no)
 effect_means (add c m) (set d w) h = absurd (let no : ⊥ = cc in no)
 
-effects_mean : (ds es : List Effect) → are_effects ds es ≡ true → ds ≡ es
+pub effects_mean : (ds es : List Effect) → are_effects ds es ≡ true → ds ≡ es
 effects_mean [] [] h = refl
 effects_mean [] (e ∷ es) h = absurd (let no : ⊥ = cc in no)
 effects_mean (d ∷ ds) [] h = absurd (let no : ⊥ = cc in no)
@@ -91,7 +92,7 @@ visit_held v fuel cs inside w sized =
 
 -- what a record lands with by its state is what it lands with by its script
 abbrev pub Agrees : Book → Change → (inside : List TxName) → Told → Type 0
-Agrees b c inside unread = (held b c [] ≡ Some []) × (inside ≡ [])
+Agrees b c inside unread = (held b c [] ≡ Some []) × (inside ≡ []) × IsQuiet c
 Agrees b c inside misread = ⊥
 Agrees b c inside (told d) = (held b c inside ≡ Some inside) × (inside_of d.frames ≡ inside)
 
@@ -139,10 +140,10 @@ remade_agrees u b (extends x) inside whole g e =
 remade_agrees u b (spec.ends x) inside whole g e =
     let at = came_from (page_of_numbers b x.instance x.page) _ inside e in
     let w = when_is (are_on (length at.0.instance.cells) x.effects && hold_over x.effects at.0.instance.cells) [] inside at.1.1 in
-    (ap (λ (o : Option Place). o >>= (λ z. if_held x.effects z.instance.cells [])) at.1.0 ∙ passes (are_on (length at.0.instance.cells) x.effects && hold_over x.effects at.0.instance.cells) [] w.0, sym w.1)
+    (ap (λ (o : Option Place). o >>= (λ z. if_held x.effects z.instance.cells [])) at.1.0 ∙ passes (are_on (length at.0.instance.cells) x.effects && hold_over x.effects at.0.instance.cells) [] w.0, sym w.1, tt)
 remade_agrees u b (spec.finishes x) inside whole g e =
     let at = came_from (page_of_numbers b x.instance x.page) _ inside e in
     let w = when_is (are_on (length at.0.instance.cells) x.effects && hold_over x.effects at.0.instance.cells) [] inside at.1.1 in
-    (ap (λ (o : Option Place). o >>= (λ z. if_held x.effects z.instance.cells [])) at.1.0 ∙ passes (are_on (length at.0.instance.cells) x.effects && hold_over x.effects at.0.instance.cells) [] w.0, sym w.1)
+    (ap (λ (o : Option Place). o >>= (λ z. if_held x.effects z.instance.cells [])) at.1.0 ∙ passes (are_on (length at.0.instance.cells) x.effects && hold_over x.effects at.0.instance.cells) [] w.0, sym w.1, tt)
 remade_agrees u b (sweeps tick) inside whole g e =
-    let w = when_is (nat_lt b.clock tick) [] inside e in (passes (nat_lt b.clock tick) [] w.0, sym w.1)
+    let w = when_is (nat_lt b.clock tick) [] inside e in (passes (nat_lt b.clock tick) [] w.0, sym w.1, tt)

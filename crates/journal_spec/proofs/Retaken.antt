@@ -73,3 +73,15 @@ retaken_orderly n c inside x m h = record {
       subst (λ (l : ℕ). k < l) same (((made_orderly (of_length n)).1 c p h).counted k there);
   again = refl;
 }
+
+-- so is what a record that is passed over makes
+pub passed_orderly : (n : ℕ) (c : Change) (x : Told) (m : Made) → IsOrderlyMade (plain m) → IsOrderlyMade (plain (retaken n c None x m))
+passed_orderly n c x m h = record {
+  instances =
+      orderly_less (Unseen m.earlier.seen) (Unseen (with_number (number_in c) m.earlier.seen)) m.book.instances (λ k y. (more_seen c m.earlier.seen k y).0) h.instances;
+  counted = λ k there.
+      let p = plain m in
+      let same = redone_logged (of_length n) c (taken_in p c) m.book ∙ sym (redone_logged (of_length n) c None m.book) in
+      subst (λ (l : ℕ). k < l) same (((made_orderly (of_length n)).1 c p h).counted k there);
+  again = refl;
+}

@@ -1,11 +1,11 @@
 -- How a disk goes on to stand for a book, by the calls of a journal.
-use Rattle.std.proofs.Common.{◌≡◌, refl, inl, inr, ⊎_elim, ℕ, ◌≤◌, List, [], ◌++◌, Option, Some, None, sym, ◌∙◌, ap, subst, arith}
-use Rattle.std.proofs.lemmas.List.{append-nil}
+use Rattle.std.proofs.Common.{◌≡◌, refl, inl, inr, ⊎_elim, ℕ, ◌≤◌, true, List, Option, Some, None, sym, ◌∙◌, ap, subst, arith}
 use Rattle.std.proofs.lemmas.Option.{same_Some}
 use Rattle.script_nodes.specs.Setup.{Named}
 use Rattle.web_disk.specs.View.{View, NoNewImage, Elapses, LeavesOnly}
 use Rattle.web_disk.proofs.Moments.{started, goes_on}
-use Rattle.page_journal.specs.Holding.{IsClosed, MayHold, MayHoldNowAndThroughout, ClosedNowAndThroughout}
+use Rattle.page_journal.specs.Records.{newest, is_format}
+use Rattle.page_journal.specs.Holding.{IsClosed, MayHoldNowAndThroughout, ClosedNowAndThroughout, EitherNowAndThroughout}
 use Rattle.page_journal.specs.Settled.{IsSettled, view_of, bodies_in}
 use Rattle.page_journal.specs.declared.journal.Journal.{Journal}
 use Rattle.page_journal.proofs.Holds.{settled_images}
@@ -14,9 +14,10 @@ use Rattle.replay_spec.specs.Book.{Doubt, Book, reopened}
 use Rattle.replay_spec.specs.Step.{kept, recovered}
 use Rattle.journal_spec.specs.Before.{Earlier, Made, made_of}
 use Rattle.replay_spec.specs.Recovery.{of_length}
-use Rattle.journal_spec.specs.Making.{Texts, Making, nothing, begun, made, damaged, other, made_in, book_in_bytes}
+use Rattle.journal_spec.specs.Making.{Texts, Making, nothing, begun, made, damaged, other, made_in}
+use Rattle.journal_spec.specs.Bytes.{book_in_bytes}
 use Rattle.journal_spec.specs.Opening.{opened_book, opened_on}
-use Rattle.journal_spec.specs.Standing.{Makes, MakesIn, IsFoundOne, IsOneOf, HasRoom, Between, Hold, Held, HeldOpened, if_kept, Stands, Throughout, ThroughoutFrom, StaysThroughout, OpensThroughout}
+use Rattle.journal_spec.specs.Standing.{MakesOf, MakesIn, Flight, still, adds, puts, IsFoundOne, IsOneOf, HasRoom, Between, Carries, Hold, Held, HeldOpened, if_kept, Stands, Throughout, ThroughoutFrom, StaysThroughout, OpensThroughout}
 use Rattle.journal_spec.proofs.Between.{make_books, stand_alike}
 
 -- a moment that is over leaves what a crash now may leave
@@ -39,9 +40,17 @@ any_less v0 v1 P Q more run = record {
 }
 
 -- what stands closed is held, whatever may be in flight
-pub closed_holds : (bodies : List (List ℕ)) (more : Option (List ℕ)) (image : List ℕ) → IsClosed bodies image → Hold bodies more image
-closed_holds bodies None image closed = closed
-closed_holds bodies (Some body) image closed = inl closed
+pub closed_holds : (f : ℕ) (bodies : List (List ℕ)) (t : Flight) (image : List ℕ) → IsClosed f bodies image → Hold f bodies t image
+closed_holds f bodies still image closed = closed
+closed_holds f bodies (adds body) image closed = inl closed
+closed_holds f bodies (puts e others) image closed = inl closed
+
+-- what may hold the bodies of the one may hold those of the other, where these are the same
+pub carried : {texts : Texts} {shelf : ℕ} {a b : Book} (f : ℕ) (bodies : List (List ℕ)) (t : Flight) (k : Between texts shelf a b) → Carries f bodies t k
+    → (image : List ℕ) → Hold f bodies t image → Held k image
+carried f bodies t k c image h =
+    subst (λ (n : ℕ). Hold n k.bodies k.flight image) (sym c.format)
+    (subst (λ (bs : List (List ℕ)). Hold f bs k.flight image) (sym c.bodies_are) (subst (λ (u : Flight). Hold f bodies u image) (sym c.flight_is) h))
 
 -- a call of the shelf that makes none of the disk, or one that leaves no new image
 pub stays : (texts : Texts) (shelf : ℕ) (b : Book) (v : View) → OnlyNow v → (s : Stands texts shelf v b) → Throughout texts shelf b (if_kept s.0 b) v v
@@ -56,34 +65,47 @@ stays_then texts shelf b v0 v1 only_now s no_new time =
 pub stands_then : (texts : Texts) (shelf : ℕ) (b : Book) (v0 v1 : View) → (s : Stands texts shelf v0 b) → NoNewImage v0 v1 → (t : Stands texts shelf v1 b) × (t.0 ≡ s.0)
 stands_then texts shelf b v0 v1 s no_new = ((s.0, (s.1.0, λ image left. s.1.1 image (no_new image left))), refl)
 
--- a run behind a call that leaves no new image, on a journal's file
-pub after_quiet : (bodies : List (List ℕ)) (texts : Texts) (shelf : ℕ) (before after : Book) (v0 v1 v2 : View) → OnlyNow v0 → ((image : List ℕ) → v0.images image → IsClosed bodies image)
-    → NoNewImage v0 v1 → Elapses v0 v1 → ThroughoutFrom bodies texts shelf before after v1 v2 → ThroughoutFrom bodies texts shelf before after v0 v2
-after_quiet bodies texts shelf before after v0 v1 v2 only_now closed no_new time t =
-    let k = t.0 in
+-- a run behind a call that leaves no new image, on a file whose records stand closed
+closed_then : {texts : Texts} {shelf : ℕ} {a b : Book} (f : ℕ) (bodies : List (List ℕ)) (v0 v1 v2 : View) → OnlyNow v0 → ((image : List ℕ) → v0.images image → IsClosed f bodies image)
+    → NoNewImage v0 v1 → Elapses v0 v1 → (k : Between texts shelf a b) → k.format ≡ f → k.bodies ≡ bodies → LeavesOnly v1 v2 (Held k) → LeavesOnly v0 v2 (Held k)
+closed_then f bodies v0 v1 v2 only_now closed no_new time k format these run =
     let held : (image : List ℕ) → v0.images image → Held k image =
-    λ image left. closed_holds k.bodies k.more image (subst (λ (bs : List (List ℕ)). IsClosed bs image) (sym t.1) (closed image left)) in
-    let first = goes_on v0 v0 v1 (Held k) (started v0 (Held k) (λ image left. held image (only_now image left))) time (λ image left. held image (no_new image left)) in
-    (k, t.1, leaves_then v0 v1 v2 (Held k) first t.2)
+    λ image left. carried f bodies k.flight k (record { format = format; bodies_are = these; flight_is = refl }) image (closed_holds f bodies k.flight image (closed image left)) in
+    leaves_then v0 v1 v2 (Held k) (goes_on v0 v0 v1 (Held k) (started v0 (Held k) (λ image left. held image (only_now image left))) time (λ image left. held image (no_new image left))) run
+
+-- the same on a journal's file of the newest format
+pub after_quiet : (bodies : List (List ℕ)) (texts : Texts) (shelf : ℕ) (before after : Book) (v0 v1 v2 : View) → OnlyNow v0 → ((image : List ℕ) → v0.images image → IsClosed newest bodies image)
+    → NoNewImage v0 v1 → Elapses v0 v1 → ThroughoutFrom bodies texts shelf before after v1 v2 → ThroughoutFrom bodies texts shelf before after v0 v2
+after_quiet bodies texts shelf before after v0 v1 v2 only_now closed no_new time (k, format, these, run) =
+    (k, format, these, closed_then newest bodies v0 v1 v2 only_now closed no_new time k format these run)
 
 -- a journal's file and nothing else stands for the book that its records make
-pub settled_stands : {D : Type 0} (view : D → View) (texts : Texts) (shelf : ℕ) (j : Journal D) (b : Book) → IsSettled view j → Makes texts shelf (bodies_in view j) b → b.down ≡ None
-    → Stands texts shelf (view_of view j) b
+pub settled_stands : {D : Type 0} (view : D → View) (texts : Texts) (shelf : ℕ) (j : Journal D) (b : Book) → IsSettled view j → MakesOf texts shelf j.format (bodies_in view j) b
+    → b.down ≡ None → Stands texts shelf (view_of view j) b
 settled_stands view texts shelf j b s makes up =
     let bodies = bodies_in view j in
     let same : if_kept 0 b ≡ b = ap (λ (d : Option Doubt). recovered (of_length 0) kept d b) up in
-    let alone : Makes texts shelf (bodies ++ []) b = subst (λ (bs : List (List ℕ)). Makes texts shelf bs b) (sym (append-nil bodies)) makes in
     let k : Between texts shelf b (if_kept 0 b) =
-    record { bodies = bodies; more = None; room = omega (arith, s.end, s.fits); first = makes; second = subst (Makes texts shelf (bodies ++ [])) (sym same) alone } in
+    record {
+      format = j.format;
+      known = s.known;
+      bodies = bodies;
+      flight = still;
+      room = omega (arith, s.end, s.fits);
+      first = makes;
+      second = subst (MakesOf texts shelf j.format bodies) (sym same) makes;
+    } in
     (0, (k, settled_images view j s))
 
 -- a recovery
-pub stays_by : (texts : Texts) (shelf : ℕ) (v0 v1 : View) → MayHoldNowAndThroughout v0 v1 → ClosedNowAndThroughout v0 v1 → StaysThroughout texts shelf v0 v1
-stays_by texts shelf v0 v1 may closed = λ before after k held. by_more k.bodies k.more k.room held
+pub stays_by : (texts : Texts) (shelf : ℕ) (v0 v1 : View) → MayHoldNowAndThroughout v0 v1 → ClosedNowAndThroughout v0 v1 → EitherNowAndThroughout v0 v1
+    → StaysThroughout texts shelf v0 v1
+stays_by texts shelf v0 v1 may closed either = λ before after k held. by_flight k.format k.known k.bodies k.flight k.room held
   where
-    by_more : (bodies : List (List ℕ)) (more : Option (List ℕ)) → HasRoom bodies more → ((image : List ℕ) → v0.images image → Hold bodies more image) → LeavesOnly v0 v1 (Hold bodies more)
-    by_more bodies None room held = closed bodies room held
-    by_more bodies (Some body) room held = may bodies body room held
+    by_flight : (f : ℕ) → is_format f ≡ true → (bodies : List (List ℕ)) (t : Flight) → HasRoom bodies t → ((image : List ℕ) → v0.images image → Hold f bodies t image) → LeavesOnly v0 v1 (Hold f bodies t)
+    by_flight f known bodies still room held = closed f bodies known room held
+    by_flight f known bodies (adds body) room held = may f bodies body known room held
+    by_flight f known bodies (puts e others) room held = either f e bodies others known room.2 room.0 room.1 held
 
 found_in_bytes : (texts : Texts) (shelf : ℕ) (bytes : List ℕ) (m : Made) (b : Book) → made_in (book_in_bytes texts shelf bytes) ≡ Some m → MakesIn texts shelf bytes b → m.book ≡ reopened b
 found_in_bytes texts shelf bytes m b makes (earlier, is) = ap (λ (x : Made). x.book) (same_Some m (made_of b earlier) (sym makes ∙ is))
@@ -130,8 +152,7 @@ opens_from texts shelf scripts b c v0 v1 is (k, run) =
     let here : reopened b ≡ reopened c = ap reopened is in
     let there : reopened (opened_book shelf scripts b) ≡ reopened (opened_book shelf scripts c) = ap (λ (y : Book). reopened (opened_book shelf scripts y)) is in
     let l = (stand_alike texts shelf).1 b (opened_book shelf scripts b) c (opened_book shelf scripts c) here there k in
-    let P : List (List ℕ) → Option (List ℕ) → Type 0 = λ bs o. LeavesOnly v0 v1 (Hold bs o) in
-    (l.0, subst (λ (bs : List (List ℕ)). P bs l.0.more) (sym l.1) (subst (P k.bodies) (sym l.2) run))
+    (l.0, any_less v0 v1 (Held k) (Held l.0) (carried k.format k.bodies k.flight l.0 l.1) run)
 
 pub opening_stays : (texts : Texts) (shelf : ℕ) (scripts : List Named) (v0 v1 v2 : View) (b : Book) → CountsNow v2 → StaysThroughout texts shelf v0 v1 → IsFoundOne texts shelf v0 b
     → Throughout texts shelf b (opened_book shelf scripts b) v1 v2 → OpensThroughout texts shelf scripts v0 v2
@@ -152,18 +173,16 @@ opening_stays texts shelf scripts v0 v1 v2 b counts stays found throughout befor
     })
     (found before after k held)
 
--- a record is added behind what makes room for it
-pub appended : (bodies : List (List ℕ)) (texts : Texts) (shelf : ℕ) (before after : Book) (v0 v1 v2 : View) (body : List ℕ) → OnlyNow v0 → ((image : List ℕ) → v0.images image → IsClosed bodies image)
-    → (k : Between texts shelf before after) → k.bodies ≡ bodies → k.more ≡ Some body → NoNewImage v0 v1 → Elapses v0 v1 → LeavesOnly v1 v2 (MayHold bodies body) → Throughout texts shelf before after v0 v2
-appended bodies texts shelf before after v0 v1 v2 body only_now closed k these more no_new time run =
-    let P : List (List ℕ) → Option (List ℕ) → Type 0 = λ bs o. LeavesOnly v1 v2 (Hold bs o) in
-    let here : LeavesOnly v1 v2 (Held k) = subst (P k.bodies) (sym more) (subst (λ (bs : List (List ℕ)). P bs (Some body)) (sym these) run) in
-    let all = after_quiet bodies texts shelf before after v0 v1 v2 only_now closed no_new time (k, these, here) in
-    (all.0, all.2)
+-- a record is added, or a file gives place to another, behind what makes room for it
+pub written : (f : ℕ) (bodies : List (List ℕ)) (texts : Texts) (shelf : ℕ) (before after : Book) (v0 v1 v2 : View) (t : Flight) → OnlyNow v0 → ((image : List ℕ) → v0.images image → IsClosed f bodies image)
+    → (k : Between texts shelf before after) → Carries f bodies t k → NoNewImage v0 v1 → Elapses v0 v1 → LeavesOnly v1 v2 (Hold f bodies t) → Throughout texts shelf before after v0 v2
+written f bodies texts shelf before after v0 v1 v2 t only_now closed k carries no_new time run =
+    let here : LeavesOnly v1 v2 (Held k) = any_less v1 v2 (Hold f bodies t) (Held k) (carried f bodies t k carries) run in
+    (k, closed_then f bodies v0 v1 v2 only_now closed no_new time k carries.format carries.bodies_are here)
 
 -- what a call left
 pub left_standing : (texts : Texts) (shelf n : ℕ) (before after b : Book) (v0 v1 : View) → CountsNow v1
     → Throughout texts shelf before after v0 v1 → reopened before ≡ reopened b → reopened after ≡ reopened (if_kept n b) → (t : Stands texts shelf v1 b) × (t.0 ≡ n)
 left_standing texts shelf n before after b v0 v1 counts (k, run) first second =
     let l = (stand_alike texts shelf).1 before after b (if_kept n b) first second k in
-    ((n, (l.0, λ image left. subst (λ (bs : List (List ℕ)). Hold bs l.0.more image) (sym l.1) (subst (λ (o : Option (List ℕ)). Hold k.bodies o image) (sym l.2) (run.each image (counts v0.moment image run.later left))))), refl)
+    ((n, (l.0, λ image left. carried k.format k.bodies k.flight l.0 l.1 image (run.each image (counts v0.moment image run.later left)))), refl)

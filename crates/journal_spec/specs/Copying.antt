@@ -1,16 +1,22 @@
--- Which bodies of a journal are copied when its file is compacted, whoever wrote it, and what they make.
-use Rattle.std.specs.Prelude.{◌≡◌, ℕ, ◌+◌, ◌&&◌, Bool, false, List, [], ◌∷◌, ◌++◌, length, map, Option, Some, None, is_some, if◌then◌else◌}
+-- Which bodies of a journal stay when its file is compacted, whoever wrote it, and what they make. A file of an older format is compacted too:
+-- of that the bodies that stay are written in the newest format.
+use Rattle.std.specs.Prelude.{◌≡◌, ℕ, ◌+◌, ◌≤◌, ◌^◌, ◌==◌, ◌&&◌, true, List, [], ◌∷◌, ◌++◌, length, map, Option, Some, None, is_some, nat_lt, if◌then◌else◌}
 use Rattle.script_value.specs.declared.outcome.TxName.{TxName}
 use Rattle.script_nodes.specs.Setup.{Named}
 use Rattle.replay_spec.specs.Book.{Page, Instance, Change, Line, changed, renewed, instance_at, page_at}
 use Rattle.replay_spec.specs.Compaction.{stays_in, is_sweep, compaction, file_length}
 use Rattle.replay_spec.specs.Recovery.{resettled}
-use Rattle.machine_states.specs.Machine.{inside_of}
+use Rattle.machine_states.specs.Machine.{Suspended, inside_of}
+use Rattle.frame_codec.specs.Stored.{IsStored}
+use Rattle.frame_codec.specs.Forms.{form_bytes}
+use Rattle.page_journal.specs.Records.{is_format, at_rest}
 use Rattle.journal_records.specs.Records.{Record, changes, renews, draws, body_of}
-use Rattle.journal_records.specs.Reading.{read_record}
-use Rattle.journal_spec.specs.Before.{Earlier, state_at, Made, plain}
-use Rattle.journal_spec.specs.Retaking.{Told, unread, misread, told, told_in, landing, retaken}
-use Rattle.journal_spec.specs.Making.{Texts, Making, begun, made, beside, with_body, made_in, book_of}
+use Rattle.journal_records.specs.Old.{newest_format, read_record_in}
+use Rattle.journal_spec.specs.Before.{Earlier, state_at, Made, plain, before_told}
+use Rattle.journal_spec.specs.Retaking.{arena_of, Told, unread, misread, told, told_in, landing, retaken}
+use Rattle.journal_spec.specs.Making.{Texts, Making, nothing, begun, made, beside, made_in, book_of}
+use Rattle.journal_spec.specs.Old.{told_of, landing_of, with_body_at, book_of_format}
+use Rattle.journal_spec.specs.Whole.{AreWhole}
 use Rattle.journal_spec.specs.Reading.{AreAllBytes}
 
 -- the transactions that a page is inside whose state is told so
@@ -18,12 +24,6 @@ abbrev pub inside_told : Told → List TxName
 inside_told unread = []
 inside_told misread = []
 inside_told (told d) = inside_of d.frames
-
--- whether the record of a change lands, where this is told of its page's state
-abbrev pub does_land : Made → Change → Told → Bool
-does_land m c unread = is_some (landing m c [])
-does_land m c misread = false
-does_land m c (told d) = is_some (landing m c (inside_of d.frames))
 
 -- a record that is not passed over, with its body: of a change, with the bytes of its page's state, if there are any; or of a setup
 pub data Entry : Type 0 where
@@ -51,29 +51,44 @@ abbrev pub entries_after : List Entry → Made → Made
 entries_after [] m = m
 entries_after (e ∷ es) m = entries_after es (then_entry e m)
 
+-- the bytes that the newest format has of a page's state, where this is told of it, behind the state that it is written behind
+abbrev pub bytes_now : (before : Option Suspended) → Option (List ℕ) → Told → Option (List ℕ)
+bytes_now before state (told d) = Some (form_bytes before d)
+bytes_now before state _ = state
+
+-- the bytes that the newest format has of the state of a record's page: from format 3 on those that the record has
+abbrev pub state_now : (format : ℕ) → Made → Change → Option (List ℕ) → Option (List ℕ)
+state_now format m c state =
+    if nat_lt format 3 then bytes_now (before_told m.earlier m.book c) state (told_of format m c state) else state
+
+-- the body that the newest format has of a change: there it is copied, and of an older format it is written anew
+abbrev pub body_now : (format : ℕ) → Made → (body : List ℕ) → Change → Option (List ℕ) → List ℕ
+body_now format m body c state = if format == newest_format then body else body_of (changes c (state_now format m c state))
+
 -- the entry of a setup, where its names and texts are read as one
 abbrev pub settled_by : (body : List ℕ) → Option (List Named) → List Entry
 settled_by body None = []
 settled_by body (Some scripts) = settles scripts body ∷ []
 
--- the entry of a body behind what was made, if it stays in the compacted file of a book with these instances
-abbrev pub entry_by : List Instance → Texts → Made → (body : List ℕ) → Option Record → List Entry
-entry_by is texts m body (Some (changes c state)) =
-    if does_land m c (told_in m.earlier m.book c state) && stays_in is c then tells c state body ∷ [] else []
-entry_by is texts m body (Some (renews named)) = settled_by body (texts named)
-entry_by is texts m body _ = []
+-- the entry of a body of this format behind what was made, if it stays in the compacted file of a book with these instances
+abbrev pub entry_by : (format : ℕ) → List Instance → Texts → Made → (body : List ℕ) → Option Record → List Entry
+entry_by format is texts m body (Some (changes c state)) =
+    if is_some (landing_of format m c (told_of format m c state)) && stays_in is c
+    then tells c (state_now format m c state) (body_now format m body c state) ∷ [] else []
+entry_by format is texts m body (Some (renews named)) = settled_by body (texts named)
+entry_by format is texts m body _ = []
 
 -- the entry of a body behind what records make, if they make a book and it stays
-abbrev pub entry_in : List Instance → Texts → Making → (body : List ℕ) → List Entry
-entry_in is texts (begun m) body = entry_by is texts m body (read_record body)
-entry_in is texts (made m) body = entry_by is texts m body (read_record body)
-entry_in is texts _ body = []
+abbrev pub entry_in : (format : ℕ) → List Instance → Texts → Making → (body : List ℕ) → List Entry
+entry_in format is texts (begun m) body = entry_by format is texts m body (read_record_in format body)
+entry_in format is texts (made m) body = entry_by format is texts m body (read_record_in format body)
+entry_in format is texts _ body = []
 
 -- the entries of these bodies that stay, the gate of the first at this place, behind what records make
-abbrev pub entries : List Instance → Texts → (shelf place : ℕ) → List (List ℕ) → Making → List Entry
-entries is texts shelf place [] x = []
-entries is texts shelf place (body ∷ bodies) x =
-    entry_in is texts x body ++ entries is texts shelf (place + 5 + length body) bodies (with_body texts shelf place body x)
+abbrev pub entries : (format : ℕ) → List Instance → Texts → (shelf place : ℕ) → List (List ℕ) → Making → List Entry
+entries format is texts shelf place [] x = []
+entries format is texts shelf place (body ∷ bodies) x =
+    entry_in format is texts x body ++ entries format is texts shelf (place + 5 + length body) bodies (with_body_at format texts shelf place body x)
 
 -- an entry before others, where of two sweeps that stand together the later one is left
 abbrev pub entry_ahead : Entry → List Entry → List Entry
@@ -85,10 +100,10 @@ abbrev pub entries_joined : List Entry → List Entry
 entries_joined [] = []
 entries_joined (e ∷ es) = entry_ahead e (entries_joined es)
 
--- The bodies of the compacted file of this book: the first one, that of the next number, and copies of those that stay.
-abbrev pub copies : Texts → (shelf : ℕ) → (first : List ℕ) → (bodies : List (List ℕ)) → Made → List (List ℕ)
-copies texts shelf first bodies m =
-    first ∷ (body_of (draws m.book.logged) ∷ map body_in (entries_joined (entries m.book.instances texts shelf 8 (first ∷ bodies) (book_of texts shelf []))))
+-- The bodies of the compacted file of this book, whose file is of this format: the first one, that of the next number, and those that stay.
+abbrev pub copies : (format : ℕ) → Texts → (shelf : ℕ) → (first : List ℕ) → (bodies : List (List ℕ)) → Made → List (List ℕ)
+copies format texts shelf first bodies m =
+    first ∷ (body_of (draws m.book.logged) ∷ map body_in (entries_joined (entries format m.book.instances texts shelf 8 (first ∷ bodies) nothing)))
 
 -- of each page of these instances the same state is told
 abbrev pub SameStates : List Instance → (e f : Earlier) → Type 0
@@ -105,4 +120,33 @@ abbrev pub CopiesMakeTheBook : Type 0
 CopiesMakeTheBook =
     (texts : Texts) (shelf : ℕ) (first : List ℕ) (bodies : List (List ℕ)) (m : Made) → AreAllBytes (first ∷ bodies)
     → made_in (book_of texts shelf (first ∷ bodies)) ≡ Some m
-    → (k : Made) × (made_in (book_of texts shelf (copies texts shelf first bodies m)) ≡ Some k) × IsCompacted m k
+    → (k : Made) × (made_in (book_of texts shelf (copies newest_format texts shelf first bodies m)) ≡ Some k) × IsCompacted m k
+
+-- What records make is this book with another file, which begins with the same setup and tells the next number, and the same states were told
+-- of its pages.
+pub record IsMigrated (m k : Made) : Type 0 where
+  pub book : k.book ≡ record m.book { length = k.book.length; file = k.book.file }
+  pub first : k.book.file.scripts ≡ m.book.file.scripts
+  pub drawn : k.book.file.drawn ≡ Some m.book.logged
+  pub states : SameStates m.book.instances m.earlier k.earlier
+
+-- each page of the book has a state that was told, which fits the page's script and has a spelling
+abbrev pub HasStored : Made → Type 0
+HasStored m =
+    (k n : ℕ) (i : Instance) (p : Page) → instance_at k m.book.instances ≡ Some i → page_at n i.pages ≡ Some p
+    → (d : Suspended) × ((state_at n m.earlier.states ≡ Some d) × IsStored (arena_of i.script.script) d)
+
+-- What is asked of a file whose states are written anew: each of them fits its script and has a spelling; and where its scripts made them, these
+-- can be run.
+pub record IsToldAnew (format : ℕ) (m : Made) : Type 0 where
+  pub stored : nat_lt format 3 ≡ true → HasStored m
+  pub whole : format ≡ 1 → AreWhole m.book.scripts
+
+-- The bodies of a file of any format that stay, written in the newest one, make the book of the file again, whoever wrote it, where a journal has
+-- room for them.
+abbrev pub MigrationsMakeTheBook : Type 0
+MigrationsMakeTheBook =
+    (format : ℕ) (texts : Texts) (shelf : ℕ) (first : List ℕ) (bodies : List (List ℕ)) (m : Made) → is_format format ≡ true
+    → IsToldAnew format m → AreAllBytes (first ∷ bodies) → made_in (book_of_format format texts shelf (first ∷ bodies)) ≡ Some m
+    → length (at_rest (copies format texts shelf first bodies m)) ≤ 2 ^ 30
+    → (k : Made) × (made_in (book_of texts shelf (copies format texts shelf first bodies m)) ≡ Some k) × IsMigrated m k

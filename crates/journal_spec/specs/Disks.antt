@@ -2,21 +2,23 @@
 use Rattle.std.specs.Prelude.{◌≡◌, ℕ, List, Some, None}
 use Rattle.script_nodes.specs.Setup.{Named}
 use Rattle.web_disk.specs.View.{View, NoNewImage, Elapses, LeavesOnly}
-use Rattle.page_journal.specs.Holding.{MayHold, MayHoldNowAndThroughout, ClosedNowAndThroughout}
+use Rattle.page_journal.specs.Holding.{MayHoldNowAndThroughout, ClosedNowAndThroughout, EitherNowAndThroughout}
 use Rattle.page_journal.specs.Settled.{IsSettled, view_of, bodies_in}
 use Rattle.page_journal.specs.declared.journal.Journal.{Journal}
 use Rattle.replay_spec.specs.Book.{Book, reopened}
 use Rattle.journal_spec.specs.Before.{Made}
-use Rattle.journal_spec.specs.Making.{Texts, made_in, book_in_bytes}
+use Rattle.journal_spec.specs.Making.{Texts, made_in}
+use Rattle.journal_spec.specs.Bytes.{book_in_bytes}
 use Rattle.journal_spec.specs.Opening.{opened_book, opened_on}
 use Rattle.journal_spec.specs.Keeping.{Keeps}
-use Rattle.journal_spec.specs.Standing.{Makes, Between, if_kept, Stands, Throughout, StaysThroughout, IsFoundOne, IsOneOf, OpensThroughout}
+use Rattle.journal_spec.specs.Standing.{MakesOf, Flight, Between, Carries, Hold, if_kept, Stands, Throughout, StaysThroughout, IsFoundOne, IsOneOf, OpensThroughout}
 
 -- Whatever two books a disk stood between, at each moment of a recovery a crash leaves it there.
 abbrev pub RecoveriesStay : {D : Type 0} → (D → View) → Type 0
 RecoveriesStay {D} view =
     (texts : Texts) (shelf : ℕ) (old new : D)
     → MayHoldNowAndThroughout (view old) (view new) → ClosedNowAndThroughout (view old) (view new)
+    → EitherNowAndThroughout (view old) (view new)
     → StaysThroughout texts shelf (view old) (view new)
 
 -- The book that a recovery makes of what it reads is one of the two that the disk stood between, and the one that a shelf goes on with is
@@ -42,7 +44,7 @@ OpeningsStay {D} view =
 abbrev pub SettledJournalsStand : {D : Type 0} → (D → View) → Type 0
 SettledJournalsStand {D} view =
     (texts : Texts) (shelf : ℕ) (journal : Journal D) (b : Book) → IsSettled view journal
-    → Makes texts shelf (bodies_in view journal) b → b.down ≡ None
+    → MakesOf texts shelf journal.format (bodies_in view journal) b → b.down ≡ None
     → Stands texts shelf (view_of view journal) b
 
 -- A call that leaves no new image leaves a disk standing for its book, at each moment.
@@ -53,15 +55,15 @@ QuietCallsStand {D} view =
     → Throughout texts shelf b (if_kept s.0 b) (view old) (view new)
     × ((t : Stands texts shelf (view new) b) × (t.0 ≡ s.0))
 
--- A settled journal that makes room for a record and then adds it stands between the book before and the one after it, at
--- each moment, whatever the answer was.
-abbrev pub AppendsStandBetween : {D : Type 0} → (D → View) → Type 0
-AppendsStandBetween {D} view =
-    (texts : Texts) (shelf : ℕ) (before after : Book) (old mid new : Journal D) (body : List ℕ)
+-- A settled journal that makes room, and then adds a record or gives place to another file, stands between the book before and the one
+-- after it, at each moment, whatever the answer was.
+abbrev pub WritesStandBetween : {D : Type 0} → (D → View) → Type 0
+WritesStandBetween {D} view =
+    (texts : Texts) (shelf : ℕ) (before after : Book) (old mid new : Journal D) (t : Flight)
     → IsSettled view old
-    → (k : Between texts shelf before after) → k.bodies ≡ bodies_in view old → k.more ≡ Some body
+    → (k : Between texts shelf before after) → Carries old.format (bodies_in view old) t k
     → NoNewImage (view_of view old) (view_of view mid) → Elapses (view_of view old) (view_of view mid)
-    → LeavesOnly (view_of view mid) (view_of view new) (MayHold (bodies_in view old) body)
+    → LeavesOnly (view_of view mid) (view_of view new) (Hold old.format (bodies_in view old) t)
     → Throughout texts shelf before after (view_of view old) (view_of view new)
 
 -- A call that stood between the book before and the one after it leaves the disk standing for the book that it left, also

@@ -2,7 +2,7 @@
 use Rattle.std.specs.Prelude.{◌≡◌, ◌⊎◌, ℕ, ◌≤◌, ◌^◌, List, ◌∷◌, [], ◌++◌, length, Option, Some, None, true, false, option_map, ⊤}
 use Rattle.script_value.specs.declared.outcome.TxName.{TxName}
 use Rattle.script_nodes.specs.Setup.{Named}
-use Rattle.page_journal.specs.Records.{at_rest}
+use Rattle.page_journal.specs.Records.{newest, is_format, at_rest}
 use Rattle.page_journal.specs.Holding.{Holdable}
 use Rattle.replay_spec.specs.Book.{Change, Book, reopened, are_same}
 use Rattle.replay_spec.specs.Rules.{Rules, empty_book}
@@ -11,15 +11,18 @@ use Rattle.replay_spec.specs.Runs.{lands}
 use Rattle.replay_spec.specs.Recovery.{number_in}
 use Rattle.replay_spec.specs.Laws.{IsLawful, Moment, AreLawful, book_after}
 use Rattle.journal_records.specs.Records.{Record, begins, changes, IsInGrammar, begin_of}
+use Rattle.replay_spec.specs.Compaction.{compaction, file_length}
 use Rattle.journal_spec.specs.Before.{Made}
 use Rattle.journal_spec.specs.Lengths.{own_body}
 use Rattle.journal_spec.specs.Making.{Texts, nothing, begun, damaged, other, began, first_by, made_in, book_of}
+use Rattle.journal_spec.specs.Old.{book_of_format}
 use Rattle.journal_spec.specs.Opening.{IsRead, ReadsAsTold, ReadsWhole, first_body, renewal_body, renewal_bodies, opened_book, opened_on}
 use Rattle.journal_spec.specs.Whole.{HasWholeScripts, HasOwnStates}
 use Rattle.journal_spec.specs.Events.{IsGiven, Gives}
 use Rattle.journal_spec.specs.Owning.{AreOwn, AreLanded, IsOwnBefore}
 use Rattle.journal_spec.specs.Reading.{AreAllBytes}
-use Rattle.journal_spec.specs.Standing.{MakesIn, HasRoom, Between, Held, HeldOpened, if_kept, length_in}
+use Rattle.journal_spec.specs.Copying.{copies, IsMigrated, IsToldAnew}
+use Rattle.journal_spec.specs.Standing.{MakesIn, adds, puts, flight_of, HasRoom, Between, Carries, Held, HeldOpened, if_kept, length_in}
 use Rattle.journal_spec.specs.Keeping.{AreOver, IsTaken, IsOut, landed_in, IsRecoverable, Keeps, KeepsDoubt, KeepsWith, body_by, left_bodies, bodies_left, IsAppending, KeepsSetup, IsWritable, AreAppended, stake_of}
 use Rattle.journal_spec.specs.Spelling.{IsInRange}
 
@@ -62,7 +65,7 @@ BooksStandAlike =
     (texts : Texts) (shelf : ℕ)
     → ((n : ℕ) (b c : Book) → reopened b ≡ reopened c → b.down ≡ c.down → reopened (if_kept n b) ≡ reopened (if_kept n c))
     × ((a b c d : Book) → reopened a ≡ reopened c → reopened b ≡ reopened d → (k : Between texts shelf a b)
-    → (l : Between texts shelf c d) × (l.bodies ≡ k.bodies) × (l.more ≡ k.more))
+    → (l : Between texts shelf c d) × Carries k.format k.bodies k.flight l)
 
 -- the rules measure what is in doubt as a record of this length
 abbrev pub MeasuresDoubt : Rules → (length : ℕ) → Book → Type 0
@@ -108,6 +111,12 @@ BodiesMakeFittingBooks =
     (texts : Texts) (shelf : ℕ) (bodies : List (List ℕ)) (m : Made) → made_in (book_of texts shelf bodies) ≡ Some m
     → IsFitting texts shelf bodies m
 
+-- What any bodies make in any format is such a book too.
+abbrev pub BodiesOfAnyFormatFit : Type 0
+BodiesOfAnyFormatFit =
+    (format : ℕ) (texts : Texts) (shelf : ℕ) (bodies : List (List ℕ)) (m : Made) → made_in (book_of_format format texts shelf bodies) ≡ Some m
+    → IsFitting texts shelf bodies m
+
 -- The first record of a journal makes the empty book of its setup, which can go on, and tells no state.
 abbrev pub FreshJournalsAreKept : Type 0
 FreshJournalsAreKept =
@@ -139,7 +148,7 @@ abbrev pub RenewalsStandBetween : Type 0
 RenewalsStandBetween =
     (texts : Texts) (shelf : ℕ) (bodies : List (List ℕ)) (b : Book) (scripts : List Named) → Keeps texts shelf bodies b → IsGiven texts scripts
     → are_same scripts b.scripts ≡ false → Holdable bodies (renewal_body scripts)
-    → (l : Between texts shelf b (opened_book shelf scripts b)) × (l.bodies ≡ bodies) × (l.more ≡ Some (renewal_body scripts))
+    → (l : Between texts shelf b (opened_book shelf scripts b)) × Carries newest bodies (adds (renewal_body scripts)) l
 
 -- A change that would be taken, and whose number is out, can be landed, whatever its page's state is: the body of its record makes the
 -- book after it.
@@ -159,7 +168,7 @@ LandingsStandBetween =
     → IsTaken k.earlier b c state inside → IsOut b (number_in c)
     → Holdable bodies (body_by c state)
     → (l : Between texts shelf b (landed_in (length (body_by c state)) c inside b))
-    × (l.bodies ≡ bodies) × (l.more ≡ Some (body_by c state))
+    × Carries newest bodies (adds (body_by c state)) l
 
 -- The bodies of the records that an event leaves, with the states that its scripts leave, make of the journal's book the book after the
 -- event, also where what was in doubt is kept at a crash, and where a crash gives another setup; where it leaves none, the same bodies make
@@ -183,9 +192,33 @@ EventsStandBetween =
     → let c = stake_of rules b nonce event fate in
     let more = option_map (own_body b) c in
     let d = (step rules b nonce event fate).1 in
-    IsOwnBefore k.keeps.earlier b c → IsWritable b c → HasRoom bodies more
+    IsOwnBefore k.keeps.earlier b c → IsWritable b c → HasRoom bodies (flight_of more)
     → (l : Between texts shelf b (if_kept (length_in more) d))
-    × (l.bodies ≡ bodies) × (l.more ≡ more) × MeasuresDoubt rules (length_in more) d
+    × Carries newest bodies (flight_of more) l × MeasuresDoubt rules (length_in more) d
+
+-- the book with the compacted file in the place of its own
+abbrev pub compacted_book : Book → Book
+compacted_book b = record b { length = file_length (compaction b); file = compaction b }
+
+-- Where the copies that a compaction makes are put in the place of the bodies that they were made of, whoever wrote these, a disk stands
+-- between the book before and the one with the compacted file.
+abbrev pub CompactionsStandBetween : Type 0
+CompactionsStandBetween =
+    (texts : Texts) (shelf : ℕ) (first : List ℕ) (bodies : List (List ℕ)) (m : Made) → AreAllBytes (first ∷ bodies)
+    → made_in (book_of texts shelf (first ∷ bodies)) ≡ Some m
+    → length (at_rest (first ∷ bodies)) ≤ 2 ^ 30 → length (at_rest (copies newest texts shelf first bodies m)) ≤ 2 ^ 30
+    → (l : Between texts shelf m.book (compacted_book m.book))
+    × Carries newest (first ∷ bodies) (puts newest (copies newest texts shelf first bodies m)) l
+
+-- Where the bodies of a file of any format that stay, written in the newest one, are put in its place, a disk stands between its book and the one
+-- with the new file.
+abbrev pub MigrationsStandBetween : Type 0
+MigrationsStandBetween =
+    (format : ℕ) (texts : Texts) (shelf : ℕ) (first : List ℕ) (bodies : List (List ℕ)) (m : Made) → is_format format ≡ true
+    → IsToldAnew format m → AreAllBytes (first ∷ bodies) → made_in (book_of_format format texts shelf (first ∷ bodies)) ≡ Some m
+    → length (at_rest (first ∷ bodies)) ≤ 2 ^ 30 → length (at_rest (copies format texts shelf first bodies m)) ≤ 2 ^ 30
+    → (k : Made) × (made_in (book_of texts shelf (copies format texts shelf first bodies m)) ≡ Some k) × IsMigrated m k
+    × ((l : Between texts shelf m.book k.book) × Carries format (first ∷ bodies) (puts newest (copies format texts shelf first bodies m)) l)
 
 -- What a journal told of each page is the state that its script left there, where its states are own ones.
 abbrev pub OwnStatesAreTold : Type 0

@@ -1,8 +1,6 @@
 -- What the records of a journal's file make of a shelf.
 use Rattle.std.specs.Prelude.{ℕ, ◌+◌, ◌==◌, Bool, true, List, [], ◌∷◌, length, Option, Some, None, nat_lt, if◌then◌else◌}
 use Rattle.script_nodes.specs.Setup.{Named}
-use Rattle.page_journal.specs.Records as journal
-use Rattle.page_journal.specs.Records.{Log, records}
 use Rattle.replay_spec.specs.Book.{Change, opens}
 use Rattle.replay_spec.specs.Rules.{first_file}
 use Rattle.replay_spec.specs.Recovery as recovery
@@ -92,16 +90,6 @@ with_bodies texts shelf place (body ∷ bodies) m =
 -- What the bodies of a file make for a shelf of this number. The first gate is at 8.
 abbrev pub book_of : Texts → (shelf : ℕ) → List (List ℕ) → Making
 book_of texts shelf bodies = with_bodies texts shelf 8 bodies nothing
-
--- what the records that a journal holds make
-abbrev pub by_log : Texts → (shelf : ℕ) → Log → Making
-by_log texts shelf (journal.Damaged place) = damaged place
-by_log texts shelf (journal.Intact bodies) = book_of texts shelf bodies
-
--- what the bytes of a journal make; nothing where there are none
-abbrev pub book_in_bytes : Texts → (shelf : ℕ) → List ℕ → Making
-book_in_bytes texts shelf [] = nothing
-book_in_bytes texts shelf (b ∷ bytes) = by_log texts shelf (records (b ∷ bytes))
 
 -- the book that records make, if they make one
 abbrev pub made_in : Making → Option Made

@@ -1,28 +1,61 @@
 -- What the records of a file make in each of the formats 1 to 6. Format 6 is the one that is written.
 use Rattle.std.proofs.Common.{◌≡◌, refl, ap, ◌∙◌}
-use Rattle.std.specs.Prelude.{ℕ, ◌+◌, ◌==◌, List, [], ◌∷◌, length, Option, Some, None, if◌then◌else◌}
+use Rattle.std.specs.Prelude.{ℕ, ◌+◌, ◌==◌, Bool, true, List, [], ◌∷◌, length, Option, Some, None, is_some, if◌then◌else◌}
+use Rattle.std.specs.List.{list_all}
+use Rattle.script_value.specs.Val.{Val}
+use Rattle.script_value.specs.declared.outcome.TxName.{TxName}
+use Rattle.web_cells.specs.Shadows.{binding}
 use Rattle.replay_spec.specs.Book.{Change, Book}
+use Rattle.replay_spec.specs.Admission.{◌>>=◌, when}
 use Rattle.replay_spec.specs.Recovery.{taken_in}
+use Rattle.script_nodes.specs.Arena.{Arena}
 use Rattle.script_nodes.specs.Setup.{Named}
+use Rattle.machine_states.specs.Machine.{Suspended, inside_of}
 use Rattle.frame_codec.specs.Reading.{read_state}
 use Rattle.journal_records.specs.Records.{Record, begins, changes, renews, draws}
 use Rattle.journal_records.specs.Reading.{read_record}
 use Rattle.journal_records.specs.Old.{read_record_in}
-use Rattle.journal_spec.specs.Before.{Earlier, Made, plain}
-use Rattle.journal_spec.specs.Retaking.{arena_of, Told, unread, misread, told_as, script_for, told_in, retaken}
+use Rattle.journal_spec.specs.Before.{Earlier, Made, plain, before_told}
+use Rattle.journal_spec.specs.Retaking.{arena_of, Told, unread, misread, told, told_as, script_for, told_in, landing, retaken}
 use Rattle.journal_spec.specs.Lengths.{own_told}
 use Rattle.journal_spec.specs.Making.{Texts, Making, nothing, begun, made, damaged, other, has_script, told_next, next_setup, first_by, with_drawn, next_by, second_by, with_body, with_bodies, book_of}
 
--- what the bytes of a state tell of a page of this script, where they are the state's alone
-abbrev pub told_alone : Option Named → Option (List ℕ) → Told
-told_alone None state = unread
-told_alone (Some s) None = misread
-told_alone (Some s) (Some bytes) = told_as (read_state (arena_of s.script) bytes)
+-- whether a state binds each web cell that the state before it binds, if there is one: as each run of a script does that goes on from it
+abbrev pub binds_before : (before : Option Suspended) → Suspended → Bool
+binds_before None d = true
+binds_before (Some p) d = list_all (λ (s : ℕ × Val). is_some (binding s.0 d.shadows)) p.shadows
+
+-- the state that these bytes spell by itself, if it is one that can be written behind this state
+abbrev pub read_alone : Arena → (before : Option Suspended) → List ℕ → Option Suspended
+read_alone a before bytes = do
+  d ← read_state a bytes
+  when (binds_before before d) d
+
+-- what the bytes of a state tell of a page of this script, where they are the state's alone, and it is to be written behind that one
+abbrev pub told_alone : (before : Option Suspended) → Option Named → Option (List ℕ) → Told
+told_alone before None state = unread
+told_alone before (Some s) None = misread
+told_alone before (Some s) (Some bytes) = told_as (read_alone (arena_of s.script) before bytes)
 
 -- What is told of the state of a record's page in this format. In format 2 it is the state's bytes alone; later formats tell the form too,
 -- and write a state behind that of the page before.
 abbrev pub told_at : (format : ℕ) → Earlier → Book → Change → Option (List ℕ) → Told
-told_at format earlier b c state = if format == 2 then told_alone (script_for b c) state else told_in earlier b c state
+told_at format earlier b c state =
+    if format == 2 then told_alone (before_told earlier b c) (script_for b c) state else told_in earlier b c state
+
+-- What is told of a record's page in any format. In format 1 it is the state that its script leaves.
+abbrev pub told_of : (format : ℕ) → Made → Change → Option (List ℕ) → Told
+told_of format m c state = if format == 1 then own_told m.book c else told_at format m.earlier m.book c state
+
+-- what a record lands with, of whose page this is told: none where it is passed over, or where the bytes are no state
+abbrev pub landing_told : Made → Change → Told → Option (List TxName)
+landing_told m c unread = landing m c []
+landing_told m c misread = None
+landing_told m c (told d) = landing m c (inside_of d.frames)
+
+-- what a record of this format lands with, of whose page this is told: in format 1 what its script comes to again
+abbrev pub landing_of : (format : ℕ) → Made → Change → Told → Option (List TxName)
+landing_of format m c x = if format == 1 then taken_in (plain m) c else landing_told m c x
 
 -- What the record of a change makes in this format. In format 1 it lands with what its script comes to again, and its page has the state
 -- that its script leaves.
@@ -89,5 +122,5 @@ bodies_now texts shelf place (body ∷ bodies) m =
     ap (λ (x : Making). with_bodies_at 6 texts shelf (place + 5 + length body) bodies x) (body_now texts shelf place body m)
     ∙ bodies_now texts shelf (place + 5 + length body) bodies (with_body texts shelf place body m)
 
-format_of_now : (texts : Texts) (shelf : ℕ) (bodies : List (List ℕ)) → book_of_format 6 texts shelf bodies ≡ book_of texts shelf bodies
+pub format_of_now : (texts : Texts) (shelf : ℕ) (bodies : List (List ℕ)) → book_of_format 6 texts shelf bodies ≡ book_of texts shelf bodies
 format_of_now texts shelf bodies = bodies_now texts shelf 8 bodies nothing

@@ -4,10 +4,12 @@ use Rattle.std.specs.Prelude.{◌≡◌, ℕ, List, ◌∷◌, ◌++◌, Option,
 use Rattle.replay_spec.specs.Book.{Change, Book}
 use Rattle.journal_records.specs.Records.{Record, changes}
 use Rattle.journal_records.specs.Reading.{read_record}
+use Rattle.journal_records.specs.Old.{read_record_in}
 use Rattle.journal_spec.specs.Before.{Earlier, Made, before_told}
 use Rattle.journal_spec.specs.Retaking.{Told, told, told_in, IsLanded}
 use Rattle.journal_spec.specs.Lengths.{state_by, own_before}
 use Rattle.journal_spec.specs.Making.{Texts, made_in, book_of}
+use Rattle.journal_spec.specs.Old.{told_of, book_of_format}
 
 -- a fact of each record of these bodies, on what those before it make
 abbrev pub OfEach : (Made → Option Record → Type 0) → Texts → (shelf : ℕ) → List (List ℕ) → Type 0
@@ -42,3 +44,14 @@ AreLanded texts shelf bodies = OfEach IsLandedRecord texts shelf bodies
 abbrev pub IsOwnBefore : Earlier → Book → Option Change → Type 0
 IsOwnBefore earlier b None = ⊤
 IsOwnBefore earlier b (Some c) = before_told earlier b c ≡ own_before b c
+
+-- the state that a record of this format tells of its page, on what the records before it make, is the one that its script leaves
+abbrev pub IsOwnRecordIn : (format : ℕ) → Made → Option Record → Type 0
+IsOwnRecordIn format m (Some (changes c state)) = IsOwnState m.book c (told_of format m c state)
+IsOwnRecordIn format m _ = ⊤
+
+-- the state that each record of these bodies of this format tells of its page is the one that its script leaves
+abbrev pub AreOwnIn : (format : ℕ) → Texts → (shelf : ℕ) → List (List ℕ) → Type 0
+AreOwnIn format texts shelf bodies =
+    (front rest : List (List ℕ)) (body : List ℕ) (m : Made) → bodies ≡ front ++ body ∷ rest → made_in (book_of_format format texts shelf front) ≡ Some m
+    → IsOwnRecordIn format m (read_record_in format body)

@@ -1,14 +1,16 @@
 -- What a disk stands for.
-use Rattle.std.specs.Prelude.{◌≡◌, ◌⊎◌, ℕ, ◌≤◌, ◌^◌, List, [], ◌∷◌, ◌++◌, length, Option, Some, None}
+use Rattle.std.specs.Prelude.{◌≡◌, ◌⊎◌, ℕ, ◌≤◌, ◌^◌, true, List, [], ◌∷◌, ◌++◌, length, Option, Some, None}
 use Rattle.script_nodes.specs.Setup.{Named}
 use Rattle.web_disk.specs.View.{View, LeavesOnly}
-use Rattle.page_journal.specs.Records.{at_rest}
-use Rattle.page_journal.specs.Holding.{IsClosed, MayHold, Holdable}
+use Rattle.page_journal.specs.Records.{newest, is_format, at_rest}
+use Rattle.page_journal.specs.Holding.{IsClosed, MayHold, IsEither, Holdable}
 use Rattle.replay_spec.specs.Book.{Book, reopened}
 use Rattle.replay_spec.specs.Step.{kept, recovered}
 use Rattle.replay_spec.specs.Recovery.{of_length}
 use Rattle.journal_spec.specs.Before.{Earlier, Made, made_of}
-use Rattle.journal_spec.specs.Making.{Texts, Making, made_in, book_of, book_in_bytes}
+use Rattle.journal_spec.specs.Making.{Texts, Making, made_in, book_of}
+use Rattle.journal_spec.specs.Old.{book_of_format}
+use Rattle.journal_spec.specs.Bytes.{book_in_bytes}
 use Rattle.journal_spec.specs.Opening.{opened_book}
 
 -- what was made, if anything was, is this book, as after a crash, whatever numbers and states were told
@@ -23,36 +25,69 @@ IsBook making b = IsMadeBook (made_in making) b
 abbrev pub Makes : Texts → (shelf : ℕ) → List (List ℕ) → Book → Type 0
 Makes texts shelf bodies b = IsBook (book_of texts shelf bodies) b
 
+-- these bodies of a journal of this format make the book
+abbrev pub MakesOf : Texts → (shelf format : ℕ) → List (List ℕ) → Book → Type 0
+MakesOf texts shelf f bodies b = IsBook (book_of_format f texts shelf bodies) b
+
 -- these bytes of a disk make the book
 abbrev pub MakesIn : Texts → (shelf : ℕ) → List ℕ → Book → Type 0
 MakesIn texts shelf bytes b = IsBook (book_in_bytes texts shelf bytes) b
 
--- one body in flight, or none
-abbrev pub flight : Option (List ℕ) → List (List ℕ)
-flight None = []
-flight (Some body) = body ∷ []
+-- what may become of the bodies of a journal: nothing, one more that is in flight, or others of that format that are put in their place
+pub data Flight : Type 0 where
+  still : Flight
+  adds : (body : List ℕ) → Flight
+  puts : (other : ℕ) (others : List (List ℕ)) → Flight
 
-abbrev pub HasRoom : List (List ℕ) → Option (List ℕ) → Type 0
-HasRoom bodies None = length (at_rest bodies) ≤ 2 ^ 30
-HasRoom bodies (Some body) = Holdable bodies body
+-- one body in flight, or nothing
+abbrev pub flight_of : Option (List ℕ) → Flight
+flight_of None = still
+flight_of (Some body) = adds body
 
--- bodies that make the one book, and with the one in flight the other
+-- the bodies behind what is in flight
+abbrev pub with_flight : List (List ℕ) → Flight → List (List ℕ)
+with_flight bodies still = bodies
+with_flight bodies (adds body) = bodies ++ body ∷ []
+with_flight bodies (puts other others) = others
+
+-- the format of the bodies behind what is in flight
+abbrev pub format_with : (format : ℕ) → Flight → ℕ
+format_with f still = f
+format_with f (adds body) = f
+format_with f (puts other others) = other
+
+-- a journal has room for these bodies, and for what is in flight
+abbrev pub HasRoom : List (List ℕ) → Flight → Type 0
+HasRoom bodies still = length (at_rest bodies) ≤ 2 ^ 30
+HasRoom bodies (adds body) = Holdable bodies body
+HasRoom bodies (puts other others) = (length (at_rest bodies) ≤ 2 ^ 30) × (length (at_rest others) ≤ 2 ^ 30) × (is_format other ≡ true)
+
+-- bodies of a format that make the one book, and behind what is in flight the other
 pub record Between (texts : Texts) (shelf : ℕ) (before after : Book) : Type 0 where
+  pub format : ℕ
+  pub known : is_format format ≡ true
   pub bodies : List (List ℕ)
-  pub more : Option (List ℕ)
-  pub room : HasRoom bodies more
-  pub first : Makes texts shelf bodies before
-  pub second : Makes texts shelf (bodies ++ flight more) after
+  pub flight : Flight
+  pub room : HasRoom bodies flight
+  pub first : MakesOf texts shelf format bodies before
+  pub second : MakesOf texts shelf (format_with format flight) (with_flight bodies flight) after
 
--- bytes may hold these bodies, with the one in flight, if there is one, or without it
-abbrev pub Hold : List (List ℕ) → Option (List ℕ) → List ℕ → Type 0
-Hold bodies None bytes = IsClosed bodies bytes
-Hold bodies (Some body) bytes = MayHold bodies body bytes
+-- a disk that stands between two books has these bodies of this format, with this in flight
+pub record Carries {texts : Texts} {shelf : ℕ} {before after : Book} (f : ℕ) (bodies : List (List ℕ)) (t : Flight) (k : Between texts shelf before after) : Type 0 where
+  pub format : k.format ≡ f
+  pub bodies_are : k.bodies ≡ bodies
+  pub flight_is : k.flight ≡ t
+
+-- bytes may hold these bodies of this format, with what is in flight or without it
+abbrev pub Hold : (format : ℕ) → List (List ℕ) → Flight → List ℕ → Type 0
+Hold f bodies still bytes = IsClosed f bodies bytes
+Hold f bodies (adds body) bytes = MayHold f bodies body bytes
+Hold f bodies (puts other others) bytes = IsEither f other bodies others bytes
 
 -- bytes may hold what makes one of two books
 abbrev pub Held : {texts : Texts} {shelf : ℕ} {before after : Book} → Between texts shelf before after
     → List ℕ → Type 0
-Held k bytes = Hold k.bodies k.more bytes
+Held k bytes = Hold k.format k.bodies k.flight bytes
 
 -- each of these images may hold what makes one of two books
 abbrev pub HoldIn : {texts : Texts} {shelf : ℕ} {before after : Book} → Between texts shelf before after
@@ -75,11 +110,11 @@ Stands texts shelf view b = (n : ℕ) × ((k : Between texts shelf b (if_kept n 
 abbrev pub Throughout : Texts → (shelf : ℕ) → (before after : Book) → View → View → Type 0
 Throughout texts shelf before after old new = (k : Between texts shelf before after) × LeavesOnly old new (Held k)
 
--- a crash at any moment of a call leaves what makes the one book or the other, of these bodies and one in flight; what is private to
--- a shelf says this, so that calls can be joined
+-- a crash at any moment of a call leaves what makes the one book or the other, of these bodies of the newest format and what is in flight;
+-- what is private to a shelf says this, so that calls can be joined
 abbrev pub ThroughoutFrom : List (List ℕ) → Texts → (shelf : ℕ) → (before after : Book) → View → View → Type 0
 ThroughoutFrom bodies texts shelf before after old new =
-    (k : Between texts shelf before after) × (k.bodies ≡ bodies) × LeavesOnly old new (Held k)
+    (k : Between texts shelf before after) × (k.format ≡ newest) × (k.bodies ≡ bodies) × LeavesOnly old new (Held k)
 
 -- whatever two books the disk stood between, a crash at any moment of a recovery leaves it there
 abbrev pub StaysThroughout : Texts → (shelf : ℕ) → View → View → Type 0

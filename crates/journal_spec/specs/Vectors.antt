@@ -8,6 +8,7 @@ use Rattle.replay_spec.specs.Book.{Change, opens, ends, sweeps, changed, renewed
 use Rattle.replay_spec.specs.Compaction.{file_length}
 use Rattle.value_bytes.specs.Reading.{read_within}
 use Rattle.journal_records.specs.Records.{begins, changes, draws, renews, begin_of, renewal_of, body_of}
+use Rattle.journal_records.specs.Old.{newest_format, read_record_in}
 use Rattle.journal_records.specs.Reading.{read_record}
 use Rattle.journal_spec.specs.Before.{nothing_told, Made}
 use Rattle.journal_spec.specs.Making.{Texts, nothing, begun, made, damaged, other, began, book_of}
@@ -190,8 +191,8 @@ ticks_60 : book_of texts 0 (begin_ten ∷ sweep_to 50 ∷ lost_end 2 ∷ sweep_t
 unfolding read_record read_within
 ticks_60 = refl
 
-ticks_copied : copies texts 0 begin_ten (sweep_to 50 ∷ lost_end 2 ∷ sweep_to 60 ∷ []) at_60 ≡ begin_ten ∷ body_of (draws 3) ∷ sweep_to 60 ∷ []
-unfolding read_record read_within
+ticks_copied : copies newest_format texts 0 begin_ten (sweep_to 50 ∷ lost_end 2 ∷ sweep_to 60 ∷ []) at_60 ≡ begin_ten ∷ body_of (draws 3) ∷ sweep_to 60 ∷ []
+unfolding read_record_in read_within
 ticks_copied = refl
 
 -- another setup stays, and between its ticks no two stand together
@@ -206,12 +207,12 @@ unfolding read_record
 edited_ticks = refl
 
 edits_are_copied :
-    copies texts 0 begin_ten (sweep_to 50 ∷ body_of (renewal_of (eleven ∷ [])) ∷ sweep_to 60 ∷ []) edited_at_60
+    copies newest_format texts 0 begin_ten (sweep_to 50 ∷ body_of (renewal_of (eleven ∷ [])) ∷ sweep_to 60 ∷ []) edited_at_60
     ≡ begin_ten ∷ body_of (draws 0) ∷ sweep_to 50 ∷ body_of (renewal_of (eleven ∷ [])) ∷ sweep_to 60 ∷ []
-unfolding read_record
+unfolding read_record_in
 edits_are_copied = refl
 
 -- a compacted file that is compacted again is the same
-number_copied : copies texts 0 begin_ten (body_of (draws 3) ∷ sweep_to 50 ∷ []) (record { book = compacted; earlier = nothing_told }) ≡ begin_ten ∷ body_of (draws 3) ∷ sweep_to 50 ∷ []
-unfolding read_record
+number_copied : copies newest_format texts 0 begin_ten (body_of (draws 3) ∷ sweep_to 50 ∷ []) (record { book = compacted; earlier = nothing_told }) ≡ begin_ten ∷ body_of (draws 3) ∷ sweep_to 50 ∷ []
+unfolding read_record_in
 number_copied = refl

@@ -11,11 +11,12 @@ use Rattle.frame_codec.specs.Spelling.{state_bytes}
 use Rattle.frame_codec.specs.Forms.{form_bytes}
 use Rattle.value_bytes.specs.Reading.{read_within}
 use Rattle.journal_records.specs.Fields.{start, origin_bytes}
-use Rattle.journal_records.specs.Records.{changes, begin_of, body_of, effects_bytes, names_bytes}
+use Rattle.journal_records.specs.Records.{changes, draws, begin_of, body_of, effects_bytes, names_bytes}
 use Rattle.journal_records.specs.Reading.{read_record}
 use Rattle.journal_records.specs.Old.{read_record_in}
 use Rattle.journal_spec.specs.Making.{Texts, made, damaged, began, book_of}
 use Rattle.journal_spec.specs.Old.{book_of_format}
+use Rattle.journal_spec.specs.Copying.{copies}
 
 -- a script that shows a page and waits
 abbrev waiting : Named
@@ -254,3 +255,16 @@ no_form_in_2 = refl
 a_form_in_3 : book_of_format 3 texts 3 (begin_waiting ∷ old_start bare_bytes ∷ []) ≡ damaged 69
 unfolding read_record_in read_within
 a_form_in_3 = refl
+
+-- a start of format 2, and one of format 3, is written in the newest format with the form of its state and a list of no pages that went
+start_of_2_now :
+    copies 2 texts 3 begin_waiting (old_start bare_bytes ∷ []) (record { book = started_by 57; earlier = record { seen = 0 ∷ []; states = (0, bare) ∷ [] } })
+    ≡ begin_waiting ∷ body_of (draws 1) ∷ start_body 0 0 flat ∷ []
+unfolding read_record_in read_within
+start_of_2_now = refl
+
+start_of_3_now :
+    copies 3 texts 3 begin_waiting (old_start flat ∷ []) (record { book = started_by 58; earlier = record { seen = 0 ∷ []; states = (0, bare) ∷ [] } })
+    ≡ begin_waiting ∷ body_of (draws 1) ∷ start_body 0 0 flat ∷ []
+unfolding read_record_in read_within
+start_of_3_now = refl

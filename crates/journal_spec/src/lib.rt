@@ -3,15 +3,16 @@
 
 ghost use Rattle.std.specs.Prelude.{IsTrue};
 ghost use Rattle.journal_spec.specs.Bodies.{CompactionCopies};
-ghost use Rattle.journal_spec.specs.Copying.{CopiesMakeTheBook};
+ghost use Rattle.journal_spec.specs.Copying.{CopiesMakeTheBook, MigrationsMakeTheBook};
+ghost use Rattle.journal_spec.specs.OwnCopies.{CopiesAreOwn};
 ghost use Rattle.journal_spec.specs.Files.{FilesAreMade, CompactionIsWritten};
 ghost use Rattle.journal_spec.specs.Events.{BodiesGrow, EventsAreWritten, FreshFilesSuffice};
 ghost use Rattle.journal_spec.specs.Migrating.{MigrationIsWritten};
 ghost use Rattle.journal_spec.specs.Spelling.{WhatIsRecordedIsSpelled, RangesAreKept};
 ghost use Rattle.journal_spec.specs.Depths.{RunsStayShallow};
 ghost use Rattle.journal_spec.specs.Reading.{ReadersMakeTheBook};
-ghost use Rattle.journal_spec.specs.Laws.{OnlyItsBeginBegins, ImagesMakeBooks, OpenedImagesMakeBooks, BooksStandAlike, ACrashIsLostOrKept, CrashesOpen, ASetupIsItsTexts, BodiesMakeFittingBooks, FreshJournalsAreKept, RenewalsAreKept, OpeningsAreRecords, RenewalsStandBetween, LandingsAreKept, LandingsStandBetween, EventsAreKept, EventsStandBetween, OwnStatesAreTold, RunsAreKept};
-ghost use Rattle.journal_spec.specs.Disks.{RecoveriesStay, RecoveriesFindOne, OpeningsStay, SettledJournalsStand, QuietCallsStand, AppendsStandBetween, CallsLeaveStanding};
+ghost use Rattle.journal_spec.specs.Laws.{OnlyItsBeginBegins, ImagesMakeBooks, OpenedImagesMakeBooks, BooksStandAlike, ACrashIsLostOrKept, CrashesOpen, ASetupIsItsTexts, BodiesMakeFittingBooks, BodiesOfAnyFormatFit, FreshJournalsAreKept, RenewalsAreKept, OpeningsAreRecords, RenewalsStandBetween, LandingsAreKept, LandingsStandBetween, EventsAreKept, EventsStandBetween, CompactionsStandBetween, MigrationsStandBetween, OwnStatesAreTold, RunsAreKept};
+ghost use Rattle.journal_spec.specs.Disks.{RecoveriesStay, RecoveriesFindOne, OpeningsStay, SettledJournalsStand, QuietCallsStand, WritesStandBetween, CallsLeaveStanding};
 
 use journal_records::records_are_exact;
 use page_journal::Take;
@@ -30,6 +31,20 @@ pub fn compaction_copies()
 /// The bodies that a compaction copies make the book of the compacted file, whoever wrote them.
 pub fn copies_make_the_book()
     ensures { CopiesMakeTheBook }
+{
+    records_are_exact();
+}
+
+/// The bodies of a file of any format that stay, written in the newest one, make the book of the file again, whoever wrote it.
+pub fn migrations_make_the_book()
+    ensures { MigrationsMakeTheBook }
+{
+    records_are_exact();
+}
+
+/// The bodies of a compacted file have own states, where those of the file before have, and none of them is passed over.
+pub fn copies_are_own()
+    ensures { CopiesAreOwn }
 {
     records_are_exact();
 }
@@ -121,6 +136,13 @@ pub fn bodies_make_fitting_books()
     records_are_exact();
 }
 
+/// What any bodies make in any format is such a book too.
+pub fn bodies_of_any_format_fit()
+    ensures { BodiesOfAnyFormatFit }
+{
+    records_are_exact();
+}
+
 /// The first record of a journal makes the empty book of its setup, which can go on.
 pub fn fresh_journals_are_kept()
     ensures { FreshJournalsAreKept }
@@ -177,6 +199,21 @@ pub fn events_stand_between()
     records_are_exact();
 }
 
+/// With the copies in flight that a compaction makes, a disk stands between the book before and the one with the compacted
+/// file.
+pub fn compactions_stand_between()
+    ensures { CompactionsStandBetween }
+{
+    records_are_exact();
+}
+
+/// With what a migration writes in flight, a disk stands between the book of a file of any format and the one with the new file.
+pub fn migrations_stand_between()
+    ensures { MigrationsStandBetween }
+{
+    records_are_exact();
+}
+
 /// What a journal told of each page is the state that its script left there, where its states are own ones.
 pub fn own_states_are_told()
     ensures { OwnStatesAreTold }
@@ -218,10 +255,10 @@ pub fn quiet_calls_stand<D: Disk>()
     ensures { QuietCallsStand D.view }
 {}
 
-/// A settled journal that makes room for a record and adds it stands between the book before and the one behind it, at
-/// each moment.
-pub fn appends_stand_between<D: Disk>()
-    ensures { AppendsStandBetween D.view }
+/// A settled journal that makes room, and then adds a record or gives place to another file, stands between the book before
+/// and the one behind it, at each moment.
+pub fn writes_stand_between<D: Disk>()
+    ensures { WritesStandBetween D.view }
 {}
 
 /// A call that stood between two books leaves the disk standing for the book that it left, also where it failed.

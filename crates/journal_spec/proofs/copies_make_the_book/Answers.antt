@@ -1,4 +1,4 @@
-use Rattle.journal_spec.proofs.Copying as laws
+use Rattle.journal_spec.proofs.Rewriting as laws
 use Rattle.journal_spec.proofs.copies_make_the_book.Goals as goal
 
 pub returns : goal.returns

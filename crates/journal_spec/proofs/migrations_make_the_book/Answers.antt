@@ -1,0 +1,5 @@
+use Rattle.journal_spec.proofs.Rewriting as laws
+use Rattle.journal_spec.proofs.migrations_make_the_book.Goals as goal
+
+pub returns : goal.returns
+returns c = laws.migrations_make c.records_are_exact.ensures
