@@ -1,3 +1,4 @@
 pub mod Passed
 pub mod Landed
 pub mod Redone
+pub mod Held

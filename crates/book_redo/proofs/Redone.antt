@@ -178,7 +178,7 @@ lengthened : (n : ℕ) (c : Change) (o : Option (List TxName)) (b : Book)
 lengthened n c None b = refl
 lengthened n c (Some inside) b = refl
 
-reopens_then : (f : Book → Book) (old mid new : kept.Book) → MakesSo f old mid → Reopens (λ b. b) mid new → Reopens f old new
+pub reopens_then : (f : Book → Book) (old mid new : kept.Book) → MakesSo f old mid → Reopens (λ b. b) mid new → Reopens f old new
 reopens_then f old mid new made again = record {
   book = λ library beside. again.book library beside ∙ ap (λ (b : Book). reopened b) (made.book library beside);
   states = λ source all has. again.states source all (made.states source all has);

@@ -1,1 +1,2 @@
 pub mod Redo
+pub mod Lands

@@ -6,9 +6,9 @@ ghost use Rattle.replay_spec.specs.Book.{ends, finishes, sweeps};
 ghost use Rattle.journal_records.specs.Fields.{start, answered};
 ghost use Rattle.journal_records.specs.Records.{IsInGrammar, EndingFits, FinishFits};
 ghost use Rattle.journal_records.specs.Views.{origin_of, page_change, ending_of, finish_of, logged_of};
-ghost use Rattle.instance_book.specs.Makes.{count_of, Makes, HasPlaces, HasSomeStates, KeepsPlaces, KeepsStates, StaysLow};
+ghost use Rattle.instance_book.specs.Makes.{count_of, Makes, HasPlaces, HasSomeStates, KeepsPlaces, KeepsStates, Reopens, StaysLow};
 ghost use Rattle.instance_book.specs.Changes.{HasRoomFor, KeepsPlacesBy, KeepsStatesBy};
-ghost use Rattle.book_redo.specs.Redo.{Counts, LandsAs, EndsIn, IsFree, IsLanded, number_by, IsRedoneBy, IsBeginning, OpensAt, KeepsPlacesAt, KeepsStatesOpened, IsAnswered, IsLandedRecord};
+ghost use Rattle.book_redo.specs.Redo.{counted_to, Counts, LandsAs, EndsIn, IsFree, IsLanded, number_by, IsRedoneBy, IsBeginning, OpensAt, KeepsPlacesAt, KeepsStatesOpened, IsAnswered, IsLandedRecord};
 
 use crate::takes::{are_held, can_open, takes};
 use crate::told::{state_told, told_there};
@@ -48,14 +48,14 @@ fn land(book: &mut Book, change: Change, number: u64)
 
 // Where the script of a start stands.
 #[derive(Clone, Copy)]
-struct Beginning<'a> {
+pub(crate) struct Beginning<'a> {
     // Its place among all scripts of the library.
     place: usize,
-    script: &'a NamedScript,
+    pub(crate) script: &'a NamedScript,
 }
 
 // The script of this place in the present setup.
-fn start_of(library: &Library, start: usize) -> Option<Beginning<'_>>
+pub(crate) fn start_of(library: &Library, start: usize) -> Option<Beginning<'_>>
     ensures { IsBeginning (library_of library.now) start result }
 {
     let place = library.start(start)?;
@@ -263,7 +263,7 @@ fn redo_page(
 }
 
 // The instance where this page stands, where the effects are on its cells and hold over them.
-fn ended_in<'a>(
+pub(crate) fn ended_in<'a>(
     book: &'a Book,
     instance: u64,
     page: u64,
@@ -446,4 +446,15 @@ pub fn redo(
     }
     book.reopen();
     Ok(true)
+}
+
+/// A record of this number counts, and changes nothing else; the book is then as after a crash. It takes no memory.
+pub fn pass(book: &mut Book, number: u64)
+    requires number { number < 2 ^ 62 }
+    requires low { book.old.logged ≤ 2 ^ 62 }
+    ensures book { Reopens (counted_to number) book.old book.new }
+    ensures placed { KeepsPlaces book.old book.new }
+{
+    pass_over(book, number);
+    book.reopen();
 }

@@ -2,7 +2,9 @@
 #![tactic(auto)]
 
 mod landing;
+mod landings;
 mod takes;
 mod told;
 
-pub use landing::redo;
+pub use landing::{pass, redo};
+pub use landings::lands;

@@ -21,7 +21,7 @@ use Rattle.replay_spec.proofs.Numbered.{put_length}
 use Rattle.replay_spec.proofs.Stand.{among_of}
 use Rattle.replay_spec.proofs.Admitted.{page_stands, start_is_no_page, page_is_no_start}
 use Rattle.machine_states.specs.Machine.{Suspended}
-use Rattle.kept_states.specs.Kept.{Kept, IsKeptFrom}
+use Rattle.kept_states.specs.Kept.{IsKeptFrom}
 use Rattle.kept_states.specs.Links.{links_at}
 use Rattle.machine_states.specs.Laws.{IsStateOf}
 use Rattle.machine_states.specs.Views.{Keeps, origin_of, state_of, segment_of}
@@ -35,11 +35,11 @@ use Rattle.instance_book.specs.declared.change.Change.TheVariants.{Opens, Extend
 use Rattle.book_visits.specs.declared.ticket.Ticket.{Ticket}
 use Rattle.instance_book.specs.Views.{page_of, script_in, no_script}
 use Rattle.book_visits.specs.Views.{ticket_of}
-use Rattle.instance_book.specs.Places.{Source, own, given, source_in, arena_of, kept_at, IsStateAt, HasState, IsNextIn, IsNextAt}
+use Rattle.instance_book.specs.Places.{Source, own, given, source_in, arena_of, kept_at, IsStateAt, IsNextIn, IsNextAt}
 use Rattle.frame_codec.specs.Spelling.{StateHasBytes}
 use Rattle.instance_book.specs.Changes.{OpensKept}
 use Rattle.book_visits.specs.Changes.{HasStateBy, IsSpelledBy}
-use Rattle.book_visits.specs.Fits.{IsStateBehind, GoesOnFrom, GoesOnBySource, FitsAs, IsForSome, IsStateOver}
+use Rattle.book_visits.specs.Fits.{GoesOnFrom, GoesOnBySource, FitsAs, IsForSome, IsStateOver}
 use Rattle.instance_book.specs.Makes.{shelf_from}
 use Rattle.book_visits.specs.Prepares.{OpensAs, ExtendsAs, KeepsStateOf}
 use Rattle.book_visits.specs.Laws.{KeepsStateAs, AShownPageHasItsState}
@@ -222,24 +222,6 @@ module _ (all : List Named) (b : Book) (orderly : IsOrderly b) (t : Ticket) (out
 
 pub a_shown_page_has_its_state : AShownPageHasItsState
 a_shown_page_has_its_state all b orderly t out a adm ok fits r over c keeps has = keeps_by all b orderly t out r (target_of t.target) a adm ok fits over c keeps has
-
--- a visit whose pages are the chain of a page that has its state
-pub goes_on_from : (v : Visit) (ps : List Page) (p : Page) (k : Kept) → v.pages ≡ chain ps p → (has : HasState v.script (own (home_of v)) ps p k) → IsStateBehind v has.state
-goes_on_from v ps p k e has =
-    let h = has.lineage in
-    record {
-      ancestors = reverse h.ancestors;
-      page = p;
-      chain = e ∙ (chain_is ps p h.ancestors h.are h.few ∙ reverse-append (p ∷ []) h.ancestors);
-      state = has.its;
-    }
-
--- and so is an answer to the page of a place, of which this is kept
-pub origin_goes_on : (b : Book) (t : next.Ticket) (at : Place) (s : Named) (o : Option Suspended) (k : Kept) → at.instance.script ≡ s
-    → (has : HasState s (own (home s b.shelf at.instance.number)) at.instance.pages at.page k) → o ≡ Some has.state → GoesOnFrom (page_visit b t at) o
-origin_goes_on b t at s o k its has e =
-    subst (λ (x : Named). (is : HasState x (own (home x b.shelf at.instance.number)) at.instance.pages at.page k) → o ≡ Some is.state → GoesOnFrom (page_visit b t at) o) its
-    (λ is f. subst (λ (x : Option Suspended). GoesOnFrom (page_visit b t at) x) (sym f) (goes_on_from (page_visit b t at) at.instance.pages at.page k refl is)) has e
 
 -- a ticket whose target is admitted and that fits is for the visit
 pub some_visit : (scripts : List Named) (b : Book) (t : Ticket) (a : Admission) → refusal_of a ≡ None → FitsAs scripts b t a → IsForSome scripts t

@@ -1,11 +1,11 @@
 -- The visit that a ticket is for.
-use Rattle.std.specs.Prelude.{◌≡◌, ℕ, List, [], ◌∷◌, ◌++◌, Option, Some, None, slice_get, length, option_map, ⊤}
+use Rattle.std.specs.Prelude.{◌≡◌, ℕ, List, Option, Some, slice_get, length, option_map, ⊤}
 use Rattle.std.specs.Borrow.{Bor}
 use Rattle.script_nodes.specs.Setup.{Named}
 use Rattle.replay_spec.specs.Tape.{Tape}
 use Rattle.replay_spec.specs.Book as spec
 use Rattle.replay_spec.specs.Admission.{Place, Admission, begins, resumes, refused}
-use Rattle.replay_spec.specs.Next.{Visit, url_for, home_of, page_tape, start_visit, page_visit}
+use Rattle.replay_spec.specs.Next.{Visit, url_for, start_visit, page_visit}
 use Rattle.machine_states.specs.Machine.{Suspended}
 use Rattle.machine_states.specs.Laws.{IsStateOf}
 use Rattle.machine_states.specs.Views.{origin_of, suspended_of}
@@ -15,18 +15,7 @@ use Rattle.book_visits.specs.declared.ticket.Ticket.{Ticket}
 use Rattle.book_visits.specs.Views.{ticket_of}
 use Rattle.instance_book.specs.Places.{Source, own, given, IsGiven, arena_of}
 use Rattle.instance_book.specs.Fits.{IsOriginOf, IsStoredOrigin}
-
--- the visit answers a page, and this is the state of the page's chain
-pub record IsStateBehind (v : Visit) (d : Suspended) : Type 0 where
-  pub ancestors : List spec.Page
-  pub page : spec.Page
-  pub chain : v.pages ≡ ancestors ++ page ∷ []
-  pub state : IsStateOf (arena_of v.script.script) (page_tape (home_of v) ancestors page) d
-
--- what a visit goes on from: a start from nothing, and an answer to a page from the state of that page's chain
-abbrev pub GoesOnFrom : Visit → Option Suspended → Type 0
-GoesOnFrom v None = v.pages ≡ []
-GoesOnFrom v (Some d) = IsStateBehind v d
+pub use Rattle.instance_book.specs.Visits.{GoesOnFrom, IsStateBehind}
 
 -- the ticket's script, its URL, what it goes on from and the links of its page are those of a visit
 pub record IsFor (all : List Named) (t : Ticket) (v : Visit) : Type 0 where

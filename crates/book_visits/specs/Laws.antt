@@ -1,29 +1,19 @@
 -- The state of a page that a visit shows.
-use Rattle.std.specs.Prelude.{◌≡◌, List, map, Contains, Option, None, ⊤}
-use Rattle.instance_cells.specs.Cells.{reads_of}
-use Rattle.instance_cells.specs.Views.{effect_of}
+use Rattle.std.specs.Prelude.{◌≡◌, List, Contains, Option, None, ⊤}
 use Rattle.script_nodes.specs.Setup.{Named}
 use Rattle.page_names.specs.Views.{target_of}
-use Rattle.replay_spec.specs.Tape.{recorded}
 use Rattle.replay_spec.specs.Book.{Book}
 use Rattle.replay_spec.specs.Admission.{Admission, begins, resumes, refused, refusal_of, admit}
-use Rattle.replay_spec.specs.Next.{Visit, tape_for, start_visit, page_visit}
+use Rattle.replay_spec.specs.Next.{start_visit, page_visit}
 use Rattle.replay_spec.specs.Invariant.{IsOrderly}
-use Rattle.machine_states.specs.Laws.{IsStateOf}
-use Rattle.machine_states.specs.Views.{Keeps}
 use Rattle.machine_states.specs.declared.segment.Segment.{Segment}
 use Rattle.instance_book.specs.declared.change.Change.{Change}
 use Rattle.book_visits.specs.declared.ticket.Ticket.{Ticket}
 use Rattle.book_visits.specs.Views.{ticket_of}
-use Rattle.instance_book.specs.Places.{arena_of}
+pub use Rattle.instance_book.specs.Visits.{KeepsStateOver}
 use Rattle.book_visits.specs.Fits.{FitsAs}
 use Rattle.book_visits.specs.Changes.{HasStateBy, IsSpelledBy}
 use Rattle.book_visits.specs.Prepares.{KeepsItsState}
-
--- where the segment waits for an answer, its state is kept over the visit's tape, with what was read recorded
-abbrev pub KeepsStateOver : Visit → Segment → Type 0
-KeepsStateOver v r =
-    Keeps r.outcome (λ d. IsStateOf (arena_of v.script.script) (tape_for v (recorded (reads_of (map effect_of r.effects.items)))) d)
 
 -- where the segment waits for an answer, its state is kept over the tape of the visit that the ticket's target is admitted as
 abbrev pub KeepsStateAs : Book → Ticket → Admission → Segment → Type 0

@@ -7,3 +7,4 @@ pub mod Given
 pub mod Behind
 pub mod Whole
 pub mod Redone
+pub mod Going

@@ -11,3 +11,4 @@ pub mod Standing
 pub mod Swept
 pub mod Segments
 pub mod Copies
+pub mod Visits

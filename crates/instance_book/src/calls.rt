@@ -57,6 +57,13 @@ impl Book {
         self.drawn
     }
 
+    /// One more than the greatest number in a record.
+    pub fn logged(&self) -> u64
+        ensures { result ≡ self.now.logged }
+    {
+        self.logged
+    }
+
     /// How many live instances there are.
     pub fn live(&self) -> u32
         ensures { result ≡ count_of self.now }

@@ -6,7 +6,7 @@ use Rattle.replay_spec.specs.Next as next
 use Rattle.instance_book.specs.Views.{page_of, pages_of, script_in, no_script}
 use Rattle.instance_book.specs.Places.{own, given, IsGiven, kept_at}
 use Rattle.instance_book.specs.Standing.{book_under, place_of}
-use Rattle.book_visits.proofs.States.{origin_goes_on}
+use Rattle.instance_book.proofs.Going.{origin_goes_on}
 use Rattle.instance_book.proofs.States.{links_next}
 use Rattle.book_visits.proofs.take.page_ticket.Goals as goal
 
