@@ -1,0 +1,10 @@
+pub mod Anew
+pub mod Before
+pub mod Comes
+pub mod Fits
+pub mod Left
+pub mod Over
+pub mod Quiet
+pub mod Respelled
+pub mod Shown
+pub mod Spelled

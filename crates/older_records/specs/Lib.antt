@@ -1,0 +1,4 @@
+pub mod Again
+pub mod Behind
+pub mod Renewing
+pub mod Runs

@@ -1,0 +1,6 @@
+//! The run of a segment from what a page left or from the start of its script: for tickets, and for records whose pages are made again.
+#![tactic(auto)]
+
+mod run;
+
+pub use run::run_from;
