@@ -1,0 +1,10 @@
+//! The bytes of a journal's compacted file, copied from its file, and those of one that is of an older format: for the shelf.
+#![tactic(auto)]
+
+mod copier;
+mod copying;
+mod frame;
+mod older;
+
+pub use copying::{CopyFault, compacted_file};
+pub use older::{Sizes, file_of, sizes_of};

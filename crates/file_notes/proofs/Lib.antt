@@ -1,0 +1,4 @@
+pub mod Plans
+pub mod Noted
+pub mod Steps
+pub mod Compacts

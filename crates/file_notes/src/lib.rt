@@ -1,0 +1,11 @@
+//! What is known of a journal's file without its bytes: its records, of which instance each is and how long: for recovery and the shelf.
+#![tactic(auto)]
+
+mod note;
+mod notes;
+mod past;
+mod plan;
+
+pub use note::Note;
+pub use notes::FileNotes;
+pub use past::FilePast;
