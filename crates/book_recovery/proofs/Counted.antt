@@ -1,5 +1,5 @@
 -- A record opens one instance at most.
-use Rattle.std.proofs.Common.{◌≡◌, ◌∙◌, ap, sym, ℕ, ◌+◌, ◌*◌, ◌≤◌, Bool, not, ◌==◌, List, [], length, Option, Some, None, slice_get, refl, arith}
+use Rattle.std.proofs.Common.{◌≡◌, ◌∙◌, ap, sym, subst, ℕ, ◌+◌, ◌*◌, ◌≤◌, Bool, not, ◌==◌, List, [], length, Option, Some, None, slice_get, refl, arith}
 use Rattle.script_value.specs.declared.outcome.TxName.{TxName}
 use Rattle.script_nodes.specs.Setup.{Named, Library}
 use Rattle.replay_spec.specs.Book.{Change, opens, extends, ends, finishes, sweeps, Instance, Book, is_live, reopened}
@@ -15,9 +15,11 @@ use Rattle.instance_book.specs.Makes.{rules_with}
 use Rattle.book_redo.specs.Redo.{told_of, names_told}
 use Rattle.instance_book.proofs.Seen.{length_seen, length_mend, length_put, length_kept}
 use Rattle.journal_records.specs.Records.{Record, begins, changes, renews, draws}
+use Rattle.older_records.specs.declared.renew.Renewed.TheVariants as renewed
 use Rattle.book_recovery.specs.declared.found.Found.{Found}
 use Rattle.book_recovery.specs.declared.found.Found.TheVariants as found
-use Rattle.book_recovery.specs.Reading.{seen_by, IsUnderWay, IsMadeOf, Begins, Renews, HasFew, CountsOneMore}
+use Rattle.book_recovery.specs.Reading.{seen_by, IsUnderWay, IsMadeOf, IsMadeIn, Begins, Renews, HasFew, CountsOneMore}
+use Rattle.book_recovery.proofs.Made.{as_it_is}
 
 -- how many instances a book has
 count_seen : (library : Library) (b : kept.Book) → length (book_under library b).instances ≡ count_of b
@@ -62,6 +64,22 @@ redone_few shelf alone library seen (changes c state) old (Some new) way made =
     let names = names_told (is_repeated (number_in c) (seen_by seen)) (book_under library old) c x in
     let b = book_under library old in
     more_counted library old new b (reopened (redone (of_length 0) c names b)) refl (ap (λ (y : Book). y.instances) (h.book refl 0 no_journal)) (redone_count c names b)
+
+-- so does a record of any format
+pub told_few : (format shelf : ℕ) (alone : Bool) (library : Library) (seen : InOrder (Unit {0})) (r : Record) (old : kept.Book) (o : Option kept.Book) → IsUnderWay shelf alone seen old library
+    → IsMadeIn format library seen r old o → CountsOneMore old o
+told_few format shelf alone library seen r old None way made = tt
+told_few format shelf alone library seen (begins s named) old (Some new) way (x, (alike, made)) =
+    redone_few shelf alone library seen (begins s named) old (Some new) way (as_it_is library seen old (Some new) (begins s named) x alike made)
+told_few format shelf alone library seen (renews named) old (Some new) way (x, (alike, made)) =
+    redone_few shelf alone library seen (renews named) old (Some new) way (as_it_is library seen old (Some new) (renews named) x alike made)
+told_few format shelf alone library seen (draws number) old (Some new) way (x, (alike, made)) =
+    redone_few shelf alone library seen (draws number) old (Some new) way (as_it_is library seen old (Some new) (draws number) x alike made)
+told_few format shelf alone library seen (changes c state) old (Some new) way (renewed.Told l, (alike, made)) =
+    redone_few shelf alone library seen (changes c alike.0) old (Some new) way (subst (λ (q : Record). IsMadeOf library seen q old (Some new)) alike.1.0 made)
+told_few format shelf alone library seen (changes c state) old (Some new) way (renewed.Passed, (passes, made)) =
+    more_counted library old new (book_under library old) (book_under library old) refl (ap (λ (y : Book). y.instances) (made.1.1.book library no_journal)) (omega arith)
+told_few format shelf alone library seen (changes c state) old (Some new) way (renewed.Misread, (outside, made)) = absurd (let no : ⊥ = cc in no)
 
 -- an empty book has none
 pub empty_few : (shelf : ℕ) (b : kept.Book) → IsEmpty shelf b → count_of b ≡ 0

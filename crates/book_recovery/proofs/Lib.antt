@@ -1,5 +1,9 @@
+pub mod Counted
 pub mod Longer
 pub mod Made
-pub mod Way
-pub mod Counted
+pub mod Stored
+pub mod Told
 pub mod Took
+pub mod Way
+pub mod Filed
+pub mod Noting

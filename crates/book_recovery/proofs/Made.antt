@@ -1,11 +1,10 @@
--- What a reader of records makes.
-use Rattle.std.proofs.Common.{◌≡◌, ◌∙◌, ap, sym, subst, ℕ, ◌+◌, ◌≤◌, ◌^◌, ◌==◌, Bool, true, false, List, [], ◌∷◌, length, Option, Some, None, if◌then◌else◌, refl, arith, inl, inr}
+use Rattle.std.proofs.Common.{◌≡◌, ◌∙◌, ap, sym, subst, ℕ, ◌+◌, ◌≤◌, ◌^◌, ◌==◌, max, Bool, true, false, List, [], ◌∷◌, length, Option, Some, None, if◌then◌else◌, refl, arith, inl, inr}
 use Rattle.std.proofs.lemmas.Bool.Decides.{nat_tests}
 use Rattle.script_value.specs.declared.outcome.TxName.{TxName}
 use Rattle.script_nodes.specs.Setup.{Named, Library}
-use Rattle.replay_spec.specs.Book.{Change, opens, extends, ends, finishes, sweeps, renewed, File, Instance, Book, reopened}
+use Rattle.replay_spec.specs.Book.{Change, opens, extends, ends, finishes, sweeps, renewed as renewed_line, File, Instance, Book, reopened}
 use Rattle.replay_spec.specs.Rules.{Rules, first_file}
-use Rattle.replay_spec.specs.Change.{with_line, put_in_order}
+use Rattle.replay_spec.specs.Change.{with_line, put_in_order, logged_by}
 use Rattle.replay_spec.specs.Admission.{is_one}
 use Rattle.replay_spec.specs.Recovery as recovery
 use Rattle.replay_spec.specs.Recovery.{number_in, is_repeated, with_number, redone, of_length, first_of, resettled}
@@ -25,14 +24,20 @@ use Rattle.instance_book.specs.Standing.{book_under}
 use Rattle.book_redo.specs.Redo.{told_of, HasToldStates, is_read, names_told, IsFree, IsUntold, file_with, beside_with, IsRedone}
 use Rattle.instance_book.specs.Makes.{Reopens}
 use Rattle.journal_records.specs.Records.{Record, begins, changes, renews, draws}
-use Rattle.journal_records.specs.Reading.{read_record}
+use Rattle.journal_records.specs.Old.{read_record_in}
 use Rattle.setup_reader.specs.Texts.{setup_of_texts}
 use Rattle.journal_spec.specs.Before.{States, state_at, Earlier, nothing_told, Made, plain}
 use Rattle.journal_spec.specs.Retaking.{Told, unread, misread, told, told_in, held, states_with, then_told, retaken}
-use Rattle.journal_spec.specs.Making.{Making, begun, made, damaged, other, began, beside, has_script, first_by, first_setup, told_next, next_setup, next_by, with_drawn, second_by, with_body}
+use Rattle.journal_spec.specs.Making.{Making, begun, made, damaged, other, began, beside, has_script, first_by, first_setup, told_next, next_setup, with_drawn}
+use Rattle.journal_spec.specs.Old.{change_next, next_at, second_at, with_body_at}
+use Rattle.older_records.specs.declared.renew.Renewed.{Renewed}
+use Rattle.older_records.specs.declared.renew.Renewed.TheVariants as renewed
+use Rattle.older_records.specs.Renewing.{IsAsNewest, IsPassedOver, IsOutside, IsToldAsIs}
 use Rattle.book_recovery.specs.Found.{beside_file}
-use Rattle.book_recovery.specs.Reading.{seen_by, TellsOf, IsUnderWay, SeesNumber, Sees, may_stand, IsMadeOf, making_of, IsMadeAs, IsNothing, IsRenewed, IsFirst}
+use Rattle.book_recovery.specs.Reading.{seen_by, TellsOf, IsUnderWay, SeesNumber, Sees, may_stand, IsMadeOf, IsPassed, IsMadeBy, IsMadeIn, making_of, IsMadeAs, IsNothing, IsRenewed, IsFirst}
 use Rattle.book_recovery.proofs.Longer.{instances_longer, states_longer}
+
+-- What a reader of records makes.
 
 -- ---- numbers that were seen
 
@@ -61,7 +66,7 @@ sees_put n k x old mid new o number some same put =
 repeated_is : (o : Option ℕ) (n : ℕ) (seen : List ℕ) → o ≡ Some n → is_repeated o seen ≡ is_one n seen
 repeated_is o n seen e = ap (λ (p : Option ℕ). is_repeated p seen) e
 
-repeated_alike : (o : Option ℕ) (ms ns : List ℕ) → ((k : ℕ) → is_one k ms ≡ is_one k ns) → is_repeated o ms ≡ is_repeated o ns
+pub repeated_alike : (o : Option ℕ) (ms ns : List ℕ) → ((k : ℕ) → is_one k ms ≡ is_one k ns) → is_repeated o ms ≡ is_repeated o ns
 repeated_alike None ms ns same = refl
 repeated_alike (Some n) ms ns same = same n
 
@@ -109,7 +114,7 @@ told_beside library x y earlier b (ends e) state = refl
 told_beside library x y earlier b (finishes f) state = refl
 told_beside library x y earlier b (sweeps tick) state = refl
 
-held_beside : (library : Library) (x y : Beside) (b : kept.Book) (c : Change) (names : List TxName) → held (book_of library x b) c names ≡ held (book_of library y b) c names
+pub held_beside : (library : Library) (x y : Beside) (b : kept.Book) (c : Change) (names : List TxName) → held (book_of library x b) c names ≡ held (book_of library y b) c names
 held_beside library x y b (opens o) names = refl
 held_beside library x y b (extends e) names = refl
 held_beside library x y b (ends e) names = refl
@@ -169,19 +174,27 @@ book_after library place n c o b old new is h =
     ∙ (ap (λ (l : ℕ). book_of library (beside_file l (file_with n c o b.file)) new) long
     ∙ ap (λ (f : File). book_of library (beside_file (place + 5 + n + 1) f) new) (sym (file_after n c o b))))
 
--- what it makes of what was made
-next_is : (place : ℕ) (shelf : ℕ) (body : List ℕ) (alone : Bool) (c : Change) (state : Option (List ℕ)) (w : Made) (m : Making) → read_record body ≡ Some (changes c state)
-    → m ≡ making_of alone w → with_body setup_of_texts shelf place body m ≡ next_by setup_of_texts place (length body) w (Some (changes c state))
-next_is place shelf body true c state w m read is =
-    ap (with_body setup_of_texts shelf place body) is ∙ ap (second_by setup_of_texts place (length body) w) read
-next_is place shelf body false c state w m read is =
-    ap (with_body setup_of_texts shelf place body) is ∙ ap (next_by setup_of_texts place (length body) w) read
+-- one more than the number of a change is counted
+pub logged_is : (c : Change) (k : ℕ) → number_in c ≡ Some k → logged_by c ≡ k + 1
+logged_is (opens o) k e = let same : o.number ≡ k = cc in ap (λ (n : ℕ). n + 1) same
+logged_is (extends x) k e = let same : x.number ≡ k = cc in ap (λ (n : ℕ). n + 1) same
+logged_is (ends x) k e = let same : x.number ≡ k = cc in ap (λ (n : ℕ). n + 1) same
+logged_is (finishes f) k e = let same : f.number ≡ k = cc in ap (λ (n : ℕ). n + 1) same
+logged_is (sweeps tick) k e = absurd (let no : ⊥ = cc in no)
 
-told_is : (place n : ℕ) (w : Made) (c : Change) (state : Option (List ℕ)) (count : ℕ) (x : Told) → length w.book.scripts ≡ count → has_script count c ≡ true
-    → told_in w.earlier w.book c state ≡ x → next_by setup_of_texts place n w (Some (changes c state)) ≡ told_next place n w c x
-told_is place n w c state count x many has its =
-    ap (λ (t : Bool). if t then told_next place n w c (told_in w.earlier w.book c state) else damaged place) (ap (λ (k : ℕ). has_script k c) many ∙ has)
-    ∙ ap (told_next place n w c) its
+-- what it makes of what was made
+next_is : (format : ℕ) (place : ℕ) (shelf : ℕ) (body : List ℕ) (alone : Bool) (c : Change) (state : Option (List ℕ)) (w : Made) (m : Making) → read_record_in format body ≡ Some (changes c state)
+    → m ≡ making_of alone w → with_body_at format setup_of_texts shelf place body m ≡ next_at format setup_of_texts place (length body) w (Some (changes c state))
+next_is format place shelf body true c state w m read is =
+    ap (with_body_at format setup_of_texts shelf place body) is ∙ ap (second_at format setup_of_texts place (length body) w) read
+next_is format place shelf body false c state w m read is =
+    ap (with_body_at format setup_of_texts shelf place body) is ∙ ap (next_at format setup_of_texts place (length body) w) read
+
+-- a change that may stand there makes what its format says
+stands_at : (format place n : ℕ) (w : Made) (c : Change) (state : Option (List ℕ)) (count : ℕ) → length w.book.scripts ≡ count → has_script count c ≡ true
+    → next_at format setup_of_texts place n w (Some (changes c state)) ≡ change_next format place n w c state
+stands_at format place n w c state count many has =
+    ap (λ (t : Bool). if t then change_next format place n w c state else damaged place) (ap (λ (k : ℕ). has_script k c) many ∙ has)
 
 -- what is read lands with these names
 next_names : (place n : ℕ) (w : Made) (c : Change) (x : Told) (again : Bool) (b : Book) → (x ≡ misread → ⊥) → is_repeated (number_in c) w.earlier.seen ≡ again → w.book ≡ b
@@ -202,7 +215,7 @@ misread_is (told d) e = absurd (let no : ⊥ = cc in no)
 pub good_is : (x : Told) → true ≡ is_read x → x ≡ misread → ⊥
 good_is x read bad = let yes : true ≡ false = read ∙ ap is_read bad in let no : ⊥ = cc in no
 
-module _ (shelf place : ℕ) (body : List ℕ) (library : Library) (alone : Bool) (before : InOrder (Unit {0})) (old : kept.Book) (m : Making)
+module _ (format shelf place : ℕ) (body : List ℕ) (library : Library) (alone : Bool) (before : InOrder (Unit {0})) (old : kept.Book) (m : Making)
     (is : IsMadeAs shelf (place + 1) alone old library before m) where
   abbrev w : Made
   w = is.whole
@@ -210,9 +223,36 @@ module _ (shelf place : ℕ) (body : List ℕ) (library : Library) (alone : Bool
   many : length w.book.scripts ≡ length library.setup
   many = ap (λ (b : Book). length b.scripts) is.book
 
-  module _ (c : Change) (state : Option (List ℕ)) (read : read_record body ≡ Some (changes c state)) (stands : has_script (length library.setup) c ≡ true) where
+  module _ (c : Change) (state : Option (List ℕ)) (read : read_record_in format body ≡ Some (changes c state)) (stands : has_script (length library.setup) c ≡ true) where
+    -- the body makes what its format says of the change
+    pub comes_at : with_body_at format setup_of_texts shelf place body m ≡ change_next format place (length body) w c state
+    comes_at = next_is format place shelf body alone c state w m read is.is ∙ stands_at format place (length body) w c state (length library.setup) many stands
+
+    -- a change that is passed over in this format
+    passed_made : (after : InOrder (Unit {0})) (new : kept.Book) → IsPassedOver format library old c state → IsPassed (changes c state) old new → SeesNumber (number_in c) before after
+        → IsMadeAs shelf (place + 5 + length body + 1) false new library after (with_body_at format setup_of_texts shelf place body m)
+    passed_made after new passes (k, (number, again)) sees =
+        let n = length body in
+        let x = beside_file (place + 1) w.book.file in
+        let counts : logged_by c ≡ k + 1 = logged_is c k number in
+        let h : book_of library (beside_with n c None x) new ≡ reopened (redone (of_length n) c None (book_of library x old)) =
+        ap (λ (y : Book). record y { length = place + 1 + (n + 5) }) (again.book library x)
+        ∙ ap (λ (l : ℕ). reopened (record (book_of library x old) { logged = max old.logged l; length = place + 1 + (n + 5) })) (sym counts) in
+        record {
+          whole = retaken n c None unread w;
+          is = comes_at ∙ passes w x place n is.book is.tells.states;
+          book = book_after library place n c None w.book old new is.book h;
+          tells = tells_then library c None unread before after old new w.earlier is.tells (again.states (given (λ q. state_at q w.earlier.states)) library.all is.tells.states) sees;
+          first = λ yes. absurd (let no : ⊥ = cc in no);
+        }
+
+    outside_damaged : IsOutside format library old c state → with_body_at format setup_of_texts shelf place body m ≡ damaged place
+    outside_damaged outside = comes_at ∙ outside w (beside_file (place + 1) w.book.file) place (length body) is.book is.tells.states
+
+  module _ (c : Change) (state now : Option (List ℕ)) (read : read_record_in format body ≡ Some (changes c state)) (stands : has_script (length library.setup) c ≡ true)
+      (as_newest : IsAsNewest format library old c state now) where
     abbrev x : Told
-    x = told_of library w.earlier old c state
+    x = told_of library w.earlier old c now
 
     abbrev again : Bool
     again = is_repeated (number_in c) (seen_by before)
@@ -220,14 +260,16 @@ module _ (shelf place : ℕ) (body : List ℕ) (library : Library) (alone : Bool
     abbrev b : Book
     b = book_of library (beside_file (place + 1) w.book.file) old
 
-    its : told_in w.earlier w.book c state ≡ x
-    its = ap (λ (y : Book). told_in w.earlier y c state) is.book ∙ told_beside library (beside_file (place + 1) w.book.file) no_journal w.earlier old c state
+    its : told_in w.earlier w.book c now ≡ x
+    its = ap (λ (y : Book). told_in w.earlier y c now) is.book ∙ told_beside library (beside_file (place + 1) w.book.file) no_journal w.earlier old c now
 
-    comes : with_body setup_of_texts shelf place body m ≡ told_next place (length body) w c x
-    comes = next_is place shelf body alone c state w m read is.is ∙ told_is place (length body) w c state (length library.setup) x many stands its
+    comes : with_body_at format setup_of_texts shelf place body m ≡ told_next place (length body) w c x
+    comes =
+        comes_at c state read stands
+        ∙ (as_newest.makes w (beside_file (place + 1) w.book.file) place (length body) is.book is.tells.states ∙ ap (told_next place (length body) w c) its)
 
-    changed_made : (after : InOrder (Unit {0})) (new : kept.Book) → IsRedone library c state again true old new → SeesNumber (number_in c) before after
-        → IsMadeAs shelf (place + 5 + length body + 1) false new library after (with_body setup_of_texts shelf place body m)
+    changed_made : (after : InOrder (Unit {0})) (new : kept.Book) → IsRedone library c now again true old new → SeesNumber (number_in c) before after
+        → IsMadeAs shelf (place + 5 + length body + 1) false new library after (with_body_at format setup_of_texts shelf place body m)
     changed_made after new redo sees =
         let h = redo w.earlier is.tells.states in
         let good = good_is x h.read_is in
@@ -245,24 +287,24 @@ module _ (shelf place : ℕ) (body : List ℕ) (library : Library) (alone : Bool
           first = λ yes. absurd (let no : ⊥ = cc in no);
         }
 
-    changed_damaged : (mid : kept.Book) → IsRedone library c state again false old mid → with_body setup_of_texts shelf place body m ≡ damaged place
+    changed_damaged : (mid : kept.Book) → IsRedone library c now again false old mid → with_body_at format setup_of_texts shelf place body m ≡ damaged place
     changed_damaged mid redo = comes ∙ ap (told_next place (length body) w c) (misread_is x (redo w.earlier is.tells.states).read_is)
 
   -- ---- a record of another setup
 
-  pub renewed_made : (named : List (List ℕ × List ℕ)) (next : Library) → read_record body ≡ Some (renews named) → HasPlaces library.all old → IsRenewed named library next
-      → IsMadeAs shelf (place + 5 + length body + 1) false old next before (with_body setup_of_texts shelf place body m)
+  pub renewed_made : (named : List (List ℕ × List ℕ)) (next : Library) → read_record_in format body ≡ Some (renews named) → HasPlaces library.all old → IsRenewed named library next
+      → IsMadeAs shelf (place + 5 + length body + 1) false old next before (with_body_at format setup_of_texts shelf place body m)
   renewed_made named next read placed anew =
       let n = length body in
       let long : place + 1 + (n + 5) ≡ place + 5 + n + 1 = omega arith in
-      let f = with_line (renewed next.setup n) w.book.file in
+      let f = with_line (renewed_line next.setup n) w.book.file in
       let alike : instances_of library.all old.instances ≡ instances_of next.all old.instances =
       sym (ap (λ (all : List Named). instances_of all old.instances) anew.all ∙ instances_longer next.setup library.all old placed) in
       record {
         whole = beside w.earlier (resettled n next.setup (plain w));
         is = by_alone alone is.is ∙ ap (next_setup place n w) anew.read;
         book =
-            ap (λ (y : Book). record y { scripts = next.setup; length = y.length + (n + 5); file = with_line (renewed next.setup n) y.file }) is.book
+            ap (λ (y : Book). record y { scripts = next.setup; length = y.length + (n + 5); file = with_line (renewed_line next.setup n) y.file }) is.book
             ∙ (ap (λ (is : List Instance). record (book_of next (beside_file (place + 1 + (n + 5)) f) old) { instances = is }) alike
             ∙ ap (λ (l : ℕ). book_of next (beside_file l f) old) long);
         tells = record {
@@ -275,25 +317,25 @@ module _ (shelf place : ℕ) (body : List ℕ) (library : Library) (alone : Bool
         first = λ yes. absurd (let no : ⊥ = cc in no);
       }
     where
-      by_alone : (t : Bool) → m ≡ making_of t w → with_body setup_of_texts shelf place body m ≡ next_setup place (length body) w (setup_of_texts named)
-      by_alone true e = ap (with_body setup_of_texts shelf place body) e ∙ ap (second_by setup_of_texts place (length body) w) read
-      by_alone false e = ap (with_body setup_of_texts shelf place body) e ∙ ap (next_by setup_of_texts place (length body) w) read
+      by_alone : (t : Bool) → m ≡ making_of t w → with_body_at format setup_of_texts shelf place body m ≡ next_setup place (length body) w (setup_of_texts named)
+      by_alone true e = ap (with_body_at format setup_of_texts shelf place body) e ∙ ap (second_at format setup_of_texts place (length body) w) read
+      by_alone false e = ap (with_body_at format setup_of_texts shelf place body) e ∙ ap (next_at format setup_of_texts place (length body) w) read
 
-  pub renewed_damaged : (named : List (List ℕ × List ℕ)) → read_record body ≡ Some (renews named) → setup_of_texts named ≡ None → with_body setup_of_texts shelf place body m ≡ damaged place
+  pub renewed_damaged : (named : List (List ℕ × List ℕ)) → read_record_in format body ≡ Some (renews named) → setup_of_texts named ≡ None → with_body_at format setup_of_texts shelf place body m ≡ damaged place
   renewed_damaged named read none = by_alone alone is.is ∙ ap (next_setup place (length body) w) none
     where
-      by_alone : (t : Bool) → m ≡ making_of t w → with_body setup_of_texts shelf place body m ≡ next_setup place (length body) w (setup_of_texts named)
-      by_alone true e = ap (with_body setup_of_texts shelf place body) e ∙ ap (second_by setup_of_texts place (length body) w) read
-      by_alone false e = ap (with_body setup_of_texts shelf place body) e ∙ ap (next_by setup_of_texts place (length body) w) read
+      by_alone : (t : Bool) → m ≡ making_of t w → with_body_at format setup_of_texts shelf place body m ≡ next_setup place (length body) w (setup_of_texts named)
+      by_alone true e = ap (with_body_at format setup_of_texts shelf place body) e ∙ ap (second_at format setup_of_texts place (length body) w) read
+      by_alone false e = ap (with_body_at format setup_of_texts shelf place body) e ∙ ap (next_at format setup_of_texts place (length body) w) read
 
   -- ---- a record that can't stand there
 
-  no_record : read_record body ≡ None → with_body setup_of_texts shelf place body m ≡ damaged place
+  no_record : read_record_in format body ≡ None → with_body_at format setup_of_texts shelf place body m ≡ damaged place
   no_record read = by_alone alone is.is
     where
-      by_alone : (t : Bool) → m ≡ making_of t w → with_body setup_of_texts shelf place body m ≡ damaged place
-      by_alone true e = ap (with_body setup_of_texts shelf place body) e ∙ ap (second_by setup_of_texts place (length body) w) read
-      by_alone false e = ap (with_body setup_of_texts shelf place body) e ∙ ap (next_by setup_of_texts place (length body) w) read
+      by_alone : (t : Bool) → m ≡ making_of t w → with_body_at format setup_of_texts shelf place body m ≡ damaged place
+      by_alone true e = ap (with_body_at format setup_of_texts shelf place body) e ∙ ap (second_at format setup_of_texts place (length body) w) read
+      by_alone false e = ap (with_body_at format setup_of_texts shelf place body) e ∙ ap (next_at format setup_of_texts place (length body) w) read
 
   -- a record of this kind may stand nowhere, or not behind others
   out_of_place : (t : Bool) → Record → Type 0
@@ -302,30 +344,30 @@ module _ (shelf place : ℕ) (body : List ℕ) (library : Library) (alone : Bool
   out_of_place t (renews named) = ⊥
   out_of_place t (draws number) = t ≡ false
 
-  pub misplaced : (r : Record) → read_record body ≡ Some r → may_stand alone (length library.setup) r ≡ false → ((named : List (List ℕ × List ℕ)) → r ≡ renews named → ⊥)
-      → with_body setup_of_texts shelf place body m ≡ damaged place
+  pub misplaced : (r : Record) → read_record_in format body ≡ Some r → may_stand alone (length library.setup) r ≡ false → ((named : List (List ℕ × List ℕ)) → r ≡ renews named → ⊥)
+      → with_body_at format setup_of_texts shelf place body m ≡ damaged place
   misplaced (begins s named) read off apart = by_alone alone is.is
     where
-      by_alone : (t : Bool) → m ≡ making_of t w → with_body setup_of_texts shelf place body m ≡ damaged place
-      by_alone true e = ap (with_body setup_of_texts shelf place body) e ∙ ap (second_by setup_of_texts place (length body) w) read
-      by_alone false e = ap (with_body setup_of_texts shelf place body) e ∙ ap (next_by setup_of_texts place (length body) w) read
+      by_alone : (t : Bool) → m ≡ making_of t w → with_body_at format setup_of_texts shelf place body m ≡ damaged place
+      by_alone true e = ap (with_body_at format setup_of_texts shelf place body) e ∙ ap (second_at format setup_of_texts place (length body) w) read
+      by_alone false e = ap (with_body_at format setup_of_texts shelf place body) e ∙ ap (next_at format setup_of_texts place (length body) w) read
   misplaced (changes c state) read off apart =
-      next_is place shelf body alone c state w m read is.is
-      ∙ ap (λ (t : Bool). if t then told_next place (length body) w c (told_in w.earlier w.book c state) else damaged place) (ap (λ (k : ℕ). has_script k c) many ∙ off)
+      next_is format place shelf body alone c state w m read is.is
+      ∙ ap (λ (t : Bool). if t then change_next format place (length body) w c state else damaged place) (ap (λ (k : ℕ). has_script k c) many ∙ off)
   misplaced (renews named) read off apart = absurd (apart named refl)
   misplaced (draws number) read off apart = by_alone alone is.is off
     where
-      by_alone : (t : Bool) → m ≡ making_of t w → t ≡ false → with_body setup_of_texts shelf place body m ≡ damaged place
+      by_alone : (t : Bool) → m ≡ making_of t w → t ≡ false → with_body_at format setup_of_texts shelf place body m ≡ damaged place
       by_alone true e not = absurd (let never : ⊥ = cc in never)
-      by_alone false e not = ap (with_body setup_of_texts shelf place body) e ∙ ap (next_by setup_of_texts place (length body) w) read
+      by_alone false e not = ap (with_body_at format setup_of_texts shelf place body) e ∙ ap (next_at format setup_of_texts place (length body) w) read
 
-  pub unread_record : read_record body ≡ None → with_body setup_of_texts shelf place body m ≡ damaged place
+  pub unread_record : read_record_in format body ≡ None → with_body_at format setup_of_texts shelf place body m ≡ damaged place
   unread_record = no_record
 
   -- ---- a record that tells a number
 
-  drawn_made : (number : ℕ) (new : kept.Book) → read_record body ≡ Some (draws number) → length body ≡ 9 → alone ≡ true → Reopens (λ b. record b { logged = number }) old new
-      → IsMadeAs shelf (place + 5 + length body + 1) false new library before (with_body setup_of_texts shelf place body m)
+  drawn_made : (number : ℕ) (new : kept.Book) → read_record_in format body ≡ Some (draws number) → length body ≡ 9 → alone ≡ true → Reopens (λ b. record b { logged = number }) old new
+      → IsMadeAs shelf (place + 5 + length body + 1) false new library before (with_body_at format setup_of_texts shelf place body m)
   drawn_made number new read nine single again =
       let start = is.first single in
       let k = start.0 in
@@ -351,8 +393,8 @@ module _ (shelf place : ℕ) (body : List ℕ) (library : Library) (alone : Bool
         first = λ yes. absurd (let no : ⊥ = cc in no);
       }
     where
-      by_alone : (t : Bool) → m ≡ making_of t w → t ≡ true → with_body setup_of_texts shelf place body m ≡ made (with_drawn number w)
-      by_alone true e single = ap (with_body setup_of_texts shelf place body) e ∙ ap (second_by setup_of_texts place (length body) w) read
+      by_alone : (t : Bool) → m ≡ making_of t w → t ≡ true → with_body_at format setup_of_texts shelf place body m ≡ made (with_drawn number w)
+      by_alone true e single = ap (with_body_at format setup_of_texts shelf place body) e ∙ ap (second_at format setup_of_texts place (length body) w) read
       by_alone false e single = absurd (let never : ⊥ = cc in never)
 
 -- ---- a later record that tells no setup
@@ -361,16 +403,28 @@ abbrev pub IsNine : List ℕ → Record → Type 0
 IsNine body (draws number) = length body ≡ 9
 IsNine body _ = Unit {0}
 
-pub later_made : (shelf place : ℕ) (body : List ℕ) (library : Library) (alone : Bool) (before after : InOrder (Unit {0})) (old new : kept.Book) (r : Record) → read_record body ≡ Some r
-    → IsNine body r → may_stand alone (length library.setup) r ≡ true → IsMadeOf library before r old (Some new) → Sees r before after
+-- what is told as it is makes what the record makes
+pub as_it_is : (library : Library) (before : InOrder (Unit {0})) (old : kept.Book) (o : Option kept.Book) (r : Record) (x : Renewed) → IsToldAsIs r x → IsMadeBy library before r x old o
+    → IsMadeOf library before r old o
+as_it_is library before old o r (renewed.Told l) is makes = subst (λ (q : Record). IsMadeOf library before q old o) is makes
+as_it_is library before old o r renewed.Passed is makes = absurd is
+as_it_is library before old o r renewed.Misread is makes = absurd is
+
+pub later_made : (format shelf place : ℕ) (body : List ℕ) (library : Library) (alone : Bool) (before after : InOrder (Unit {0})) (old new : kept.Book) (r : Record)
+    → read_record_in format body ≡ Some r → IsNine body r → may_stand alone (length library.setup) r ≡ true → IsMadeIn format library before r old (Some new) → Sees r before after
     → (m : Making) → IsMadeAs shelf (place + 1) alone old library before m
-    → IsMadeAs shelf (place + 5 + length body + 1) false new library after (with_body setup_of_texts shelf place body m)
-later_made shelf place body library alone before after old new (begins s named) read nine stands redo sees m is = absurd (let not : ⊥ = cc in not)
-later_made shelf place body library alone before after old new (changes c state) read nine stands redo sees m is =
-    changed_made shelf place body library alone before old m is c state read stands after new redo sees
-later_made shelf place body library alone before after old new (renews named) read nine stands redo sees m is = absurd (let not : ⊥ = cc in not)
-later_made shelf place body library alone before after old new (draws number) read nine stands redo sees m is =
-    let made_so = drawn_made shelf place body library alone before old m is number new read nine stands redo.1 in
+    → IsMadeAs shelf (place + 5 + length body + 1) false new library after (with_body_at format setup_of_texts shelf place body m)
+later_made format shelf place body library alone before after old new (begins s named) read nine stands redo sees m is = absurd (let not : ⊥ = cc in not)
+later_made format shelf place body library alone before after old new (changes c state) read nine stands (renewed.Told l, (alike, makes)) sees m is =
+    changed_made format shelf place body library alone before old m is c state alike.0 read stands alike.1.1 after new
+    (subst (λ (q : Record). IsMadeOf library before q old (Some new)) alike.1.0 makes) sees
+later_made format shelf place body library alone before after old new (changes c state) read nine stands (renewed.Passed, (passes, makes)) sees m is =
+    passed_made format shelf place body library alone before old m is c state read stands after new passes.1 makes sees
+later_made format shelf place body library alone before after old new (changes c state) read nine stands (renewed.Misread, (outside, makes)) sees m is = absurd (let not : ⊥ = cc in not)
+later_made format shelf place body library alone before after old new (renews named) read nine stands redo sees m is = absurd (let not : ⊥ = cc in not)
+later_made format shelf place body library alone before after old new (draws number) read nine stands (x, (alike, makes)) sees m is =
+    let redo = as_it_is library before old (Some new) (draws number) x alike makes in
+    let made_so = drawn_made format shelf place body library alone before old m is number new read nine stands redo.1 in
     record {
       whole = made_so.whole;
       is = made_so.is;
@@ -379,14 +433,20 @@ later_made shelf place body library alone before after old new (draws number) re
       first = made_so.first;
     }
 
-pub later_damaged : (shelf place : ℕ) (body : List ℕ) (library : Library) (alone : Bool) (before : InOrder (Unit {0})) (old : kept.Book) (r : Record) → read_record body ≡ Some r
-    → may_stand alone (length library.setup) r ≡ true → IsMadeOf library before r old None
-    → (m : Making) → IsMadeAs shelf (place + 1) alone old library before m → with_body setup_of_texts shelf place body m ≡ damaged place
-later_damaged shelf place body library alone before old (begins s named) read stands redo m is = absurd (let not : ⊥ = cc in not)
-later_damaged shelf place body library alone before old (changes c state) read stands redo m is =
-    changed_damaged shelf place body library alone before old m is c state read stands redo.0 redo.1
-later_damaged shelf place body library alone before old (renews named) read stands redo m is = absurd (let not : ⊥ = cc in not)
-later_damaged shelf place body library alone before old (draws number) read stands redo m is = absurd (let yes : false ≡ true = redo.1.0 in let not : ⊥ = cc in not)
+pub later_damaged : (format shelf place : ℕ) (body : List ℕ) (library : Library) (alone : Bool) (before : InOrder (Unit {0})) (old : kept.Book) (r : Record)
+    → read_record_in format body ≡ Some r → may_stand alone (length library.setup) r ≡ true → IsMadeIn format library before r old None
+    → (m : Making) → IsMadeAs shelf (place + 1) alone old library before m → with_body_at format setup_of_texts shelf place body m ≡ damaged place
+later_damaged format shelf place body library alone before old (begins s named) read stands redo m is = absurd (let not : ⊥ = cc in not)
+later_damaged format shelf place body library alone before old (changes c state) read stands (renewed.Told l, (alike, makes)) m is =
+    let redo = subst (λ (q : Record). IsMadeOf library before q old None) alike.1.0 makes in
+    changed_damaged format shelf place body library alone before old m is c state alike.0 read stands alike.1.1 redo.0 redo.1
+later_damaged format shelf place body library alone before old (changes c state) read stands (renewed.Passed, (passes, makes)) m is = absurd makes
+later_damaged format shelf place body library alone before old (changes c state) read stands (renewed.Misread, (outside, makes)) m is =
+    outside_damaged format shelf place body library alone before old m is c state read stands outside
+later_damaged format shelf place body library alone before old (renews named) read stands redo m is = absurd (let not : ⊥ = cc in not)
+later_damaged format shelf place body library alone before old (draws number) read stands (x, (alike, makes)) m is =
+    let redo = as_it_is library before old None (draws number) x alike makes in
+    absurd (let yes : false ≡ true = redo.1.0 in let not : ⊥ = cc in not)
 
 -- ---- the first record
 
@@ -413,14 +473,14 @@ same_number n k e = grind (arith, nat_tests, e)
 other_number : (n k : ℕ) → (n ≡ k → ⊥) → (n == k) ≡ false
 other_number n k e = grind (arith, nat_tests, e)
 
-module _ (shelf place : ℕ) (body : List ℕ) (number : ℕ) (named : List (List ℕ × List ℕ)) (read : read_record body ≡ Some (begins number named)) (seen : InOrder (Unit {0}))
+module _ (format shelf place : ℕ) (body : List ℕ) (number : ℕ) (named : List (List ℕ × List ℕ)) (read : read_record_in format body ≡ Some (begins number named)) (seen : InOrder (Unit {0}))
     (m : Making) (is : IsNothing (place + 1) seen m) where
-  first_comes : (o : Option (List Named)) → setup_of_texts named ≡ o → with_body setup_of_texts shelf place body m ≡ first_setup shelf place (length body) number o
+  first_comes : (o : Option (List Named)) → setup_of_texts named ≡ o → with_body_at format setup_of_texts shelf place body m ≡ first_setup shelf place (length body) number o
   first_comes o reads =
-      ap (with_body setup_of_texts shelf place body) is.is ∙ (ap (first_by setup_of_texts shelf place (length body)) read ∙ ap (first_setup shelf place (length body) number) reads)
+      ap (with_body_at format setup_of_texts shelf place body) is.is ∙ (ap (first_by setup_of_texts shelf place (length body)) read ∙ ap (first_setup shelf place (length body) number) reads)
 
   pub first_made : (b : kept.Book) (library : Library) → number ≡ shelf → IsFirst shelf named b library
-      → IsMadeAs shelf (place + 5 + length body + 1) true b library seen (with_body setup_of_texts shelf place body m)
+      → IsMadeAs shelf (place + 5 + length body + 1) true b library seen (with_body_at format setup_of_texts shelf place body m)
   first_made b library same first =
       let n = length body in
       let nine = is.long in
@@ -439,23 +499,23 @@ module _ (shelf place : ℕ) (body : List ℕ) (number : ℕ) (named : List (Lis
         first = λ _. (n, refl);
       }
 
-  pub first_other : (number ≡ shelf → ⊥) → (scripts : List Named) → setup_of_texts named ≡ Some scripts → with_body setup_of_texts shelf place body m ≡ other place
+  pub first_other : (number ≡ shelf → ⊥) → (scripts : List Named) → setup_of_texts named ≡ Some scripts → with_body_at format setup_of_texts shelf place body m ≡ other place
   first_other differs scripts reads =
       first_comes (Some scripts) reads ∙ ap (λ (t : Bool). if t then begun (began shelf (length body) scripts) else other place) (other_number number shelf differs)
 
-  pub first_damaged : setup_of_texts named ≡ None → with_body setup_of_texts shelf place body m ≡ damaged place
+  pub first_damaged : setup_of_texts named ≡ None → with_body_at format setup_of_texts shelf place body m ≡ damaged place
   first_damaged none = first_comes None none
 
 abbrev pub IsNoBegin : Record → Type 0
 IsNoBegin (begins s named) = ⊥
 IsNoBegin _ = Unit {0}
 
-pub first_unread : (shelf place : ℕ) (body : List ℕ) (seen : InOrder (Unit {0})) (m : Making) → IsNothing (place + 1) seen m → read_record body ≡ None → with_body setup_of_texts shelf place body m ≡ damaged place
-first_unread shelf place body seen m is read = ap (with_body setup_of_texts shelf place body) is.is ∙ ap (first_by setup_of_texts shelf place (length body)) read
+pub first_unread : (format : ℕ) (shelf place : ℕ) (body : List ℕ) (seen : InOrder (Unit {0})) (m : Making) → IsNothing (place + 1) seen m → read_record_in format body ≡ None → with_body_at format setup_of_texts shelf place body m ≡ damaged place
+first_unread format shelf place body seen m is read = ap (with_body_at format setup_of_texts shelf place body) is.is ∙ ap (first_by setup_of_texts shelf place (length body)) read
 
-pub first_no_begin : (shelf place : ℕ) (body : List ℕ) (seen : InOrder (Unit {0})) (m : Making) → IsNothing (place + 1) seen m → (r : Record) → read_record body ≡ Some r → IsNoBegin r
-    → with_body setup_of_texts shelf place body m ≡ damaged place
-first_no_begin shelf place body seen m is (begins s named) read h = absurd h
-first_no_begin shelf place body seen m is (changes c state) read h = ap (with_body setup_of_texts shelf place body) is.is ∙ ap (first_by setup_of_texts shelf place (length body)) read
-first_no_begin shelf place body seen m is (renews named) read h = ap (with_body setup_of_texts shelf place body) is.is ∙ ap (first_by setup_of_texts shelf place (length body)) read
-first_no_begin shelf place body seen m is (draws number) read h = ap (with_body setup_of_texts shelf place body) is.is ∙ ap (first_by setup_of_texts shelf place (length body)) read
+pub first_no_begin : (format : ℕ) (shelf place : ℕ) (body : List ℕ) (seen : InOrder (Unit {0})) (m : Making) → IsNothing (place + 1) seen m → (r : Record) → read_record_in format body ≡ Some r → IsNoBegin r
+    → with_body_at format setup_of_texts shelf place body m ≡ damaged place
+first_no_begin format shelf place body seen m is (begins s named) read h = absurd h
+first_no_begin format shelf place body seen m is (changes c state) read h = ap (with_body_at format setup_of_texts shelf place body) is.is ∙ ap (first_by setup_of_texts shelf place (length body)) read
+first_no_begin format shelf place body seen m is (renews named) read h = ap (with_body_at format setup_of_texts shelf place body) is.is ∙ ap (first_by setup_of_texts shelf place (length body)) read
+first_no_begin format shelf place body seen m is (draws number) read h = ap (with_body_at format setup_of_texts shelf place body) is.is ∙ ap (first_by setup_of_texts shelf place (length body)) read

@@ -1,4 +1,3 @@
--- What a reader has made of all records.
 use Rattle.std.specs.List.{AllByRecursion}
 use Rattle.std.proofs.Common.{◌≡◌, ◌∙◌, ap, sym, subst, ℕ, zero, suc, ◌+◌, ◌<◌, map, Bool, true, false, List, [], ◌∷◌, ◌++◌, length, Option, Some, None, slice_get, refl, arith, length-append, append_assoc}
 use Rattle.script_nodes.specs.Setup.{Named, Library}
@@ -13,48 +12,51 @@ use Rattle.instance_book.specs.declared.book.Book as kept
 use Rattle.instance_book.specs.declared.numbered.Numbered.{Numbered}
 use Rattle.instance_book.specs.declared.instance.KeptInstance.{KeptInstance}
 use Rattle.instance_book.specs.Places.{IsPlaced}
-use Rattle.instance_book.specs.Views.{no_journal, script_in, instance_of, instances_of, book_of}
+use Rattle.instance_book.specs.Views.{script_in, instance_of, instances_of, book_of}
 use Rattle.instance_book.proofs.Seen.{all_at}
 use Rattle.instance_book.specs.Standing.{book_under}
 use Rattle.journal_records.specs.Records.{Record, begins, changes, renews, draws}
-use Rattle.journal_records.specs.Reading.{read_record}
+use Rattle.journal_records.specs.Old.{read_record_in}
 use Rattle.setup_reader.specs.Texts.{setup_of_texts}
 use Rattle.journal_spec.specs.Before.{Earlier, state_at, Made}
-use Rattle.journal_spec.specs.Retaking.{Told, unread, misread, told, told_in}
+use Rattle.journal_spec.specs.Retaking.{Told, unread, misread, told}
 use Rattle.journal_spec.specs.Lengths.{state_by}
-use Rattle.journal_spec.specs.Making.{Making, nothing, with_body, with_bodies, made_in as made_in_making, book_of as made_of_bodies}
-use Rattle.journal_spec.specs.Owning.{IsOwnState, IsOwnRecord, AreOwn}
+use Rattle.journal_spec.specs.Making.{Making, nothing, made_in as made_in_making}
+use Rattle.journal_spec.specs.Old.{told_of, with_body_at, with_bodies_at, book_of_format as made_of_bodies}
+use Rattle.journal_spec.specs.Owning.{IsOwnState, IsOwnRecordIn, AreOwnIn}
 use Rattle.journal_spec.specs.Reading.{AreAllBytes}
 use Rattle.journal_spec.specs.Spelling.{IsInRange}
 use Rattle.journal_spec.specs.Whole.{AreWhole, IsWhole, HasWholeScripts}
-use Rattle.journal_spec.specs.Laws.{BodiesMakeFittingBooks}
-use Rattle.journal_spec.proofs.Makings.{with_push}
+use Rattle.journal_spec.specs.Laws.{BodiesOfAnyFormatFit}
+use Rattle.journal_spec.proofs.Makings.{with_push_at}
 use Rattle.book_recovery.specs.declared.found.Found.{Found}
 use Rattle.book_recovery.specs.declared.found.Found.TheVariants as found
 use Rattle.book_recovery.specs.declared.reader.Reader.{Reader}
 use Rattle.book_recovery.specs.Found.{beside_file, Finds, IsFoundInOrder, HasStates}
 use Rattle.book_recovery.specs.Reading.{seen_by, making_of, Gives, GivesWith, IsUnderWay, IsKept, IsOwnFor, IsTaken}
-use Rattle.book_recovery.proofs.Made.{told_beside}
+
+-- What a reader has made of all records.
 
 -- a reader takes one body for a shelf of its number
-one_given : (shelf place : ℕ) (body : List ℕ) (old new : Reader) → old.shelf ≡ shelf → IsTaken old place body new
+pub one_given : (format : ℕ) (shelf place : ℕ) (body : List ℕ) (old new : Reader) → old.shelf ≡ shelf → old.format ≡ format → IsTaken old place body new
     → (m : Making) → Gives shelf (place + 1) old.alone old.found old.seen m
-    → Gives shelf (place + 5 + length body + 1) new.alone new.found new.seen (with_body setup_of_texts shelf place body m)
-one_given shelf place body old new number t =
-    subst (λ (k : ℕ). GivesWith k place body old.alone old.found new.alone new.found old.seen new.seen) number t.gives
+    → Gives shelf (place + 5 + length body + 1) new.alone new.found new.seen (with_body_at format setup_of_texts shelf place body m)
+one_given format shelf place body old new number its t =
+    subst (λ (f : ℕ). GivesWith f shelf place body old.alone old.found new.alone new.found old.seen new.seen) its
+    (subst (λ (k : ℕ). GivesWith old.format k place body old.alone old.found new.alone new.found old.seen new.seen) number t.gives)
 
-all_taken : (shelf place : ℕ) (bodies : List (List ℕ)) (old new : Reader) → TakesAll IsTaken old place bodies new → old.shelf ≡ shelf
+pub all_taken : (format : ℕ) (shelf place : ℕ) (bodies : List (List ℕ)) (old new : Reader) → TakesAll IsTaken old place bodies new → old.shelf ≡ shelf → old.format ≡ format
     → (m : Making) → Gives shelf (place + 1) old.alone old.found old.seen m
-    → Gives shelf (place + length (frames bodies) + 1) new.alone new.found new.seen (with_bodies setup_of_texts shelf place bodies m)
-all_taken shelf place [] old new t number m is =
+    → Gives shelf (place + length (frames bodies) + 1) new.alone new.found new.seen (with_bodies_at format setup_of_texts shelf place bodies m)
+all_taken format shelf place [] old new t number its m is =
     let here : place + 1 ≡ place + 0 + 1 = omega arith in
     subst (λ (r : Reader). Gives shelf (place + 0 + 1) r.alone r.found r.seen m) (sym t) (subst (λ (n : ℕ). Gives shelf n old.alone old.found old.seen m) here is)
-all_taken shelf place (body ∷ bodies) old new t number m is =
+all_taken format shelf place (body ∷ bodies) old new t number its m is =
     let mid = t.0 in
-    let next = with_body setup_of_texts shelf place body m in
+    let next = with_body_at format setup_of_texts shelf place body m in
     let there : place + 5 + length body + length (frames bodies) + 1 ≡ place + length (frames (body ∷ bodies)) + 1 = omega (arith, length-append (framed body) (frames bodies), length-framed body) in
-    subst (λ (n : ℕ). Gives shelf n new.alone new.found new.seen (with_bodies setup_of_texts shelf (place + 5 + length body) bodies next)) there
-    (all_taken shelf (place + 5 + length body) bodies mid new t.2 (t.1.shelf ∙ number) next (one_given shelf place body old mid number t.1 m is))
+    subst (λ (n : ℕ). Gives shelf n new.alone new.found new.seen (with_bodies_at format setup_of_texts shelf (place + 5 + length body) bodies next)) there
+    (all_taken format shelf (place + 5 + length body) bodies mid new t.2 (t.1.shelf ∙ number) (t.1.format ∙ its) next (one_given format shelf place body old mid number its t.1 m is))
 
 pub all_bytes : (place : ℕ) (bodies : List (List ℕ)) (old new : Reader) → TakesAll IsTaken old place bodies new → AreAllBytes bodies
 all_bytes place [] old new t = tt
@@ -65,22 +67,22 @@ all_same place [] old new t = ap (λ (r : Reader). r.shelf) t
 all_same place (body ∷ bodies) old new t = all_same (place + 5 + length body) bodies t.0 new t.2 ∙ t.1.shelf
 
 -- from no record on
-at_first : (shelf : ℕ) (old : Reader) → old.found ≡ found.Nothing → seen_by old.seen ≡ [] → Gives shelf 9 old.alone old.found old.seen nothing
+pub at_first : (shelf : ℕ) (old : Reader) → old.found ≡ found.Nothing → seen_by old.seen ≡ [] → Gives shelf 9 old.alone old.found old.seen nothing
 at_first shelf old empty none = subst (λ (f : Found). Gives shelf 9 old.alone f old.seen nothing) (sym empty) (record { is = refl; long = refl; none = none })
 
-made_of_all : (shelf : ℕ) (bodies : List (List ℕ)) (old new : Reader) → old.shelf ≡ shelf → old.found ≡ found.Nothing → seen_by old.seen ≡ []
-    → TakesAll IsTaken old 8 bodies new → Gives shelf (length (at_rest bodies)) new.alone new.found new.seen (made_of_bodies setup_of_texts shelf bodies)
-made_of_all shelf bodies old new number empty none t =
+made_of_all : (format : ℕ) (shelf : ℕ) (bodies : List (List ℕ)) (old new : Reader) → old.shelf ≡ shelf → old.format ≡ format → old.found ≡ found.Nothing → seen_by old.seen ≡ []
+    → TakesAll IsTaken old 8 bodies new → Gives shelf (length (at_rest bodies)) new.alone new.found new.seen (made_of_bodies format setup_of_texts shelf bodies)
+made_of_all format shelf bodies old new number its empty none t =
     let long : 8 + length (frames bodies) + 1 ≡ length (at_rest bodies) = omega (arith, length-at_rest bodies) in
-    subst (λ (n : ℕ). Gives shelf n new.alone new.found new.seen (made_of_bodies setup_of_texts shelf bodies)) long
-    (all_taken shelf 8 bodies old new t number nothing (at_first shelf old empty none))
+    subst (λ (n : ℕ). Gives shelf n new.alone new.found new.seen (made_of_bodies format setup_of_texts shelf bodies)) long
+    (all_taken format shelf 8 bodies old new t number its nothing (at_first shelf old empty none))
 
 -- what was kept of a reader for a shelf of its number, and that it is what the records make
-pub taken_all : (shelf : ℕ) (bodies : List (List ℕ)) (old new : Reader) → old.shelf ≡ shelf → old.found ≡ found.Nothing → seen_by old.seen ≡ []
+pub taken_all : (format : ℕ) (shelf : ℕ) (bodies : List (List ℕ)) (old new : Reader) → old.shelf ≡ shelf → old.format ≡ format → old.found ≡ found.Nothing → seen_by old.seen ≡ []
     → TakesAll IsTaken old 8 bodies new → IsKept new.shelf new.alone new.seen new.found
-    → IsKept shelf new.alone new.seen new.found × Gives shelf (length (at_rest bodies)) new.alone new.found new.seen (made_of_bodies setup_of_texts shelf bodies)
-taken_all shelf bodies old new number empty none t sound =
-    (subst (λ (n : ℕ). IsKept n new.alone new.seen new.found) (all_same 8 bodies old new t ∙ number) sound, made_of_all shelf bodies old new number empty none t)
+    → IsKept shelf new.alone new.seen new.found × Gives shelf (length (at_rest bodies)) new.alone new.found new.seen (made_of_bodies format setup_of_texts shelf bodies)
+taken_all format shelf bodies old new number its empty none t sound =
+    (subst (λ (n : ℕ). IsKept n new.alone new.seen new.found) (all_same 8 bodies old new t ∙ number) sound, made_of_all format shelf bodies old new number its empty none t)
 
 -- ---- what is found
 
@@ -129,7 +131,7 @@ each_whole : (all : List Named) → AreWhole all → (xs : List (Numbered KeptIn
 each_whole all whole [] placed = tt
 each_whole all whole (x ∷ xs) placed = (at_place all x.item.script placed.0 whole, each_whole all whole xs placed.1)
 
-whole_by : (shelf : ℕ) (alone : Bool) (seen : InOrder (Unit {0})) (b : kept.Book) (library : Library) → IsUnderWay shelf alone seen b library → HasWholeScripts (book_under library b)
+pub whole_by : (shelf : ℕ) (alone : Bool) (seen : InOrder (Unit {0})) (b : kept.Book) (library : Library) → IsUnderWay shelf alone seen b library → HasWholeScripts (book_under library b)
 whole_by shelf alone seen b library way = record {
   setup = way.scripts.present;
   instances = λ k i found.
@@ -137,13 +139,13 @@ whole_by shelf alone seen b library way = record {
       (each_whole library.all way.scripts.whole b.instances.things.items way.placed) found;
 }
 
-pub in_order : BodiesMakeFittingBooks → (shelf : ℕ) (bodies : List (List ℕ)) → AreAllBytes bodies → (n : ℕ) (alone : Bool) (f : Found) (seen : InOrder (Unit {0})) → IsKept shelf alone seen f
-    → Gives shelf n alone f seen (made_of_bodies setup_of_texts shelf bodies)
+pub in_order : BodiesOfAnyFormatFit → (format shelf : ℕ) (bodies : List (List ℕ)) → AreAllBytes bodies → (n : ℕ) (alone : Bool) (f : Found) (seen : InOrder (Unit {0})) → IsKept shelf alone seen f
+    → Gives shelf n alone f seen (made_of_bodies format setup_of_texts shelf bodies)
     → IsFoundInOrder shelf f
-in_order law shelf bodies bytes n alone found.Nothing seen way is = tt
-in_order law shelf bodies bytes n alone (found.Made b rust) seen way is =
+in_order law format shelf bodies bytes n alone found.Nothing seen way is = tt
+in_order law format shelf bodies bytes n alone (found.Made b rust) seen way is =
     let library = library_of rust in
-    let fits = law setup_of_texts shelf bodies is.whole (ap made_in_making is.is ∙ is_made alone is.whole) in
+    let fits = law format setup_of_texts shelf bodies is.whole (ap made_in_making is.is ∙ is_made alone is.whole) in
     let there = whole_by shelf alone seen b library way in
     let here : HasWholeScripts (book_of library (beside_file n is.whole.book.file) b) = record { setup = there.setup; instances = there.instances } in
     let good = fits.recoverable (subst HasWholeScripts (sym is.book) here) in
@@ -159,9 +161,9 @@ in_order law shelf bodies bytes n alone (found.Made b rust) seen way is =
       range = λ k g. record { drawn = range.drawn; clock = range.clock; doubt = range.doubt };
       again = again_at shelf alone seen b library way;
     }
-in_order law shelf bodies bytes n alone (found.Damaged place) seen way is = tt
-in_order law shelf bodies bytes n alone (found.Other place) seen way is = tt
-in_order law shelf bodies bytes n alone found.Memory seen way is = tt
+in_order law format shelf bodies bytes n alone (found.Damaged place) seen way is = tt
+in_order law format shelf bodies bytes n alone (found.Other place) seen way is = tt
+in_order law format shelf bodies bytes n alone found.Memory seen way is = tt
 
 -- ---- where each record is an own one
 
@@ -170,15 +172,15 @@ frames_behind [] body = omega (arith, length-append (framed body) [], length-fra
 frames_behind (first ∷ front) body =
     omega (arith, length-append (framed first) (frames (front ++ body ∷ [])), length-append (framed first) (frames front), frames_behind front body)
 
-own_beside : (library : Library) (n : ℕ) (f : File) (earlier : Earlier) (b : kept.Book) (r : Option Record)
-    → IsOwnRecord (record { book = book_of library (beside_file n f) b; earlier = earlier }) r → IsOwnRecord (record { book = book_under library b; earlier = earlier }) r
-own_beside library n f earlier b None h = tt
-own_beside library n f earlier b (Some (begins shelf named)) h = tt
-own_beside library n f earlier b (Some (renews named)) h = tt
-own_beside library n f earlier b (Some (draws number)) h = tt
-own_beside library n f earlier b (Some (changes c state)) h =
-    subst (λ (x : Told). IsOwnState (book_under library b) c x) (told_beside library (beside_file n f) no_journal earlier b c state)
-    (same_state (told_in earlier (book_of library (beside_file n f) b) c state) h)
+own_beside : (format : ℕ) (library : Library) (n : ℕ) (f : File) (earlier : Earlier) (b : kept.Book) (r : Option Record)
+    → IsOwnRecordIn format (record { book = book_of library (beside_file n f) b; earlier = earlier }) r → IsOwnRecordIn format (record { book = book_under library b; earlier = earlier }) r
+own_beside format library n f earlier b None h = tt
+own_beside format library n f earlier b (Some (begins shelf named)) h = tt
+own_beside format library n f earlier b (Some (renews named)) h = tt
+own_beside format library n f earlier b (Some (draws number)) h = tt
+own_beside format library n f earlier b (Some (changes c state)) h =
+    let x : Made = record { book = book_of library (beside_file n f) b; earlier = earlier } in
+    subst (λ (t : Told). IsOwnState (book_under library b) c t) (told_alike c) (same_state (told_of format x c state) h)
   where
     state_beside : (c : Change) → state_by (book_of library (beside_file n f) b) c ≡ state_by (book_under library b) c
     state_beside (opens o) = refl
@@ -187,44 +189,52 @@ own_beside library n f earlier b (Some (changes c state)) h =
     state_beside (finishes g) = refl
     state_beside (sweeps tick) = refl
 
+    told_alike : (c : Change)
+        → told_of format (record { book = book_of library (beside_file n f) b; earlier = earlier }) c state ≡ told_of format (record { book = book_under library b; earlier = earlier }) c state
+    told_alike (opens o) = refl
+    told_alike (extends x) = refl
+    told_alike (ends e) = refl
+    told_alike (finishes g) = refl
+    told_alike (sweeps tick) = refl
+
     same_state : (x : Told) → IsOwnState (book_of library (beside_file n f) b) c x → IsOwnState (book_under library b) c x
     same_state unread h = tt
     same_state misread h = tt
     same_state (told d) h = sym (state_beside c) ∙ h
 
-own_found : (shelf n : ℕ) (front rest : List (List ℕ)) (body : List ℕ) (alone : Bool) (f : Found) (seen : InOrder (Unit {0})) → AreOwn setup_of_texts shelf (front ++ body ∷ rest)
-    → Gives shelf n alone f seen (made_of_bodies setup_of_texts shelf front) → IsOwnFor seen f body
-own_found shelf n front rest body alone found.Nothing seen own is = tt
-own_found shelf n front rest body alone (found.Made b rust) seen own is =
+own_found : (format : ℕ) (shelf n : ℕ) (front rest : List (List ℕ)) (body : List ℕ) (alone : Bool) (f : Found) (seen : InOrder (Unit {0})) → AreOwnIn format setup_of_texts shelf (front ++ body ∷ rest)
+    → Gives shelf n alone f seen (made_of_bodies format setup_of_texts shelf front) → IsOwnFor format seen f body
+own_found format shelf n front rest body alone found.Nothing seen own is = tt
+own_found format shelf n front rest body alone (found.Made b rust) seen own is =
     let library = library_of rust in
     let earlier = is.whole.earlier in
     let made_is = ap made_in_making is.is ∙ is_made alone is.whole in
-    let there = subst (λ (x : Book). IsOwnRecord (record { book = x; earlier = earlier }) (read_record body)) is.book (own front rest body is.whole refl made_is) in
-    (earlier, (is.tells, own_beside library n is.whole.book.file earlier b (read_record body) there))
-own_found shelf n front rest body alone (found.Damaged place) seen own is = tt
-own_found shelf n front rest body alone (found.Other place) seen own is = tt
-own_found shelf n front rest body alone found.Memory seen own is = tt
+    let there = subst (λ (x : Book). IsOwnRecordIn format (record { book = x; earlier = earlier }) (read_record_in format body)) is.book (own front rest body is.whole refl made_is) in
+    (earlier, (is.tells, own_beside format library n is.whole.book.file earlier b (read_record_in format body) there))
+own_found format shelf n front rest body alone (found.Damaged place) seen own is = tt
+own_found format shelf n front rest body alone (found.Other place) seen own is = tt
+own_found format shelf n front rest body alone found.Memory seen own is = tt
 
 frames_more : (place : ℕ) (front : List (List ℕ)) (body : List ℕ) → place ≡ 8 + length (frames front) → place + 5 + length body ≡ 8 + length (frames (front ++ body ∷ []))
 frames_more place front body at = omega (arith, at, frames_behind front body)
 
-all_owned : (shelf place : ℕ) (front bodies : List (List ℕ)) (old new : Reader) → TakesAll IsTaken old place bodies new → old.shelf ≡ shelf
-    → place ≡ 8 + length (frames front) → AreOwn setup_of_texts shelf (front ++ bodies)
-    → Gives shelf (place + 1) old.alone old.found old.seen (made_of_bodies setup_of_texts shelf front) → HasStates old.found → HasStates new.found
-all_owned shelf place front [] old new t number at own is states = subst (λ (r : Reader). HasStates r.found) (sym t) states
-all_owned shelf place front (body ∷ bodies) old new t number at own is states =
+all_owned : (format : ℕ) (shelf place : ℕ) (front bodies : List (List ℕ)) (old new : Reader) → TakesAll IsTaken old place bodies new → old.shelf ≡ shelf → old.format ≡ format
+    → place ≡ 8 + length (frames front) → AreOwnIn format setup_of_texts shelf (front ++ bodies)
+    → Gives shelf (place + 1) old.alone old.found old.seen (made_of_bodies format setup_of_texts shelf front) → HasStates old.found → HasStates new.found
+all_owned format shelf place front [] old new t number its at own is states = subst (λ (r : Reader). HasStates r.found) (sym t) states
+all_owned format shelf place front (body ∷ bodies) old new t number its at own is states =
     let mid = t.0 in
-    let here : IsOwnFor old.seen old.found body = own_found shelf (place + 1) front bodies body old.alone old.found old.seen own is in
-    let given = one_given shelf place body old mid number t.1 (made_of_bodies setup_of_texts shelf front) is in
-    let pushed : with_body setup_of_texts shelf place body (made_of_bodies setup_of_texts shelf front) ≡ made_of_bodies setup_of_texts shelf (front ++ body ∷ []) =
-    ap (λ (p : ℕ). with_body setup_of_texts shelf p body (made_of_bodies setup_of_texts shelf front)) at ∙ sym (with_push setup_of_texts shelf 8 front body nothing) in
+    let here : IsOwnFor format old.seen old.found body = own_found format shelf (place + 1) front bodies body old.alone old.found old.seen own is in
+    let given = one_given format shelf place body old mid number its t.1 (made_of_bodies format setup_of_texts shelf front) is in
+    let pushed : with_body_at format setup_of_texts shelf place body (made_of_bodies format setup_of_texts shelf front) ≡ made_of_bodies format setup_of_texts shelf (front ++ body ∷ []) =
+    ap (λ (p : ℕ). with_body_at format setup_of_texts shelf p body (made_of_bodies format setup_of_texts shelf front)) at ∙ sym (with_push_at format setup_of_texts shelf 8 front body nothing) in
     let more : front ++ body ∷ bodies ≡ (front ++ body ∷ []) ++ bodies = sym (append_assoc front (body ∷ []) bodies) in
     let next : place + 5 + length body ≡ 8 + length (frames (front ++ body ∷ [])) = frames_more place front body at in
-    all_owned shelf (place + 5 + length body) (front ++ body ∷ []) bodies mid new t.2 (t.1.shelf ∙ number) next
-    (subst (AreOwn setup_of_texts shelf) more own) (subst (Gives shelf (place + 5 + length body + 1) mid.alone mid.found mid.seen) pushed given) (t.1.owns here states)
+    all_owned format shelf (place + 5 + length body) (front ++ body ∷ []) bodies mid new t.2 (t.1.shelf ∙ number) (t.1.format ∙ its) next
+    (subst (AreOwnIn format setup_of_texts shelf) more own) (subst (Gives shelf (place + 5 + length body + 1) mid.alone mid.found mid.seen) pushed given) (t.1.owns (subst (λ (f : ℕ). IsOwnFor f old.seen old.found body) (sym its) here) states)
 
 -- from no record on
-pub owned_of_all : (shelf : ℕ) (bodies : List (List ℕ)) (old new : Reader) → old.shelf ≡ shelf → old.found ≡ found.Nothing → seen_by old.seen ≡ []
-    → TakesAll IsTaken old 8 bodies new → AreOwn setup_of_texts shelf bodies → HasStates new.found
-owned_of_all shelf bodies old new number empty none t own =
-    all_owned shelf 8 [] bodies old new t number refl own (at_first shelf old empty none) (subst HasStates (sym empty) tt)
+pub owned_of_all : (format : ℕ) (shelf : ℕ) (bodies : List (List ℕ)) (old new : Reader) → old.shelf ≡ shelf → old.format ≡ format → old.found ≡ found.Nothing → seen_by old.seen ≡ []
+    → TakesAll IsTaken old 8 bodies new → AreOwnIn format setup_of_texts shelf bodies → HasStates new.found
+owned_of_all format shelf bodies old new number its empty none t own =
+    all_owned format shelf 8 [] bodies old new t number its refl own (at_first shelf old empty none) (subst HasStates (sym empty) tt)

@@ -1,10 +1,10 @@
--- A book that is made goes on to be under way.
-use Rattle.std.proofs.Common.{◌≡◌, ◌∙◌, ap, sym, subst, ℕ, ◌+◌, Bool, true, false, List, [], length, Option, Some, None, refl}
+use Rattle.std.proofs.Common.{◌≡◌, ◌∙◌, ap, sym, subst, ℕ, ◌+◌, max, Bool, true, false, List, [], length, Option, Some, None, refl}
 use Rattle.script_value.specs.declared.outcome.TxName.{TxName}
 use Rattle.script_nodes.specs.Setup.{Named, Library}
 use Rattle.script_nodes.specs.Views.{library_of}
 use Rattle.replay_spec.specs.Book.{Change, Instance, Book, reopened}
 use Rattle.replay_spec.specs.Rules.{first_file}
+use Rattle.replay_spec.specs.Change.{logged_by}
 use Rattle.replay_spec.specs.Admission.{is_one}
 use Rattle.replay_spec.specs.Recovery.{number_in, is_repeated, redone, of_length, nothing_made}
 use Rattle.replay_spec.specs.Invariant.{Among, AreOrderly}
@@ -21,20 +21,27 @@ use Rattle.instance_book.specs.Swept.{begun as begun_beside}
 use Rattle.book_redo.specs.Redo.{no_rules, told_of, HasToldStates, names_told, beside_with, IsRedone}
 use Rattle.instance_book.specs.Makes.{Reopens}
 use Rattle.journal_records.specs.Records.{Record, begins, changes, renews, draws, body_of}
-use Rattle.journal_records.specs.Reading.{read_record}
+use Rattle.value_bytes.specs.Laws.{AreBytes}
+use Rattle.journal_records.specs.Old.{read_record_in}
+use Rattle.journal_records.specs.Laws.{AreRecordsExact}
 use Rattle.setup_reader.specs.Texts.{setup_of_texts}
 use Rattle.journal_spec.specs.Before.{state_at, Earlier, nothing_told, Made, plain}
 use Rattle.journal_spec.specs.Retaking.{Told, unread, misread, told, landing, then_told, retaken}
 use Rattle.journal_spec.specs.Opening.{IsRead, ReadsAsTold}
 use Rattle.journal_spec.specs.Whole.{AreWhole}
-use Rattle.journal_spec.proofs.Retaken.{retaken_orderly}
-use Rattle.journal_spec.specs.Making.{Making, damaged, other, with_body}
+use Rattle.journal_spec.proofs.Retaken.{retaken_orderly, passed_orderly}
+use Rattle.journal_spec.specs.Making.{Making, damaged, other}
+use Rattle.journal_spec.specs.Old.{with_body_at}
+use Rattle.journal_spec.specs.Owning.{IsOwnState}
+use Rattle.older_records.specs.declared.renew.Renewed.TheVariants as renewed
 use Rattle.book_recovery.specs.declared.found.Found.{Found}
 use Rattle.book_recovery.specs.declared.found.Found.TheVariants as found
 use Rattle.book_recovery.specs.Found.{HasStates}
-use Rattle.book_recovery.specs.Reading.{seen_by, made_under, IsUnderWay, SeesNumber, Sees, may_stand, IsMadeOf, IsOwnBehind, IsRenewed, IsFirst, IsMadeAs, IsNothing, Gives, IsKept, Renews, Begins}
+use Rattle.book_recovery.specs.Reading.{seen_by, made_under, IsUnderWay, SeesNumber, Sees, may_stand, IsMadeOf, IsPassed, IsMadeIn, IsOwnBehind, IsRenewed, IsFirst, IsMadeAs, IsNothing, Gives, IsKept, Renews, Begins}
 use Rattle.book_recovery.proofs.Longer.{instances_longer, places_longer, states_longer, whole_longer}
-use Rattle.book_recovery.proofs.Made.{orderly_alike, untold, good_is, tells_then, nothing_tells, renewed_made, renewed_damaged, first_made, first_other, first_damaged, IsNine}
+use Rattle.book_recovery.proofs.Made.{orderly_alike, untold, good_is, logged_is, as_it_is, tells_then, nothing_tells, renewed_made, renewed_damaged, first_made, first_other, first_damaged, IsNine}
+
+-- A book that is made goes on to be under way.
 
 -- it does not look at the journal
 beside_alike : (library : Library) (x : Beside) (b : kept.Book) (seen : List ℕ) → x.down ≡ None → IsOrderlyMade (record { book = book_of library x b; seen = seen })
@@ -107,20 +114,58 @@ drawn_way shelf library alone before after old new number way single again sees 
       fresh = λ yes. absurd (let no : ⊥ = cc in no);
     }
 
-pub later_way : (shelf : ℕ) (library : Library) (alone : Bool) (before after : InOrder (Unit {0})) (old new : kept.Book) (r : Record) → IsUnderWay shelf alone before old library
-    → may_stand alone (length library.setup) r ≡ true → IsMadeOf library before r old (Some new) → Sees r before after → HasPlaces library.all new → IsUnderWay shelf false after new library
-later_way shelf library alone before after old new (begins s named) way stands redo sees placed = absurd (let not : ⊥ = cc in not)
-later_way shelf library alone before after old new (changes c state) way stands redo sees placed = changed_way shelf library alone before after old new c state way redo sees placed
-later_way shelf library alone before after old new (renews named) way stands redo sees placed = absurd (let not : ⊥ = cc in not)
-later_way shelf library alone before after old new (draws number) way stands redo sees placed = drawn_way shelf library alone before after old new number way stands redo.1 sees placed
+-- a record that is passed over
+passed_way : (shelf : ℕ) (library : Library) (alone : Bool) (before after : InOrder (Unit {0})) (old new : kept.Book) (c : Change) (state : Option (List ℕ)) → IsUnderWay shelf alone before old library
+    → IsPassed (changes c state) old new → SeesNumber (number_in c) before after → HasPlaces library.all new → IsUnderWay shelf false after new library
+passed_way shelf library alone before after old new c state way (k, (number, again)) sees placed =
+    let m : Made = record { book = book_under library old; earlier = record { seen = seen_by before; states = [] } } in
+    let r = retaken 0 c None unread m in
+    let counts : logged_by c ≡ k + 1 = logged_is c k number in
+    let book : book_of library (beside_with 0 c None no_journal) new ≡ r.book =
+    ap (λ (y : Book). record y { length = 0 + (0 + 5) }) (again.book library no_journal)
+    ∙ ap (λ (l : ℕ). reopened (record (book_under library old) { logged = max old.logged l; length = 0 + (0 + 5) })) (sym counts) in
+    record {
+      placed = placed;
+      shelf_is = ap (λ (y : Book). y.shelf) book ∙ way.shelf_is;
+      orderly =
+          beside_alike library (beside_with 0 c None no_journal) new (seen_by after) refl
+          (orderly_alike (record { book = book_of library (beside_with 0 c None no_journal) new; seen = seen_by after }) (plain r) book sees (passed_orderly 0 c unread m way.orderly));
+      tells = (
+        then_told c None unread way.tells.0,
+        tells_then library c None unread before after old new way.tells.0 way.tells.1 (again.states (given (λ n. state_at n way.tells.0.states)) library.all way.tells.1.states) sees,
+      );
+      scripts = way.scripts;
+      fresh = λ yes. absurd (let no : ⊥ = cc in no);
+    }
+
+pub later_way : (format shelf : ℕ) (library : Library) (alone : Bool) (before after : InOrder (Unit {0})) (old new : kept.Book) (r : Record) → IsUnderWay shelf alone before old library
+    → may_stand alone (length library.setup) r ≡ true → IsMadeIn format library before r old (Some new) → Sees r before after → HasPlaces library.all new → IsUnderWay shelf false after new library
+later_way format shelf library alone before after old new (begins s named) way stands redo sees placed = absurd (let not : ⊥ = cc in not)
+later_way format shelf library alone before after old new (changes c state) way stands (renewed.Told l, (alike, made)) sees placed =
+    changed_way shelf library alone before after old new c alike.0 way (subst (λ (q : Record). IsMadeOf library before q old (Some new)) alike.1.0 made) sees placed
+later_way format shelf library alone before after old new (changes c state) way stands (renewed.Passed, (passes, made)) sees placed =
+    passed_way shelf library alone before after old new c state way made sees placed
+later_way format shelf library alone before after old new (changes c state) way stands (renewed.Misread, (outside, made)) sees placed = absurd (let not : ⊥ = cc in not)
+later_way format shelf library alone before after old new (renews named) way stands redo sees placed = absurd (let not : ⊥ = cc in not)
+later_way format shelf library alone before after old new (draws number) way stands (x, (alike, made)) sees placed =
+    drawn_way shelf library alone before after old new number way stands (as_it_is library before old (Some new) (draws number) x alike made).1 sees placed
 
 -- each page goes on to have the state of its chain
-pub later_owns : (library : Library) (before : InOrder (Unit {0})) (old new : kept.Book) (r : Record) → IsMadeOf library before r old (Some new) → IsOwnBehind library before old (Some r)
-    → HasItsStates library.all old → HasItsStates library.all new
-later_owns library before old new (begins s named) redo left states = redo.1.states (own tt) library.all states
-later_owns library before old new (changes c state) redo left states = (redo left.0 left.1.0.states).states left.1.1 states
-later_owns library before old new (renews named) redo left states = redo.1.states (own tt) library.all states
-later_owns library before old new (draws number) redo left states = redo.1.states (own tt) library.all states
+pub later_owns : (format : ℕ) (library : Library) (before : InOrder (Unit {0})) (old new : kept.Book) (r : Record) → IsMadeIn format library before r old (Some new)
+    → IsOwnBehind format library before old (Some r) → HasItsStates library.all old → HasItsStates library.all new
+later_owns format library before old new (begins s named) (x, (alike, made)) left states =
+    (as_it_is library before old (Some new) (begins s named) x alike made).1.states (own tt) library.all states
+later_owns format library before old new (changes c state) (renewed.Told l, (alike, made)) left states =
+    let redo = subst (λ (q : Record). IsMadeOf library before q old (Some new)) alike.1.0 made in
+    let m : Made = record { book = book_under library old; earlier = left.0 } in
+    let same = alike.1.1.tells m no_journal 0 0 refl left.1.0.states in
+    (redo left.0 left.1.0.states).states (subst (IsOwnState (book_under library old) c) same left.1.1) states
+later_owns format library before old new (changes c state) (renewed.Passed, (passes, made)) left states = made.1.1.states (own tt) library.all states
+later_owns format library before old new (changes c state) (renewed.Misread, (outside, made)) left states = absurd (let not : ⊥ = cc in not)
+later_owns format library before old new (renews named) (x, (alike, made)) left states =
+    (as_it_is library before old (Some new) (renews named) x alike made).1.states (own tt) library.all states
+later_owns format library before old new (draws number) (x, (alike, made)) left states =
+    (as_it_is library before old (Some new) (draws number) x alike made).1.states (own tt) library.all states
 
 -- with another setup
 texts_again : (named : List (List ℕ × List ℕ)) (scripts : List Named) → ReadsAsTold setup_of_texts → setup_of_texts named ≡ Some scripts → IsRead setup_of_texts scripts
@@ -184,17 +229,17 @@ first_way shelf library seen b named law first none =
 
 -- ---- what was found
 
-pub renewed_gives : (shelf place : ℕ) (body : List ℕ) (library : Library) (alone : Bool) (seen : InOrder (Unit {0})) (b : kept.Book) (named : List (List ℕ × List ℕ)) (f : Found)
-    → read_record body ≡ Some (renews named) → HasPlaces library.all b → Renews place b library named f
-    → (m : Making) → IsMadeAs shelf (place + 1) alone b library seen m → Gives shelf (place + 5 + length body + 1) false f seen (with_body setup_of_texts shelf place body m)
-renewed_gives shelf place body library alone seen b named found.Nothing reads placed h m is = absurd h
-renewed_gives shelf place body library alone seen b named (found.Made c next) reads placed h m is =
-    subst (λ (x : kept.Book). IsMadeAs shelf (place + 5 + length body + 1) false x (library_of next) seen (with_body setup_of_texts shelf place body m)) (sym h.0)
-    (renewed_made shelf place body library alone seen b m is named (library_of next) reads placed h.1)
-renewed_gives shelf place body library alone seen b named (found.Damaged p) reads placed h m is =
-    renewed_damaged shelf place body library alone seen b m is named reads h.1 ∙ ap damaged (sym h.0)
-renewed_gives shelf place body library alone seen b named (found.Other p) reads placed h m is = absurd h
-renewed_gives shelf place body library alone seen b named found.Memory reads placed h m is = tt
+pub renewed_gives : (format : ℕ) (shelf place : ℕ) (body : List ℕ) (library : Library) (alone : Bool) (seen : InOrder (Unit {0})) (b : kept.Book) (named : List (List ℕ × List ℕ)) (f : Found)
+    → read_record_in format body ≡ Some (renews named) → HasPlaces library.all b → Renews place b library named f
+    → (m : Making) → IsMadeAs shelf (place + 1) alone b library seen m → Gives shelf (place + 5 + length body + 1) false f seen (with_body_at format setup_of_texts shelf place body m)
+renewed_gives format shelf place body library alone seen b named found.Nothing reads placed h m is = absurd h
+renewed_gives format shelf place body library alone seen b named (found.Made c next) reads placed h m is =
+    subst (λ (x : kept.Book). IsMadeAs shelf (place + 5 + length body + 1) false x (library_of next) seen (with_body_at format setup_of_texts shelf place body m)) (sym h.0)
+    (renewed_made format shelf place body library alone seen b m is named (library_of next) reads placed h.1)
+renewed_gives format shelf place body library alone seen b named (found.Damaged p) reads placed h m is =
+    renewed_damaged format shelf place body library alone seen b m is named reads h.1 ∙ ap damaged (sym h.0)
+renewed_gives format shelf place body library alone seen b named (found.Other p) reads placed h m is = absurd h
+renewed_gives format shelf place body library alone seen b named found.Memory reads placed h m is = tt
 
 pub renewed_kept : (shelf place : ℕ) (library : Library) (alone : Bool) (seen : InOrder (Unit {0})) (b : kept.Book) (named : List (List ℕ × List ℕ)) (f : Found) → ReadsAsTold setup_of_texts
     → IsUnderWay shelf alone seen b library → Renews place b library named f → IsKept shelf false seen f
@@ -213,14 +258,14 @@ renewed_states place library b named (found.Damaged p) h states = tt
 renewed_states place library b named (found.Other p) h states = tt
 renewed_states place library b named found.Memory h states = tt
 
-pub first_gives : (shelf place : ℕ) (body : List ℕ) (number : ℕ) (named : List (List ℕ × List ℕ)) (seen : InOrder (Unit {0})) (f : Found) → read_record body ≡ Some (begins number named)
+pub first_gives : (format : ℕ) (shelf place : ℕ) (body : List ℕ) (number : ℕ) (named : List (List ℕ × List ℕ)) (seen : InOrder (Unit {0})) (f : Found) → read_record_in format body ≡ Some (begins number named)
     → Begins shelf place number named f
-    → (m : Making) → IsNothing (place + 1) seen m → Gives shelf (place + 5 + length body + 1) true f seen (with_body setup_of_texts shelf place body m)
-first_gives shelf place body number named seen found.Nothing reads h m is = absurd h
-first_gives shelf place body number named seen (found.Made b library) reads h m is = first_made shelf place body number named reads seen m is b (library_of library) h.0 h.1
-first_gives shelf place body number named seen (found.Damaged p) reads h m is = first_damaged shelf place body number named reads seen m is h.1 ∙ ap damaged (sym h.0)
-first_gives shelf place body number named seen (found.Other p) reads h m is = first_other shelf place body number named reads seen m is h.1.0 h.1.1.0 h.1.1.1 ∙ ap other (sym h.0)
-first_gives shelf place body number named seen found.Memory reads h m is = tt
+    → (m : Making) → IsNothing (place + 1) seen m → Gives shelf (place + 5 + length body + 1) true f seen (with_body_at format setup_of_texts shelf place body m)
+first_gives format shelf place body number named seen found.Nothing reads h m is = absurd h
+first_gives format shelf place body number named seen (found.Made b library) reads h m is = first_made format shelf place body number named reads seen m is b (library_of library) h.0 h.1
+first_gives format shelf place body number named seen (found.Damaged p) reads h m is = first_damaged format shelf place body number named reads seen m is h.1 ∙ ap damaged (sym h.0)
+first_gives format shelf place body number named seen (found.Other p) reads h m is = first_other format shelf place body number named reads seen m is h.1.0 h.1.1.0 h.1.1.1 ∙ ap other (sym h.0)
+first_gives format shelf place body number named seen found.Memory reads h m is = tt
 
 pub first_kept : (shelf place number : ℕ) (named : List (List ℕ × List ℕ)) (seen : InOrder (Unit {0})) (f : Found) → ReadsAsTold setup_of_texts → Begins shelf place number named f → seen_by seen ≡ []
     → IsKept shelf true seen f
@@ -238,7 +283,7 @@ first_states shelf place number named (found.Other p) h = tt
 first_states shelf place number named found.Memory h = tt
 
 -- the body of a record that tells a number is 9 bytes long
-pub is_nine : (body : List ℕ) (r : Record) → body ≡ body_of r → IsNine body r
+is_nine : (body : List ℕ) (r : Record) → body ≡ body_of r → IsNine body r
 is_nine body (begins s named) is = tt
 is_nine body (changes c state) is = tt
 is_nine body (renews named) is = tt
@@ -246,3 +291,10 @@ is_nine body (draws number) is = ap (λ (bs : List ℕ). length bs) is ∙ nine 
   where
     nine : (n : ℕ) → length (body_of (draws n)) ≡ 9
     nine n = refl
+
+-- so it is in each format
+pub is_nine_in : AreRecordsExact → (format : ℕ) (body : List ℕ) (r : Record) → AreBytes body → read_record_in format body ≡ Some r → IsNine body r
+is_nine_in x format body (begins s named) small read = tt
+is_nine_in x format body (changes c state) small read = tt
+is_nine_in x format body (renews named) small read = tt
+is_nine_in x format body (draws number) small read = is_nine body (draws number) (x.alike format body (draws number) small read tt).spelled

@@ -1,5 +1,5 @@
 -- What a reader of records has made so far.
-use Rattle.std.specs.Prelude.{◌≡◌, ◌≤◌, ℕ, ◌+◌, ◌*◌, Bool, true, false, List, [], ◌++◌, length, Option, Some, None, if◌then◌else◌, ⊤}
+use Rattle.std.specs.Prelude.{◌≡◌, ◌<◌, ◌≤◌, ℕ, ◌+◌, ◌*◌, Bool, true, false, List, [], ◌++◌, length, Option, Some, None, if◌then◌else◌, ⊤}
 use Rattle.script_nodes.specs.Setup.{Named, Library}
 use Rattle.script_nodes.specs.Views.{scripts_of, library_of}
 use Rattle.script_nodes.specs.declared.setup.Setup.{Setup}
@@ -11,24 +11,32 @@ use Rattle.replay_spec.specs.Remade.{IsOrderlyMade}
 use Rattle.instance_book.specs.declared.in_order.InOrder.{InOrder}
 use Rattle.instance_book.specs.declared.book.Book.{Book}
 use Rattle.instance_book.specs.Orders.{numbers_of}
-use Rattle.instance_book.specs.Makes.{count_of, HasPlaces, HasItsStates, HasWhatIsGiven}
+use Rattle.instance_book.specs.Makes.{count_of, HasPlaces, HasItsStates, HasWhatIsGiven, Reopens}
 use Rattle.instance_book.specs.Swept.{IsEmpty}
 use Rattle.instance_book.specs.Views.{book_of}
 use Rattle.instance_book.specs.Standing.{book_under}
-use Rattle.book_redo.specs.Redo.{HasToldStates, number_by, IsRedoneBy}
+use Rattle.book_redo.specs.Redo.{HasToldStates, counted_to, number_by, IsRedoneBy}
 use Rattle.machine_states.specs.Machine.{Suspended}
 use Rattle.journal_records.specs.Records.{Record, begins, changes, renews, draws}
-use Rattle.journal_records.specs.Reading.{read_record}
+use Rattle.journal_records.specs.Old.{read_record_in}
+use Rattle.journal_records.specs.Views.{logged_of}
 use Rattle.setup_reader.specs.Texts.{setup_of_texts}
 use Rattle.journal_spec.specs.Before.{Earlier, state_at, Made}
-use Rattle.journal_spec.specs.Making.{Making, nothing, begun, made, damaged, other, began, has_script, with_body}
+use Rattle.journal_spec.specs.Making.{Making, nothing, begun, made, damaged, other, began, has_script}
+use Rattle.journal_spec.specs.Old.{with_body_at}
 use Rattle.journal_spec.specs.Opening.{IsRead}
 use Rattle.journal_spec.specs.Whole.{AreWhole}
-use Rattle.journal_spec.specs.Owning.{IsOwnRecord}
+use Rattle.journal_spec.specs.Owning.{IsOwnRecordIn}
+use Rattle.older_records.specs.declared.renew.Renewed.{Renewed}
+use Rattle.older_records.specs.declared.renew.Renewed.TheVariants as renewed
+use Rattle.older_records.specs.Renewing.{IsRenewed as IsTold}
 use Rattle.book_recovery.specs.declared.found.Found.{Found}
 use Rattle.book_recovery.specs.declared.found.Found.TheVariants as found
 use Rattle.book_recovery.specs.declared.reader.Reader.{Reader}
+use Rattle.file_notes.specs.Files.{IsNoted}
 use Rattle.book_recovery.specs.Found.{beside_file, HasStates}
+use Rattle.book_recovery.specs.Noting.{NotesWith}
+use Rattle.book_recovery.specs.Anew.{AnewWith}
 
 -- the numbers that were seen
 abbrev pub seen_by : InOrder (Unit {0}) → List ℕ
@@ -86,10 +94,30 @@ abbrev pub CountsOneMore : (old : Book) → Option Book → Type 0
 CountsOneMore old None = ⊤
 CountsOneMore old (Some new) = count_of new ≤ count_of old + 1
 
--- a record makes the new book of the old one, where its state can be read; where it can't be, there is no book
+-- a record whose number was seen before, or was not, makes the new book of the old one, where its state can be read; where it can't be, there is
+-- no book
+abbrev pub IsMadeAgain : Library → Record → (again : Bool) → (old : Book) → Option Book → Type 0
+IsMadeAgain library r again old None = (mid : Book) × IsRedoneBy library r again false old mid
+IsMadeAgain library r again old (Some new) = IsRedoneBy library r again true old new
+
+-- a record makes the new book of the old one, by the numbers that were seen
 abbrev pub IsMadeOf : Library → InOrder (Unit {0}) → Record → (old : Book) → Option Book → Type 0
-IsMadeOf library seen r old None = (mid : Book) × IsRedoneBy library r (is_repeated (number_by r) (seen_by seen)) false old mid
-IsMadeOf library seen r old (Some new) = IsRedoneBy library r (is_repeated (number_by r) (seen_by seen)) true old new
+IsMadeOf library seen r old o = IsMadeAgain library r (is_repeated (number_by r) (seen_by seen)) old o
+
+-- the record of a change is passed over: its number counts, and the book is as after a crash
+abbrev pub IsPassed : Record → (old new : Book) → Type 0
+IsPassed r old new = (n : ℕ) × ((number_by r ≡ Some n) × Reopens (counted_to n) old new)
+
+-- what is told of a record in the newest format makes the new book of the old one, if there is a new one
+abbrev pub IsMadeBy : Library → InOrder (Unit {0}) → Record → Renewed → (old : Book) → Option Book → Type 0
+IsMadeBy library seen r (renewed.Told l) old o = IsMadeOf library seen (logged_of l) old o
+IsMadeBy library seen r renewed.Passed old (Some new) = IsPassed r old new
+IsMadeBy library seen r renewed.Passed old None = ⊥
+IsMadeBy library seen r renewed.Misread old o = o ≡ None
+
+-- a record of this format makes the new book of the old one, where its state can be read; where it can't be, there is no book
+abbrev pub IsMadeIn : (format : ℕ) → Library → InOrder (Unit {0}) → Record → (old : Book) → Option Book → Type 0
+IsMadeIn format library seen r old o = (x : Renewed) × (IsTold format library old r x × IsMadeBy library seen r x old o)
 
 -- the first record stands alone, or others stand behind it
 abbrev pub making_of : (alone : Bool) → Made → Making
@@ -119,10 +147,10 @@ Gives shelf length alone (found.Other place) seen m = m ≡ other place
 Gives shelf length alone found.Memory seen m = ⊤
 
 -- where what was found before is what the records make, so is what is found with one body more, behind the gate at this place
-abbrev pub GivesWith : (shelf place : ℕ) → List ℕ → (alone : Bool) → (old : Found) → (then_alone : Bool) → (new : Found) → (before after : InOrder (Unit {0})) → Type 0
-GivesWith shelf place body alone old then_alone new before after =
+abbrev pub GivesWith : (format shelf place : ℕ) → List ℕ → (alone : Bool) → (old : Found) → (then_alone : Bool) → (new : Found) → (before after : InOrder (Unit {0})) → Type 0
+GivesWith format shelf place body alone old then_alone new before after =
     (m : Making) → Gives shelf (place + 1) alone old before m
-    → Gives shelf (place + 5 + length body + 1) then_alone new after (with_body setup_of_texts shelf place body m)
+    → Gives shelf (place + 5 + length body + 1) then_alone new after (with_body_at format setup_of_texts shelf place body m)
 
 -- a book that was found is under way; where nothing was found, no number was seen
 abbrev pub IsKept : (shelf : ℕ) → (alone : Bool) → InOrder (Unit {0}) → Found → Type 0
@@ -130,34 +158,55 @@ IsKept shelf alone seen found.Nothing = seen_by seen ≡ []
 IsKept shelf alone seen (found.Made b library) = IsUnderWay shelf alone seen b (library_of library)
 IsKept shelf alone seen _ = ⊤
 
--- what a reader made so far is under way
-abbrev pub IsSoundReader : Reader → Type 0
-IsSoundReader r = IsKept r.shelf r.alone r.seen r.found
+-- What a reader made so far is under way. In format 1, whose states are made by the scripts, each page has the state of its chain.
+pub record IsSoundReader (r : Reader) : Type 0 where
+  pub kept : IsKept r.shelf r.alone r.seen r.found
+  pub known : 0 < r.format
+  pub own : r.format ≡ 1 → HasStates r.found
+  pub noted : IsNoted r.notes
 
--- the record is an own one of the book, after what records told earlier
-abbrev pub IsOwnBehind : Library → InOrder (Unit {0}) → Book → Option Record → Type 0
-IsOwnBehind library seen b r =
-    (earlier : Earlier) × (TellsOf library seen b earlier × IsOwnRecord (record { book = book_under library b; earlier = earlier }) r)
+-- the record of this format is an own one of the book, after what records told earlier
+abbrev pub IsOwnBehind : (format : ℕ) → Library → InOrder (Unit {0}) → Book → Option Record → Type 0
+IsOwnBehind format library seen b r =
+    (earlier : Earlier) × (TellsOf library seen b earlier × IsOwnRecordIn format (record { book = book_under library b; earlier = earlier }) r)
 
 -- the record of a body is an own one of the book that was made, if one was
-abbrev pub IsOwnFor : InOrder (Unit {0}) → Found → (body : List ℕ) → Type 0
-IsOwnFor seen (found.Made b library) body = IsOwnBehind (library_of library) seen b (read_record body)
-IsOwnFor seen _ body = ⊤
+abbrev pub IsOwnFor : (format : ℕ) → InOrder (Unit {0}) → Found → (body : List ℕ) → Type 0
+IsOwnFor format seen (found.Made b library) body = IsOwnBehind format (library_of library) seen b (read_record_in format body)
+IsOwnFor format seen _ body = ⊤
 
 -- after a body whose record is an own one, where each page of the book has the state of its chain, so has each of the book that is found
-abbrev pub KeepsOwnWith : InOrder (Unit {0}) → (old : Found) → (body : List ℕ) → (new : Found) → Type 0
-KeepsOwnWith seen old body new = IsOwnFor seen old body → HasStates old → HasStates new
+abbrev pub KeepsOwnWith : (format : ℕ) → InOrder (Unit {0}) → (old : Found) → (body : List ℕ) → (new : Found) → Type 0
+KeepsOwnWith format seen old body new = IsOwnFor format seen old body → HasStates old → HasStates new
+
+-- where what was found and known before is what the records make, so is what is known with one body more
+abbrev pub NotesTaken : (old : Reader) → (place : ℕ) → (body : List ℕ) → (new : Reader) → Type 0
+NotesTaken old place body new =
+    (m : Making) → Gives old.shelf (place + 1) old.alone old.found old.seen m → NotesWith old.format old.shelf place body old.notes new.notes new.found m
+
+-- where what was found before is what the records make, the body is kept that the newest format has of one more
+abbrev pub AnewTaken : (old : Reader) → (place : ℕ) → (body : List ℕ) → (new : Reader) → Type 0
+AnewTaken old place body new =
+    (m : Making) → Gives old.shelf (place + 1) old.alone old.found old.seen m → AnewWith old.format body old.anew new.anew new.found m
+
+-- a reader that found this
+abbrev pub with_found : Reader → Found → Reader
+with_found r f = record r { found = f }
 
 -- a reader takes one body more, which is bytes
 pub record IsTaken (old : Reader) (place : ℕ) (body : List ℕ) (new : Reader) : Type 0 where
   pub shelf : new.shelf ≡ old.shelf
+  pub format : new.format ≡ old.format
   pub bytes : AreBytes body
-  pub gives : GivesWith old.shelf place body old.alone old.found new.alone new.found old.seen new.seen
-  pub owns : KeepsOwnWith old.seen old.found body new.found
+  pub gives : GivesWith old.format old.shelf place body old.alone old.found new.alone new.found old.seen new.seen
+  pub owns : KeepsOwnWith old.format old.seen old.found body new.found
+  pub notes : NotesTaken old place body new
+  pub anew : AnewTaken old place body new
 
--- a reader for the same shelf, behind as many records
+-- a reader for the same shelf and format, behind as many records
 pub record IsSameReader (old new : Reader) : Type 0 where
   pub shelf : new.shelf ≡ old.shelf
+  pub format : new.format ≡ old.format
   pub alone : new.alone ≡ old.alone
   pub found : new.found ≡ old.found
 

@@ -1,5 +1,7 @@
+use file_notes::FileNotes;
 use instance_book::Book;
 use script_nodes::Library;
+use script_value::Bytes;
 
 /// What the records of a journal make of a shelf.
 #[derive(Drop)]
@@ -14,4 +16,14 @@ pub enum Found {
     Other { place: u64 },
     /// There was no memory to make it.
     Memory,
+}
+
+/// A book that was read, and what is known of its file.
+#[derive(Drop)]
+pub struct ReadBook {
+    pub found: Found,
+    pub notes: FileNotes,
+    /// Where the file is of an older format, the bodies that the newest has of its records: of the first one, and of those that have a
+    /// note. One that is passed over has none.
+    pub anew: Vec<Bytes>,
 }

@@ -7,5 +7,5 @@ mod reader;
 mod setup_scripts;
 mod sound;
 
-pub use found::Found;
+pub use found::{Found, ReadBook};
 pub use read::read_book;

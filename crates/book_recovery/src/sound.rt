@@ -1,5 +1,6 @@
-use crate::found::Found;
+use crate::found::{Found, ReadBook};
 use crate::reader::Reader;
+use file_notes::FileNotes;
 use instance_book::InOrder;
 use page_journal::Take;
 use std::alloc::Global;
@@ -13,12 +14,13 @@ pub struct SoundReader {
 
 impl Model for SoundReader {
     ghost use Rattle.std.specs.Coded.{codes};
+    ghost use Rattle.file_notes.specs.contracts.past.FilePast as past_type;
     ghost use Rattle.book_recovery.specs.contracts.found.Found as found_type;
     ghost use Rattle.book_recovery.specs.declared.reader.Reader.{Reader};
 
     ghost Value = { Reader };
 
-    ghost coded = { Prim.hlevel (codes, found_type.the_row.coded) };
+    ghost coded = { Prim.hlevel (codes, past_type.the_row.coded, found_type.the_row.coded) };
 
     ghost use Rattle.book_recovery.specs.Reading.{IsSoundReader};
 
@@ -28,41 +30,54 @@ impl Model for SoundReader {
 }
 
 impl SoundReader {
-    ghost use Rattle.std.specs.Prelude.{◌≡◌, []};
+    ghost use Rattle.std.specs.Prelude.{◌≡◌, ◌<◌, []};
+    ghost use Rattle.file_notes.specs.Files.{marks_in};
     ghost use Rattle.book_recovery.specs.Reading.{seen_by, IsSoundReader};
     ghost use Rattle.book_recovery.specs.declared.found.Found.TheVariants as found;
 
     /// No record was read.
-    pub fn new(alloc: Global, shelf: u32) -> SoundReader
+    pub fn new(alloc: Global, shelf: u32, format: u8) -> SoundReader
+        requires known { 0 < format }
         ensures shelf { result.shelf ≡ shelf }
+        ensures format { result.format ≡ format }
         ensures found { result.found ≡ found.Nothing }
         ensures seen { seen_by result.seen ≡ [] }
+        ensures marks { marks_in result.notes ≡ [] }
+        ensures anew { result.anew.items ≡ [] }
     {
         SoundReader {
             reader: Reader {
                 alloc,
                 shelf,
+                format,
                 seen: InOrder::new(alloc),
                 alone: true,
                 found: Found::Nothing,
+                notes: FileNotes::none(alloc),
+                anew: Vec::new(alloc),
             },
         }
     }
 
-    /// What was made of the records.
-    pub fn finish(self) -> Found
-        ensures found { result ≡ self.found }
+    /// What was made of the records, what is known of their file, and the bodies that the newest format has of them.
+    pub fn finish(self) -> ReadBook
+        ensures found { result.found ≡ self.found }
+        ensures notes { result.notes ≡ self.notes }
+        ensures anew { result.anew ≡ self.anew }
         ensures sound { IsSoundReader self }
     {
         let SoundReader { reader } = self;
         let Reader {
             alloc: _,
             shelf: _,
+            format: _,
             seen: _,
             alone: _,
             found,
+            notes,
+            anew,
         } = reader;
-        found
+        ReadBook { found, notes, anew }
     }
 }
 

@@ -1,5 +1,5 @@
 use crate::words::bytes_of;
-use book_recovery::{Found, read_book};
+use book_recovery::{Found, ReadBook, read_book};
 use instance_book::Book;
 use journal_records::{Recorded, can_begin, encode};
 use page_journal::Journal;
@@ -97,7 +97,10 @@ fn found(alloc: Global, bytes: Vec<u8>) -> Result<Option<Found>, AllocError> {
     let Ok(mut journal) = Journal::begin(alloc, disk) else {
         return Ok(None);
     };
-    Ok(read_book(alloc, &mut journal, 7).ok())
+    match read_book(alloc, &mut journal, 7) {
+        Ok(ReadBook { found, .. }) => Ok(Some(found)),
+        Err(_) => Ok(None),
+    }
 }
 
 /// What a file makes of shelf 7, in words.

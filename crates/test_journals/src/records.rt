@@ -3,6 +3,7 @@ ghost use Rattle.journal_records.specs.Views.{logged_of, recorded_of};
 
 use crate::words::bytes_of;
 use journal_records::{Logged, Recorded, body_length, can_begin, decode, encode};
+use page_journal::NEWEST_FORMAT;
 use script_nodes::ScriptText;
 use setup_reader::setup_of;
 use std::alloc::{AllocError, Global};
@@ -59,7 +60,7 @@ fn told_of_logged(alloc: Global, logged: &Logged, body: &[u8]) -> Result<String,
 /// How many bytes the record has whose body these words are, and whether it is written so again; or that they are none.
 pub fn told_of_body(alloc: Global, words: &str) -> Result<String, AllocError> {
     let body = bytes_of(alloc, words)?;
-    match decode(alloc, &body)? {
+    match decode(alloc, NEWEST_FORMAT, &body)? {
         Some(logged) => told_of_logged(alloc, &logged, &body),
         None => String::from_str(alloc, "no record\n"),
     }

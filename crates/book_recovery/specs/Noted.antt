@@ -1,0 +1,92 @@
+-- What one record more that was read adds to what is known of a file.
+use Rattle.std.specs.Prelude.{◌≡◌, ℕ, ◌+◌, Bool, true, List, [], ◌∷◌, ◌++◌, Option, Some, None, is_some, ⊤}
+use Rattle.script_nodes.specs.Setup.{Named, Library}
+use Rattle.instance_book.specs.declared.in_order.InOrder.{InOrder}
+use Rattle.instance_book.specs.declared.book.Book.{Book}
+use Rattle.instance_book.specs.Views.{Beside, book_of}
+use Rattle.replay_spec.specs.Rules.{first_file}
+use Rattle.replay_spec.specs.Book.{renewed}
+use Rattle.replay_spec.specs.Change.{with_line}
+use Rattle.journal_records.specs.Records.{Record, changes, draws}
+use Rattle.journal_records.specs.Views.{logged_of}
+use Rattle.journal_records.specs.declared.records.Logged.{Logged}
+use Rattle.journal_spec.specs.Before.{Made}
+use Rattle.journal_spec.specs.Old.{told_of, landing_of}
+use Rattle.file_notes.specs.declared.notes.FileNotes.{FileNotes}
+use Rattle.file_notes.specs.Files.{file_in, marks_in, with_read, with_drawn}
+use Rattle.setup_reader.specs.Texts.{setup_of_texts}
+use Rattle.book_recovery.specs.Reading.{TellsOf}
+use Rattle.book_recovery.specs.declared.found.Found.{Found}
+use Rattle.book_recovery.specs.declared.reader.Reader.{Reader}
+use Rattle.book_redo.specs.Lands.{TellsLanding}
+use Rattle.book_recovery.specs.Noting.{WhereMade}
+use Rattle.book_recovery.specs.Anew.{HasAnew, IsAnewBy}
+use Rattle.std.specs.Global.{Vec}
+
+-- the number that a record tells, if it is one of a number
+abbrev pub drawn_by : Record → Option ℕ
+drawn_by (draws number) = Some number
+drawn_by _ = None
+
+-- records made this book, beside some journal, and what they told is of numbers that were seen
+abbrev pub IsOfMade : Library → InOrder (Unit {0}) → Book → Made → Type 0
+IsOfMade library seen b m = (beside : Beside) × ((m.book ≡ book_of library beside b) × TellsOf library seen b m.earlier)
+
+-- a record of this length that was read has a note, which tells whether it lands
+pub record TakesNote (lands : Bool) (r : Record) (length : ℕ) (old new : FileNotes) : Type 0 where
+  pub file : file_in new ≡ with_read lands r length (file_in old)
+  pub marks : marks_in new ≡ marks_in old ++ lands ∷ []
+
+-- a record of the newest format has a note, which tells whether it lands in this book, whatever names its page is inside; one that tells a
+-- number has none
+abbrev pub TakesIfLands : Library → Book → Record → (again : Bool) → (length : ℕ) → (old new : FileNotes) → Type 0
+TakesIfLands library b (changes c state) again n old new =
+    (lands : Bool) × (TellsLanding library b (changes c state) again lands × TakesNote lands (changes c state) n old new)
+TakesIfLands library b (draws number) again n old new = (file_in new ≡ with_drawn number (file_in old)) × (marks_in new ≡ marks_in old)
+TakesIfLands library b r again n old new = ⊤
+
+-- so a reader notes what is told
+abbrev pub NotesLanding : Library → Book → Logged → (again : Bool) → (length : ℕ) → (old new : Reader) → Type 0
+NotesLanding library b l again n old new = TakesIfLands library b (logged_of l) again n old.notes new.notes
+
+-- a record of this format that was read is noted behind this book: one of a change lands in it as recovery decides, or not
+abbrev pub NotesRecord : (format : ℕ) → Library → InOrder (Unit {0}) → Book → Record → (length : ℕ) → (old new : FileNotes) → Type 0
+NotesRecord format library seen b (changes c state) n old new =
+    (m : Made) → IsOfMade library seen b m → TakesNote (is_some (landing_of format m c (told_of format m c state))) (changes c state) n old new
+NotesRecord format library seen b (draws number) n old new = (file_in new ≡ with_drawn number (file_in old)) × (marks_in new ≡ marks_in old)
+NotesRecord format library seen b r n old new = ⊤
+
+-- where a record was made again, or was passed over, it is noted
+abbrev pub NotesMade : (format : ℕ) → Library → InOrder (Unit {0}) → Book → Record → (length : ℕ) → (old new : FileNotes) → Option Book → Type 0
+NotesMade format library seen b r n old new None = ⊤
+NotesMade format library seen b r n old new (Some c) = NotesRecord format library seen b r n old new
+
+-- so a reader notes it
+abbrev pub NotesRedone : Library → Book → Record → (length : ℕ) → (old new : Reader) → Option Book → Type 0
+NotesRedone library b r n old new o = NotesMade old.format library old.seen b r n old.notes new.notes o
+
+-- where a setup of these names and texts is told behind others, its record of this length has a note
+abbrev pub NotesSetup : (texts : List (List ℕ × List ℕ)) → (length : ℕ) → (old new : FileNotes) → Found → Type 0
+NotesSetup texts n old new found =
+    WhereMade found ((scripts : List Named) → setup_of_texts texts ≡ Some scripts
+    → (file_in new ≡ with_line (renewed scripts n) (file_in old)) × (marks_in new ≡ marks_in old ++ true ∷ []))
+
+-- where a setup of these names and texts is told by the first record of this length, the file is that with it alone
+abbrev pub NotesFirst : (texts : List (List ℕ × List ℕ)) → (length : ℕ) → (new : FileNotes) → Found → Type 0
+NotesFirst texts n new found =
+    WhereMade found ((scripts : List Named) → setup_of_texts texts ≡ Some scripts → (file_in new ≡ first_file (14 + n) scripts) × (marks_in new ≡ []))
+
+-- the body is kept that the newest format has of a record of this one behind this book
+abbrev pub KeepsRecord : (format : ℕ) → Library → InOrder (Unit {0}) → Book → Record → (old new : Vec (List ℕ)) → Type 0
+KeepsRecord format library seen b r old new =
+    (m : Made) → IsOfMade library seen b m → (body : List ℕ) → (bodies : List (List ℕ)) × (IsAnewBy format m body (Some r) bodies × HasAnew format bodies old new)
+
+-- so it is where a record was made again, or was passed over
+abbrev pub MakesAnew : (format : ℕ) → Library → InOrder (Unit {0}) → Book → Record → (old new : Vec (List ℕ)) → Option Book → Type 0
+MakesAnew format library seen b (changes c state) old new (Some d) = KeepsRecord format library seen b (changes c state) old new
+MakesAnew format library seen b (draws number) old new (Some d) = KeepsRecord format library seen b (draws number) old new
+MakesAnew format library seen b r old new o = ⊤
+
+-- so a reader keeps it
+abbrev pub KeepsRedone : Library → Book → Record → (old new : Reader) → Option Book → Type 0
+KeepsRedone library b r old new o = MakesAnew old.format library old.seen b r old.anew new.anew o
