@@ -6,6 +6,7 @@ use Rattle.script_nodes.specs.Setup.{Named, Library}
 use Rattle.script_nodes.specs.Views.{library_of}
 use Rattle.script_nodes.specs.declared.library.Library as kept
 use Rattle.web_disk.specs.View.{View, LeavesOnly}
+use Rattle.page_journal.specs.Records.{newest}
 use Rattle.page_journal.specs.Holding.{MayHold}
 use Rattle.page_journal.specs.Settled.{IsSettled, view_of, bodies_in, length_of, length_with}
 use Rattle.page_journal.specs.declared.journal.Journal.{Journal}
@@ -33,7 +34,10 @@ use Rattle.instance_book.specs.Views.{Beside}
 use Rattle.instance_book.specs.Swept.{IsEmpty}
 use Rattle.instance_book.specs.Makes.{HasPlaces, HasItsStates, HasWhatIsGiven}
 use Rattle.book_recovery.specs.Found.{IsBookInOrder, beside_file}
-use Rattle.shelf.specs.Files.{file_in, read_file}
+use Rattle.file_notes.specs.declared.notes.FileNotes.{FileNotes}
+use Rattle.book_recovery.specs.Noting.{marks_of}
+use Rattle.journal_spec.specs.Reading.{AreAllBytes}
+use Rattle.shelf.specs.Files.{file_in, read_file, KnowsRead, NotesBegun}
 use Rattle.shelf.specs.Opening.{making_of, opening_bodies, OpensOwn, TellsSetup, TellsFull, IsLibraryOf, Opens, IsMadeOf}
 use Rattle.shelf.specs.Owning.{StaysOwnThroughout}
 use Rattle.shelf.specs.declared.begin.BeginFault.{BeginFault}
@@ -41,9 +45,10 @@ use Rattle.shelf.specs.declared.begin.BeginFault.TheVariants as fault
 use Rattle.shelf.proofs.Openings.{none_read, nine, read_beside, quiet_none}
 use Rattle.shelf.proofs.Renewing.{outside_refuses, by_memory}
 use Rattle.shelf.proofs.Standing.{OnlyNow}
-use Rattle.shelf.proofs.Owned.{first_own, with_flight, stays_own, settled_own, quiet_own}
+use Rattle.shelf.proofs.Owned.{none_own, first_own, with_added, stays_own, settled_own, quiet_own}
+use Rattle.shelf.proofs.Newest.{own_in, now_own, makes_so}
 
-module _ {D : Type 0} (view : D → View) (tells : Bool) (scripts : List Named) (shelf : ℕ) (j : Journal D) (settled : IsTrue tells → IsSettled view j) (only_now : OnlyNow (view_of view j))
+module _ {D : Type 0} (view : D → View) (tells : Bool) (scripts : List Named) (shelf : ℕ) (j : Journal D) (now_is : j.format ≡ newest) (settled : IsTrue tells → IsSettled view j) (only_now : OnlyNow (view_of view j))
     (none : IsTrue tells → making_of view shelf j ≡ nothing) (x : AreRecordsExact) (read : IsReadSetup scripts) (whole : AreWhole scripts) (begins : IsInGrammar (begin_of shelf scripts)) where
   abbrev pub body : List ℕ
   body = first_body scripts shelf
@@ -57,10 +62,10 @@ module _ {D : Type 0} (view : D → View) (tells : Bool) (scripts : List Named) 
   added_is : IsTrue tells → opening_bodies scripts shelf (making_of view shelf j) ≡ body ∷ []
   added_is told = ap (opening_bodies scripts shelf) (none told)
 
-  first_moments : (told : IsTrue tells) (v : View) → length_with j body ≤ 2 ^ 30 → LeavesOnly (view_of view j) v (MayHold (bodies_in view j) body) → StaysOwnThroughout shelf (view_of view j) v
+  first_moments : (told : IsTrue tells) (v : View) → length_with j body ≤ 2 ^ 30 → LeavesOnly (view_of view j) v (MayHold newest (bodies_in view j) body) → StaysOwnThroughout shelf (view_of view j) v
   first_moments told v short run =
-      let here = subst (λ (bs : List (List ℕ)). LeavesOnly (view_of view j) v (MayHold bs body)) (bare told) run in
-      stays_own shelf (view_of view j) v (with_flight shelf [] body (omega (arith, short, at_first told)) (first_own shelf body)) here
+      let here = subst (λ (bs : List (List ℕ)). LeavesOnly (view_of view j) v (MayHold newest bs body)) (bare told) run in
+      stays_own shelf (view_of view j) v (with_added shelf [] body (omega (arith, short, at_first told)) (now_own shelf [] (none_own newest shelf)) (first_own shelf body)) here
 
   some_not : (told : IsTrue tells) {A : Type 0} → making_of view shelf j ≢ nothing → A
   some_not told some = absurd (some (none told))
@@ -93,7 +98,7 @@ module _ {D : Type 0} (view : D → View) (tells : Bool) (scripts : List Named) 
           told = λ told. tt;
           in_order = tt;
           setup = tt;
-          own_moments = λ told own. quiet_own shelf (view_of view j) (view_of view j) (quiet_none (view_of view j) only_now).moments (settled_own view shelf j (settled told) own);
+          own_moments = λ told own. quiet_own shelf (view_of view j) (view_of view j) (quiet_none (view_of view j) only_now).moments (settled_own view shelf j (settled told) (own_in view shelf j now_is own));
           refused = λ told. record {
             made = began shelf (length body) scripts;
             opened = ap (opened_on shelf scripts) (none told);
@@ -113,7 +118,7 @@ module _ {D : Type 0} (view : D → View) (tells : Bool) (scripts : List Named) 
 
   -- ---- it does
 
-  module _ (new : Journal D) (b : RustBook) (lib : kept.Library) (has : IsLibraryOf [] scripts lib) (empty_book_is : IsEmpty shelf b) (placed : (all : List Named) → HasPlaces all b) (given : HasWhatIsGiven b)
+  module _ (new : Journal D) (new_is : new.format ≡ newest) (b : RustBook) (lib : kept.Library) (has : IsLibraryOf [] scripts lib) (empty_book_is : IsEmpty shelf b) (placed : (all : List Named) → HasPlaces all b) (given : HasWhatIsGiven b)
       (states : (all : List Named) → HasItsStates all b) (fresh : FreshJournalsAreKept) where
     abbrev pub rules : Rules
     rules = record { fuel = 0; life = 0; instances = 0; pages = 0; journal = Some (journal_rules shelf) }
@@ -183,7 +188,7 @@ module _ {D : Type 0} (view : D → View) (tells : Bool) (scripts : List Named) 
       fit_is = subst (IsFit view texts shelf new) (sym post_is) (record {
         settled = λ _. ends;
         holds = λ _. keeps_then;
-        stands = settled_stands view texts shelf new first ends (keeps_then.earlier, keeps_then.makes) refl;
+        stands = settled_stands view texts shelf new first ends (makes_so view shelf new first new_is (keeps_then.earlier, keeps_then.makes)) refl;
       })
 
       own_is : OpensOwn view shelf new (b, lib)
@@ -213,3 +218,16 @@ module _ {D : Type 0} (view : D → View) (tells : Bool) (scripts : List Named) 
 
       pub fresh_own : IsTrue tells → OpensOwn view shelf new (b, lib)
       fresh_own told = let t = short told_short in own_is told (t.added told).0 (t.added told).1 t.len
+
+      -- the first record is known, which has no note
+      pub fresh_known : IsTrue tells → (notes : FileNotes) → NotesBegun scripts shelf notes → KnowsRead view shelf new notes
+      fresh_known told notes noted_so =
+          let t = short told_short in
+          let these = bodies_are told (t.added told).0 (t.added told).1 t.len in
+          record {
+            records = record {
+              marks = noted_so.marks ∙ ap (λ (bs : List (List ℕ)). marks_of newest texts shelf 8 bs nothing) (sym these);
+              bytes = subst AreAllBytes (sym these) (t.bytes, tt);
+            };
+            file = noted_so.file ∙ sym (file_is told (t.added told).0 (t.added told).1 t.len);
+          }

@@ -9,7 +9,8 @@ use Rattle.replay_spec.specs.Step as step
 use Rattle.replay_spec.specs.Step.{Fate, lost, kept, live}
 use Rattle.replay_spec.specs.Invariant.{IsSound}
 use Rattle.replay_spec.proofs.Steps.{stepped}
-use Rattle.journal_spec.specs.Making.{Making, damaged, other, made_in, book_in_bytes}
+use Rattle.journal_spec.specs.Making.{Making, damaged, other, made_in}
+use Rattle.journal_spec.specs.Bytes.{book_in_bytes}
 use Rattle.journal_spec.specs.Standing.{IsBook, if_kept}
 use Rattle.journal_spec.proofs.Between.{make_books}
 use Rattle.journal_spec.proofs.Setups.{crashes}

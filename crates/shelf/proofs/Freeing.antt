@@ -1,12 +1,14 @@
 -- What a sweep leaves of a shelf, by its way out: nothing was recorded, its record was added, or it is in doubt whether it was.
-use Rattle.std.proofs.Common.{◌≡◌, ◌∙◌, ap, sym, subst, refl, ℕ, ◌+◌, ◌-◌, ◌≤◌, ◌<◌, ◌^◌, ◌++◌, ◌∷◌, [], nat_le, arith, Bool, IsTrue, false, List, length, Option, None, Some, option_map}
+use Rattle.std.proofs.Common.{◌≡◌, ◌∙◌, ap, sym, subst, refl, ℕ, ◌+◌, ◌-◌, ◌≤◌, ◌<◌, ◌^◌, ◌++◌, ◌∷◌, [], nat_le, arith, Bool, IsTrue, true, false, List, length, Option, None, Some, option_map}
 use Rattle.web_disk.specs.View.{View, LeavesOnly}
+use Rattle.page_journal.specs.Records.{newest}
 use Rattle.page_journal.specs.Holding.{MayHold}
+use Rattle.value_bytes.specs.Laws.{AreBytes}
 use Rattle.page_journal.specs.Settled as journal
 use Rattle.page_journal.specs.Settled.{IsSettled, view_of, bodies_in, length_of, is_broken}
 use Rattle.page_journal.specs.declared.journal.Journal.{Journal}
 use Rattle.replay_spec.specs.Book as spec
-use Rattle.replay_spec.specs.Book.{changed, Book}
+use Rattle.replay_spec.specs.Book.{changed, File, Book}
 use Rattle.replay_spec.specs.Change.{with_line}
 use Rattle.replay_spec.specs.Runs.{drawn_by, lands}
 use Rattle.replay_spec.specs.Step as step
@@ -26,8 +28,10 @@ use Rattle.instance_book.proofs.Seen.{length_seen}
 use Rattle.shelf.specs.declared.doubt.Doubt as doubt_type
 use Rattle.shelf.specs.declared.doubt.Work.TheVariants as doubted
 use Rattle.shelf.specs.declared.shelf.Shelf.{Shelf}
-use Rattle.shelf.specs.declared.file.FilePast.{FilePast}
-use Rattle.shelf.specs.Files.{file_of}
+use Rattle.file_notes.specs.declared.notes.FileNotes.{FileNotes}
+use Rattle.file_notes.specs.Files.{file_in, marks_in, IsNoted, StaysAsTold}
+use Rattle.shelf.specs.Files.{KnowsFile}
+use Rattle.shelf.proofs.Known.{known_added, marked_tick}
 use Rattle.shelf.specs.Views.{rules_of, doubt_of, library_in, book_in, fate_by, IsInOrder, IsOwnShelf, IsEvent}
 use Rattle.shelf.specs.Events.{HasMoments, HasOwnMoments}
 use Rattle.shelf.specs.Recording.{refusal_of_size, IsBody}
@@ -53,17 +57,18 @@ pub record Sweeps {D N : Type 0} (view : D → View) (tells : Bool) (coming : N 
   pub tickets : KeepsTickets view s u
 
 -- nothing was recorded
-pub unswept : {D N : Type 0} (view : D → View) (tells : Bool) (coming : N → ℕ → ℕ) (s : Shelf D N) → IsInOrder view tells s → (tick : ℕ) → tick < 2 ^ 62 → EventsAreKept → OnlyNow (view s.journal.disk) → (j : Journal D) → length_of j ≡ length_of s.journal
+pub unswept : {D N : Type 0} (view : D → View) (tells : Bool) (coming : N → ℕ → ℕ) (s : Shelf D N) → IsInOrder view tells s → (tick : ℕ) → tick < 2 ^ 62 → EventsAreKept → OnlyNow (view s.journal.disk) → (j : Journal D) → (notes : FileNotes) → IsNoted notes → StaysAsTold s.notes notes → length_of j ≡ length_of s.journal
     → (journal.IsSound s.journal → journal.IsSound j) → is_broken j ≡ is_broken s.journal → IsQuietCall view tells s.journal j → (x : step.Reply) → ((given : ℕ) → drawn_by x given ≡ given)
-    → (Comes (rules_of s.rules) (book_in view s) (step.sweep tick) (fate_by x) x (book_in view s) None) → Sweeps view tells coming s (record s { journal = j }) tick x
-unswept {D} {N} view tells coming s order tick low events only_now j len sound whole call x none comes =
+    → (Comes (rules_of s.rules) (book_in view s) (step.sweep tick) (fate_by x) x (book_in view s) None) → Sweeps view tells coming s (record s { journal = j; notes = notes }) tick x
+unswept {D} {N} view tells coming s order tick low events only_now j notes noted stays len sound whole call x none comes =
     let event = step.sweep tick in
-    let u : Shelf D N = record s { journal = j } in
-    let is : book_in view u ≡ book_in view s = ap (λ (n : ℕ). record (book_in view s) { length = n }) len in
+    let u : Shelf D N = record s { journal = j; notes = notes } in
+    let is : book_in view u ≡ book_in view s =
+    ap (λ (n : ℕ). record (book_in view s) { length = n; file = file_in notes }) len ∙ ap (λ (f : File). record (book_in view s) { file = f }) stays.file in
     record {
       event = quiet_event view coming s u event x (book_in view s) refl refl is none comes.step;
       in_order =
-          quiet_order view tells s u refl refl (book_in view s) is refl refl call order (λ all. all) (λ states all. all) (sound order.sound) event (fate_by x) x (comes.step 0) tt tt tt refl tt low events comes.landed order.scripts_are (λ up. whole ∙ order.whole up);
+          quiet_order view tells s u refl refl (book_in view s) is refl refl call order (λ all. all) (λ states all. all) (sound order.sound) event (fate_by x) x (comes.step 0) tt tt tt refl tt low events comes.landed order.scripts_are (λ up. whole ∙ order.whole up) noted stays;
       own = λ own. quiet_own view tells s u refl refl (book_in view s) is refl refl call (λ all. all) own;
       any_moment = λ told.
           quiet_run view tells s u refl refl (book_in view s) is refl refl call order (λ all. all) (λ states all. all) (sound order.sound) event (fate_by x) x (comes.step 0) tt tt tt refl tt low events comes.landed told only_now;
@@ -74,7 +79,7 @@ unswept {D} {N} view tells coming s order tick low events only_now j len sound w
 -- a later tick, whose record was written
 module _ {D N : Type 0} (view : D → View) (tells : Bool) (coming : N → ℕ → ℕ) (s : Shelf D N) (order : IsInOrder view tells s) (tick : ℕ) (low : tick < 2 ^ 62) (late : nat_le tick s.book.clock ≡ false) (up : s.down ≡ None) (events : EventsAreKept) (between : EventsStandBetween) (exact : AreRecordsExact) (body : List ℕ)
     (written : IsBody (length_of s.journal) (changes (spec.sweeps tick) None) (record_length (spec.sweeps tick) None) body) (mid j : Journal D) (call : IsQuietCall view tells s.journal mid)
-    (runs : IsTrue tells → LeavesOnly (view_of view mid) (view_of view j) (MayHold (bodies_in view mid) body)) (sound : journal.IsSound j) (serves : Serves view tells s.journal j) where
+    (runs : IsTrue tells → LeavesOnly (view_of view mid) (view_of view j) (MayHold newest (bodies_in view mid) body)) (sound : journal.IsSound j) (serves : Serves view tells s.journal j) where
   abbrev change : spec.Change
   change = spec.sweeps tick
 
@@ -93,8 +98,8 @@ module _ {D N : Type 0} (view : D → View) (tells : Bool) (coming : N → ℕ �
   tick_room : length_of s.journal + 5 + length tick_body ≤ 2 ^ 30
   tick_room = omega (arith, tick_long, written.short.whole)
 
-  tick_run : IsTrue tells → LeavesOnly (view_of view mid) (view_of view j) (MayHold (bodies_in view mid) tick_body)
-  tick_run = subst (λ (y : List ℕ). IsTrue tells → LeavesOnly (view_of view mid) (view_of view j) (MayHold (bodies_in view mid) y)) written.is runs
+  tick_run : IsTrue tells → LeavesOnly (view_of view mid) (view_of view j) (MayHold newest (bodies_in view mid) tick_body)
+  tick_run = subst (λ (y : List ℕ). IsTrue tells → LeavesOnly (view_of view mid) (view_of view j) (MayHold newest (bodies_in view mid) y)) written.is runs
 
   spelled_tick : CanBeWritten (book_in view s) change
   spelled_tick = record { body = written.spelled; state = tt }
@@ -103,13 +108,13 @@ module _ {D N : Type 0} (view : D → View) (tells : Bool) (coming : N → ℕ �
   short_tick = not_refused (length_of s.journal) (record_length change None) written.short
 
   -- its record was added
-  module _ (past : FilePast D) (filed : file_of view past ≡ with_line (changed change (length body)) (file_of view s.file)) (new : kept.Book) (frees : Makes (swept tick) s.book new) (count : ℕ) (counts : count ≡ count_of s.book - count_of new) (keeps : KeepsStates s.book new)
+  module _ (notes : FileNotes) (filed : file_in notes ≡ with_line (changed change (length body)) (file_in s.notes)) (noted : IsNoted notes) (marks : marks_in notes ≡ marks_in s.notes ++ true ∷ []) (bytes : AreBytes body) (new : kept.Book) (frees : Makes (swept tick) s.book new) (count : ℕ) (counts : count ≡ count_of s.book - count_of new) (keeps : KeepsStates s.book new)
       (long : length_of j ≡ length_of s.journal + 5 + length body) (unbroken : is_broken j ≡ false) (adds : IsTrue tells → IsSettled view j × (bodies_in view j ≡ bodies_in view mid ++ body ∷ [])) where
     abbrev swept_shelf : Shelf D N
-    swept_shelf = record s { journal = j; book = new; file = past }
+    swept_shelf = record s { journal = j; book = new; notes = notes }
 
     abbrev beside_swept : Beside
-    beside_swept = record { length = length_of j; file = file_of view past; down = option_map doubt_of s.down }
+    beside_swept = record { length = length_of j; file = file_in notes; down = option_map doubt_of s.down }
 
     tick_added : IsTrue tells → IsSettled view j × (bodies_in view j ≡ bodies_in view mid ++ tick_body ∷ [])
     tick_added = subst (λ (y : List ℕ). IsTrue tells → IsSettled view j × (bodies_in view j ≡ bodies_in view mid ++ y ∷ [])) written.is adds
@@ -120,23 +125,29 @@ module _ {D N : Type 0} (view : D → View) (tells : Bool) (coming : N → ℕ �
         let left = length_seen (instance_of (library_in s).all) new.instances.things.items in
         let freed : count ≡ length (book_in view s).instances - length (book_in view swept_shelf).instances = omega (arith, before, left, counts) in
         let longer : length_of j ≡ length_of s.journal + (record_length change None + 5) = omega (arith, long, tick_long, ap (λ (y : List ℕ). length y) written.is) in
-        let lined : file_of view past ≡ with_line (changed change (record_length change None)) (file_of view s.file) =
-        filed ∙ ap (λ (n : ℕ). with_line (changed change n) (file_of view s.file)) (ap (λ (y : List ℕ). length y) written.is ∙ tick_long) in
-        swept_comes s.rules (book_in view s) tick late none_doubted body (length_of j) count (file_of view past) (book_in view swept_shelf) written longer lined (frees (library_in s) beside_swept) freed
+        let lined : file_in notes ≡ with_line (changed change (record_length change None)) (file_in s.notes) =
+        filed ∙ ap (λ (n : ℕ). with_line (changed change n) (file_in s.notes)) (ap (λ (y : List ℕ). length y) written.is ∙ tick_long) in
+        swept_comes s.rules (book_in view s) tick late none_doubted body (length_of j) count (file_in notes) (book_in view swept_shelf) written longer lined (frees (library_in s) beside_swept) freed
 
     whole_swept : HasWholeScripts (book_in view swept_shelf)
     whole_swept =
         let made = frees (library_in s) beside_swept in
         swept_whole tick (book_in view s) (book_in view swept_shelf) order.orderly order.scripts_are (ap (λ (y : Book). y.scripts) made) (ap (λ (y : Book). y.instances) made)
 
+    knows : KnowsFile view tells s.rules.number j (s.down ≡ None) notes
+    knows =
+        known_added view tells s.rules.number s.journal mid j (s.down ≡ None) (s.down ≡ None) s.notes notes tick_body order.knows up call serves.now noted marks (subst AreBytes written.is bytes) tick_added
+        (λ told. marked_tick exact s.rules.number (bodies_in view s.journal) (book_in view s) tick late ((order.fit told).holds none_doubted) written.spelled)
+
     pub landed_sweeps : Sweeps view tells coming s swept_shelf tick (step.swept count)
     landed_sweeps = record {
       event = quiet_event view coming s swept_shelf sweep (step.swept count) (book_in view swept_shelf) refl refl refl (λ given. refl) swept_so.step;
       in_order = added_order view tells s swept_shelf order refl refl sweep step.plain (step.swept count) (book_in view swept_shelf) refl (swept_so.step 0) tt tt tt refl tt events up change spelled_tick tick_room (λ told. refl) mid call tick_run
           serves.counts_now (some_kept (library_in s).all s.book new keeps) whole_swept sound low swept_so.landed none_doubted unbroken tick_added
-          (λ told m is. swept_told exact (library_in s).all s.rules.number (bodies_in view s.journal) (book_in view s) tick late ((order.fit told).holds none_doubted) written.spelled m is s.book new (kept_told (library_in s).all s.book new keeps) (order.told told up));
+          (λ told m is. swept_told exact (library_in s).all s.rules.number (bodies_in view s.journal) (book_in view s) tick late ((order.fit told).holds none_doubted) written.spelled m is s.book new (kept_told (library_in s).all s.book new keeps) (order.told told up))
+          knows;
       own = λ own. added_own view tells s swept_shelf order refl refl sweep step.plain (step.swept count) (book_in view swept_shelf) refl (swept_so.step 0) tt tt tt refl tt events up change spelled_tick tick_room (λ told. refl) mid call tick_run
-          serves.counts_now (keeps (sources.own tt) (library_in s).all) serves.reads own swept_so.landed none_doubted tick_added;
+          serves.counts_now (keeps (sources.own tt) (library_in s).all) serves.reads own serves.now swept_so.landed none_doubted tick_added;
       any_moment = λ told. recorded_run view tells s swept_shelf order refl refl sweep step.plain (step.swept count) (book_in view swept_shelf) refl (swept_so.step 0) tt tt tt refl tt events up change spelled_tick tick_room (λ told. refl) mid call tick_run
           serves.counts_now between told serves.only_now (stake_landed (rules_of s.rules) (book_in view s) sweep step.plain change swept_so.landed);
       own_moments = λ told own. recorded_own_moments view tells s swept_shelf order refl refl sweep step.plain (step.swept count) (book_in view swept_shelf) refl (swept_so.step 0) tt tt tt refl tt events up change spelled_tick tick_room (λ told. refl)
@@ -145,15 +156,15 @@ module _ {D N : Type 0} (view : D → View) (tells : Bool) (coming : N → ℕ �
     }
 
   -- it is in doubt
-  module _ (count : ℕ) (same_length : length_of j ≡ length_of s.journal) where
+  module _ (count : ℕ) (same_length : length_of j ≡ length_of s.journal) (notes : FileNotes) (noted : IsNoted notes) (stays : StaysAsTold s.notes notes) where
     abbrev in_doubt_shelf : Shelf D N
-    in_doubt_shelf = record s { journal = j; down = Some (record { count = count; work = doubted.Sweeps tick }) }
+    in_doubt_shelf = record s { journal = j; notes = notes; down = Some (record { count = count; work = doubted.Sweeps tick }) }
 
     abbrev unsure : Book
     unsure = doubting s.rules (book_in view s) count change [] (book_in view s)
 
     unsure_is : book_in view in_doubt_shelf ≡ unsure
-    unsure_is = ap (λ (n : ℕ). record unsure { length = n }) same_length
+    unsure_is = ap (λ (n : ℕ). record unsure { length = n; file = file_in notes }) same_length ∙ ap (λ (f : File). record unsure { file = f }) stays.file
 
     may_sweep : Comes (rules_of s.rules) (book_in view s) sweep (step.disk_fault count) (step.disk_failed count) unsure None
     may_sweep = doubted_sweep s.rules (book_in view s) tick late none_doubted short_tick count
@@ -168,7 +179,7 @@ module _ {D N : Type 0} (view : D → View) (tells : Bool) (coming : N → ℕ �
     doubted_sweeps = record {
       event = quiet_event view coming s in_doubt_shelf sweep (step.disk_failed count) unsure refl refl unsure_is (λ given. refl) may_sweep.step;
       in_order = doubted_order view tells s in_doubt_shelf order refl refl sweep (step.disk_fault count) (step.disk_failed count) unsure unsure_is (may_sweep.step 0) tt tt tt refl tt events up change spelled_tick tick_room
-          (λ told. refl) mid call tick_run serves.counts_now (λ all. all) (record { setup = order.scripts_are.setup; instances = order.scripts_are.instances }) sound low between serves.only_now tick_stake (λ e. cc e) (λ e. cc e) refl;
+          (λ told. refl) mid call tick_run serves.counts_now (λ all. all) (record { setup = order.scripts_are.setup; instances = order.scripts_are.instances }) sound low between serves.only_now tick_stake (λ e. cc e) (λ e. cc e) refl serves.now noted;
       own = λ own. doubted_own view tells s in_doubt_shelf order refl refl sweep (step.disk_fault count) (step.disk_failed count) unsure unsure_is (may_sweep.step 0) tt tt tt refl tt events up change spelled_tick tick_room
           (λ told. refl) mid call tick_run serves.counts_now (λ all. all) serves.reads own between serves.only_now tick_stake refl step.plain would_land;
       any_moment = λ told. recorded_run view tells s in_doubt_shelf order refl refl sweep (step.disk_fault count) (step.disk_failed count) unsure unsure_is (may_sweep.step 0) tt tt tt refl tt events up change spelled_tick tick_room

@@ -1,14 +1,13 @@
 -- A shelf in order stays so where a change lands that would be taken in again, whatever its page's state is.
-use Rattle.std.proofs.Common.{◌≡◌, ◌∙◌, ap, sym, subst, refl, ℕ, ◌+◌, ◌≤◌, ◌^◌, ◌++◌, ◌∷◌, [], Bool, IsTrue, false, List, length, Option, Some, None, option_map, Contains, inl, arith}
+use Rattle.std.proofs.Common.{◌≡◌, ◌∙◌, ap, sym, subst, refl, ℕ, ◌+◌, ◌≤◌, ◌^◌, ◌++◌, ◌∷◌, [], Bool, IsTrue, true, false, List, length, Option, Some, None, option_map, Contains, inl, arith}
 use Rattle.script_value.specs.declared.outcome.TxName.{TxName}
 use Rattle.setup_reader.specs.Texts.{setup_of_texts as texts}
 use Rattle.web_disk.specs.View.{View, LeavesOnly}
-use Rattle.page_journal.specs.Records.{stored}
+use Rattle.page_journal.specs.Records.{newest, stored}
 use Rattle.page_journal.specs.Holding.{MayHold}
 use Rattle.page_journal.specs.Settled as journal
 use Rattle.page_journal.specs.Settled.{IsSettled, view_of, bodies_in, length_of, is_broken}
 use Rattle.page_journal.specs.declared.journal.Journal.{Journal}
-use Rattle.page_journal.proofs.Holds.{settled_images}
 use Rattle.replay_spec.specs.Book.{Change, opens, extends, ends, finishes, sweeps, landing, Doubt, Book, spend, reopened}
 use Rattle.replay_spec.specs.Change.{clock_by, land}
 use Rattle.replay_spec.specs.Step.{kept, recovered}
@@ -24,13 +23,13 @@ use Rattle.journal_spec.specs.Making.{made_in}
 use Rattle.journal_spec.specs.Retaking.{Told, told_in, with_state}
 use Rattle.journal_spec.specs.Whole.{HasWholeScripts}
 use Rattle.journal_spec.specs.Keeping.{IsTakenAs, IsTaken, IsOut, without_number, landed_in, Keeps, body_by}
-use Rattle.journal_spec.specs.Standing.{Between, HasRoom, if_kept, Throughout}
+use Rattle.journal_spec.specs.Standing.{adds, Between, Carries, HasRoom, if_kept, Throughout}
 use Rattle.journal_spec.specs.Disks.{IsFit}
 use Rattle.journal_spec.specs.Spelling.{IsTickInRange, IsInRange}
 use Rattle.journal_spec.specs.Laws.{LandingsAreKept, LandingsStandBetween}
 use Rattle.journal_spec.proofs.Fitting.{whole_by}
 use Rattle.journal_spec.proofs.Taking.{IsNew}
-use Rattle.journal_spec.proofs.Standings.{settled_stands, appended, left_standing}
+use Rattle.journal_spec.proofs.Standings.{settled_stands, written, left_standing}
 use Rattle.instance_book.specs.Makes.{HasSomeStates}
 use Rattle.shelf.specs.declared.doubt.Doubt as doubt_type
 use Rattle.shelf.specs.declared.shelf.Shelf.{Shelf}
@@ -38,6 +37,10 @@ use Rattle.shelf.specs.Views.{doubt_of, library_in, book_in, IsInOrder}
 use Rattle.book_recovery.specs.Found.{HasToldStates}
 use Rattle.shelf.specs.Events.{HasMoments}
 use Rattle.shelf.proofs.Standing.{OnlyNow, CountsNow, IsQuietCall, throughout_alike}
+use Rattle.value_bytes.specs.Laws.{AreBytes}
+use Rattle.file_notes.specs.Files.{marks_in, IsNoted}
+use Rattle.shelf.proofs.Newest.{newest_images, makes_so}
+use Rattle.shelf.proofs.Known.{known_added, known_doubted, may_newest, marked}
 use Rattle.shelf.proofs.Order.{order_of}
 use Rattle.shelf.proofs.Taken.{number_of, taken_fits}
 use Rattle.shelf.proofs.Tales.{told_landed}
@@ -124,7 +127,7 @@ module _ {D N : Type 0} (view : D → View) (tells : Bool) (s : Shelf D N) (orde
     abbrev bodies : List (List ℕ)
     bodies = bodies_in view s.journal
 
-    has_room : HasRoom bodies (Some body)
+    has_room : HasRoom bodies (adds body)
     has_room = let settled = fit.settled none_down in omega (arith, settled.end, room)
 
     abbrev there : Keeps texts shelf bodies b
@@ -142,22 +145,22 @@ module _ {D N : Type 0} (view : D → View) (tells : Bool) (s : Shelf D N) (orde
     keeps : LandingsAreKept → Keeps texts shelf (bodies ++ body ∷ []) landed_book
     keeps law = subst (Keeps texts shelf (bodies ++ body ∷ [])) landed_is (law texts shelf bodies b c state inside there none_down fits taken_there its_out)
 
-    between : LandingsStandBetween → (l : Between texts shelf b landed_book) × (l.bodies ≡ bodies) × (l.more ≡ Some body)
+    between : LandingsStandBetween → (l : Between texts shelf b landed_book) × Carries newest bodies (adds body) l
     between law =
-        subst (λ (d : Book). (l : Between texts shelf b d) × (l.bodies ≡ bodies) × (l.more ≡ Some body)) landed_is
+        subst (λ (d : Book). (l : Between texts shelf b d) × Carries newest bodies (adds body) l) landed_is
         (law texts shelf bodies b c state inside there none_down fits taken_there its_out has_room)
 
     -- at each moment of a call that adds the body
-    module _ (mid new : Journal D) (call : IsQuietCall view tells s.journal mid) (run : LeavesOnly (view_of view mid) (view_of view new) (MayHold (bodies_in view mid) body)) where
+    module _ (mid new : Journal D) (call : IsQuietCall view tells s.journal mid) (run : LeavesOnly (view_of view mid) (view_of view new) (MayHold newest (bodies_in view mid) body)) where
       throughout : LandingsStandBetween → OnlyNow (view_of view s.journal) → Throughout texts shelf b landed_book (view_of view s.journal) (view_of view new)
       throughout law only_now =
           let l = between law in
-          let here : LeavesOnly (view_of view mid) (view_of view new) (MayHold bodies body) =
-          subst (λ (bs : List (List ℕ)). LeavesOnly (view_of view mid) (view_of view new) (MayHold bs body)) (ap stored call.seen) run in
-          appended bodies texts shelf b landed_book (view_of view s.journal) (view_of view mid) (view_of view new) body only_now (settled_images view s.journal (fit.settled none_down)) l.0 l.1 l.2 call.images call.time here
+          let here : LeavesOnly (view_of view mid) (view_of view new) (MayHold newest bodies body) =
+          subst (λ (bs : List (List ℕ)). LeavesOnly (view_of view mid) (view_of view new) (MayHold newest bs body)) (ap stored call.seen) run in
+          written newest bodies texts shelf b landed_book (view_of view s.journal) (view_of view mid) (view_of view new) (adds body) only_now (newest_images view s.journal (fit.settled none_down) order.knows.newest_is) l.0 l.1 call.images call.time here
 
   module _ (t : Shelf D N) (told_same : t.library ≡ s.library) (limits : t.rules ≡ s.rules) (mid : Journal D) (call : IsQuietCall view tells s.journal mid)
-      (run : IsTrue tells → LeavesOnly (view_of view mid) (view_of view t.journal) (MayHold (bodies_in view mid) body)) (some : HasSomeStates (library_in t).all t.book) (sound : journal.IsSound t.journal) where
+      (run : IsTrue tells → LeavesOnly (view_of view mid) (view_of view t.journal) (MayHold newest (bodies_in view mid) body)) (some : HasSomeStates (library_in t).all t.book) (sound : journal.IsSound t.journal) where
     -- its record was added
     module _ (is : book_in view t ≡ landed_book) where
       -- the records tell one state more
@@ -170,8 +173,9 @@ module _ {D N : Type 0} (view : D → View) (tells : Bool) (s : Shelf D N) (orde
           subst (λ (ys : States). HasToldStates (library_in t).all ys t.book) (sym then_them) stay
 
       pub landed_order : AreRecordsExact → LandingsAreKept → is_broken t.journal ≡ false → (IsTrue tells → IsSettled view t.journal × (bodies_in view t.journal ≡ bodies_in view mid ++ body ∷ []))
-          → ((told : IsTrue tells) → HasToldStates (library_in t).all (with_state (Some k) x (there told).earlier.states) t.book) → IsInOrder view tells t
-      landed_order exact law whole added stay =
+          → ((told : IsTrue tells) → HasToldStates (library_in t).all (with_state (Some k) x (there told).earlier.states) t.book)
+          → t.journal.format ≡ newest → IsNoted t.notes → marks_in t.notes ≡ marks_in s.notes ++ true ∷ [] → AreBytes body → IsInOrder view tells t
+      landed_order exact law whole added stay now noted marks bytes =
           order_of view tells s t landed_book order some landed_later.orderly
           whole_landed range_landed refl is told_same limits (record {
             sound = sound;
@@ -180,10 +184,12 @@ module _ {D N : Type 0} (view : D → View) (tells : Bool) (s : Shelf D N) (orde
                 let settled = (added told).0 in
                 let these : bodies told ++ body ∷ [] ≡ bodies_in view t.journal = ap (λ (bs : List (List ℕ)). bs ++ body ∷ []) (sym (ap stored call.seen)) ∙ sym (added told).1 in
                 let all = subst (λ (bs : List (List ℕ)). Keeps texts shelf bs landed_book) these (keeps told law) in
-                record { settled = λ _. settled; holds = λ _. all; stands = settled_stands view texts shelf t.journal landed_book settled (all.earlier, all.makes) none_down };
+                record { settled = λ _. settled; holds = λ _. all; stands = settled_stands view texts shelf t.journal landed_book settled (makes_so view shelf t.journal landed_book now (all.earlier, all.makes)) none_down };
             told = λ told _ m made_there.
                 let these : bodies told ++ body ∷ [] ≡ bodies_in view t.journal = ap (λ (bs : List (List ℕ)). bs ++ body ∷ []) (sym (ap stored call.seen)) ∙ sym (added told).1 in
                 tells_then exact told m (ap (λ (bs : List (List ℕ)). made_in (make.book_of texts shelf bs)) these ∙ made_there) (stay told);
+            knows = known_added view tells shelf s.journal mid t.journal (s.down ≡ None) (t.down ≡ None) s.notes t.notes body order.knows up call now noted marks bytes added
+                (λ told. marked exact shelf (bodies told) b c state inside (there told) fits (taken_there told) (new_there told));
           })
 
       pub landed_run : LandingsStandBetween → IsTrue tells → OnlyNow (view s.journal.disk) → HasMoments view s t
@@ -205,8 +211,8 @@ module _ {D N : Type 0} (view : D → View) (tells : Bool) (s : Shelf D N) (orde
       kept_same : reopened landed_book ≡ reopened (if_kept (length body) d)
       kept_same = refl
 
-      pub doubted_order : LandingsStandBetween → OnlyNow (view s.journal.disk) → CountsNow (view t.journal.disk) → IsInOrder view tells t
-      doubted_order law only_now counts =
+      pub doubted_order : LandingsStandBetween → OnlyNow (view s.journal.disk) → CountsNow (view t.journal.disk) → t.journal.format ≡ newest → IsNoted t.notes → IsInOrder view tells t
+      doubted_order law only_now counts now noted =
           order_of view tells s t d order some (doubted_later count).orderly
           (record { setup = order.scripts_are.setup; instances = order.scripts_are.instances }) (range_doubted count) refl is told_same limits (record {
             sound = sound;
@@ -217,6 +223,7 @@ module _ {D N : Type 0} (view : D → View) (tells : Bool) (s : Shelf D N) (orde
               stands = (left_standing texts shelf (length body) b landed_book d (view s.journal.disk) (view t.journal.disk) counts (throughout told mid t.journal call (run told) law only_now) refl kept_same).0;
             };
             told = λ told none. absurd (in_doubt none);
+            knows = known_doubted view tells shelf t.journal (t.down ≡ None) t.notes now noted (λ told. may_newest (view_of view mid) (view_of view t.journal) (bodies_in view mid) body counts (run told)) in_doubt;
           })
 
       pub doubted_run : LandingsStandBetween → IsTrue tells → OnlyNow (view s.journal.disk) → HasMoments view s t

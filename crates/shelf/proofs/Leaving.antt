@@ -1,17 +1,19 @@
 -- What a publish leaves of a shelf, by its way out: nothing was recorded, its record was added, or it is in doubt whether it was.
-use Rattle.std.proofs.Common.{◌≡◌, ◌∙◌, ap, sym, subst, refl, ℕ, ◌+◌, ◌≤◌, ◌^◌, ◌++◌, ◌∷◌, [], Bool, IsTrue, false, List, length, Option, None, Some, option_map, Contains}
+use Rattle.std.proofs.Common.{◌≡◌, ◌∙◌, ap, sym, subst, refl, ℕ, ◌+◌, ◌≤◌, ◌^◌, ◌++◌, ◌∷◌, [], Bool, IsTrue, true, false, List, length, Option, None, Some, option_map, Contains}
 use Rattle.std.specs.Prelude.{⊤}
 use Rattle.script_value.specs.declared.outcome.Reply.{Reply}
 use Rattle.script_value.specs.declared.outcome.Reply.TheVariants as reply
 use Rattle.script_nodes.specs.Setup.{Named, Library}
 use Rattle.page_names.specs.Views.{target_of}
 use Rattle.web_disk.specs.View.{View, LeavesOnly}
+use Rattle.page_journal.specs.Records.{newest}
 use Rattle.page_journal.specs.Holding.{MayHold}
+use Rattle.value_bytes.specs.Laws.{AreBytes}
 use Rattle.page_journal.specs.Settled as journal
 use Rattle.page_journal.specs.Settled.{IsSettled, view_of, bodies_in, length_of, is_broken}
 use Rattle.page_journal.specs.declared.journal.Journal.{Journal}
 use Rattle.replay_spec.specs.Book as spec
-use Rattle.replay_spec.specs.Book.{changed, Book, spend}
+use Rattle.replay_spec.specs.Book.{changed, File, Book, spend}
 use Rattle.replay_spec.specs.Change.{with_line}
 use Rattle.replay_spec.specs.Step as step
 use Rattle.replay_spec.specs.Invariant.{IsOf, IsOrderly}
@@ -40,8 +42,8 @@ use Rattle.book_visits.specs.Fits.{FitsAs}
 use Rattle.book_visits.specs.Prepares.{HasItsScript}
 use Rattle.shelf.specs.declared.doubt.Doubt as doubt_type
 use Rattle.shelf.specs.declared.shelf.Shelf.{Shelf}
-use Rattle.shelf.specs.declared.file.FilePast.{FilePast}
-use Rattle.shelf.specs.Files.{file_of}
+use Rattle.file_notes.specs.declared.notes.FileNotes.{FileNotes}
+use Rattle.file_notes.specs.Files.{file_in, marks_in, IsNoted, StaysAsTold}
 use Rattle.shelf.specs.Views.{rules_of, doubt_of, doubt_by, library_in, beside_of, book_in, fate_by, IsInOrder, IsOwnShelf, IsOwnVisit}
 use Rattle.shelf.specs.Events.{IsPublish, SpendsNumber, SpendsOnly, HasMoments, HasOwnMoments, CarriesOut, ShowsItsState}
 use Rattle.shelf.specs.Holding.{IsWholeIn}
@@ -80,6 +82,7 @@ pub record Serves {D : Type 0} (view : D → View) (tells : Bool) (old new : Jou
   pub only_now : OnlyNow (view old.disk)
   pub counts_now : CountsNow (view new.disk)
   pub reads : IsTrue tells → (view old.disk).images (view old.disk).seen
+  pub now : new.format ≡ newest
 
 -- and of the laws
 pub record Laws : Type 0 where
@@ -96,12 +99,12 @@ KeepsStatesIn all old new = (source : Source ⊤) → HasStatesFrom source all o
 -- nothing was recorded
 pub spent_publishes : {D N : Type 0} (view : D → View) (tells : Bool) (coming : N → ℕ → ℕ) (s u : Shelf D N) (t : Ticket) (x : Reply) → IsInOrder view tells s → EventsAreKept
     → OnlyNow (view s.journal.disk) → Contains (book_in view s).out t.number → book_in view u ≡ spend t.number (book_in view s) → u.library ≡ s.library → u.rules ≡ s.rules → u.nonces ≡ s.nonces
-    → IsQuietCall view tells s.journal u.journal → journal.IsSound u.journal → (u.down ≡ None → is_broken u.journal ≡ false)
+    → IsQuietCall view tells s.journal u.journal → IsNoted u.notes → StaysAsTold s.notes u.notes → journal.IsSound u.journal → (u.down ≡ None → is_broken u.journal ≡ false)
     → ((source : Source ⊤) → HasStatesFrom source (library_in s).all s.book → HasStatesFrom source (library_in u).all u.book)
     → (IsOwnVisit view tells s t
     → Comes (rules_of s.rules) (book_in view s) (step.publish (ticket_of t)) (fate_by (reply_of x)) (reply_of x) (spend t.number (book_in view s)) None)
     → Publishes view tells coming s u t x
-spent_publishes view tells coming s u t x order events only_now out is told_same limits source_stays call sound whole states comes =
+spent_publishes view tells coming s u t x order events only_now out is told_same limits source_stays call noted stays sound whole states comes =
     let b = book_in view s in
     let event = step.publish (ticket_of t) in
     let d = spend t.number b in
@@ -111,7 +114,7 @@ spent_publishes view tells coming s u t x order events only_now out is told_same
     let some : HasSomeStates (library_in s).all s.book → HasSomeStates (library_in u).all u.book = λ all. (all.0, states (sources.given all.0) all.1) in
     record {
       event = λ own. quiet_event view coming s u event (reply_of x) d limits source_stays is (λ given. quiet x given) (comes own).step;
-      in_order = quiet_order view tells s u told_same limits d is refl refl call order some stay sound event step.no_memory step.memory (wants.step 0) tt tt tt refl out tt events wants.landed scripts whole;
+      in_order = quiet_order view tells s u told_same limits d is refl refl call order some stay sound event step.no_memory step.memory (wants.step 0) tt tt tt refl out tt events wants.landed scripts whole noted stays;
       own = λ own. quiet_own view tells s u told_same limits d is refl refl call (states (sources.own tt)) own.own;
       spent = ap (λ (y : Book). y.out) is;
       any_moment = λ told. quiet_run view tells s u told_same limits d is refl refl call order some stay sound event step.no_memory step.memory (wants.step 0) tt tt tt refl out tt events wants.landed told only_now;
@@ -153,7 +156,7 @@ module _ {D N : Type 0} (view : D → View) (tells : Bool) (coming : N → ℕ �
     (spending : Makes (spend t.number) s.book spent) (same : spent.instances ≡ s.book.instances) (keeps : KeepsStates s.book spent) (whole : IsWholeIn (library_in s).all spent c)
     (spelled : IsSpelledIn c) (goes : GoesOnAsGiven (library_in s) spent t c) (binds : BindsIn t c) (body : List ℕ)
     (written : IsBody (length_of s.journal) (changes (change_of c) (told_in t c)) (record_length (change_of c) (told_in t c)) body) (mid j : Journal D) (call : IsQuietCall view tells s.journal mid)
-    (runs : IsTrue tells → LeavesOnly (view_of view mid) (view_of view j) (MayHold (bodies_in view mid) body)) (sound : journal.IsSound j) (serves : Serves view tells s.journal j) where
+    (runs : IsTrue tells → LeavesOnly (view_of view mid) (view_of view j) (MayHold newest (bodies_in view mid) body)) (sound : journal.IsSound j) (serves : Serves view tells s.journal j) where
   abbrev l : Library
   l = library_in s
 
@@ -173,7 +176,7 @@ module _ {D N : Type 0} (view : D → View) (tells : Bool) (coming : N → ℕ �
   Mine = IsOwnVisit view tells s t
 
   abbrev Run : List ℕ → Type 0
-  Run y = IsTrue tells → LeavesOnly (view_of view mid) (view_of view j) (MayHold (bodies_in view mid) y)
+  Run y = IsTrue tells → LeavesOnly (view_of view mid) (view_of view j) (MayHold newest (bodies_in view mid) y)
 
   run : Run told_body
   run = subst Run written.is runs
@@ -204,7 +207,7 @@ module _ {D N : Type 0} (view : D → View) (tells : Bool) (coming : N → ℕ �
   own_room own = subst (λ (y : List ℕ). length_of s.journal + 5 + length y ≤ 2 ^ 30) (sym (own_body_is own)) room
 
   before_own : Mine → (told : IsTrue tells) → IsOwnBefore ((order.fit told).holds (ap (λ (o : Option doubt_type.Doubt). option_map doubt_of o) up)).earlier b (Some told_change)
-  before_own own told = own_behind view s.rules.number b s.journal told_change (ap (λ (o : Option doubt_type.Doubt). option_map doubt_of o) up) (order.fit told) (serves.reads told) (own.own.own told).images
+  before_own own told = own_behind view s.rules.number b s.journal order.knows.newest_is told_change (ap (λ (o : Option doubt_type.Doubt). option_map doubt_of o) up) (order.fit told) (serves.reads told) (own.own.own told).images
 
   can_be_written : Mine → CanBeWritten b told_change
   can_be_written own = landing.own_written view tells s order t p up out has can rooms c some own.fits written.spelled spelled
@@ -214,10 +217,10 @@ module _ {D N : Type 0} (view : D → View) (tells : Bool) (coming : N → ℕ �
   lands own x replied = landing.landed_comes view tells s order t p up out has can rooms c some own.fits (carries own) body written x replied plain
 
   -- its record was added
-  module _ (past : FilePast D) (filed : file_of view past ≡ with_line (changed told_change (length body)) (file_of view s.file)) (new : kept.Book) (installing : MakesUnder (λ library. put_into library p) spent new) (states_by : KeepsStatesBy p.change spent new) (x : Reply) (replied : x ≡ p.reply)
+  module _ (notes : FileNotes) (filed : file_in notes ≡ with_line (changed told_change (length body)) (file_in s.notes)) (noted : IsNoted notes) (marks : marks_in notes ≡ marks_in s.notes ++ true ∷ []) (bytes : AreBytes body) (new : kept.Book) (installing : MakesUnder (λ library. put_into library p) spent new) (states_by : KeepsStatesBy p.change spent new) (x : Reply) (replied : x ≡ p.reply)
       (long : length_of j ≡ length_of s.journal + 5 + length body) (unbroken : is_broken j ≡ false) (adds : IsTrue tells → IsSettled view j × (bodies_in view j ≡ bodies_in view mid ++ body ∷ [])) where
     abbrev longer : Shelf D N
-    longer = record s { journal = j; book = new; file = past }
+    longer = record s { journal = j; book = new; notes = notes }
 
     abbrev after : Book
     after = landing.landed_book view tells s order t p up out has can rooms c some body written
@@ -232,7 +235,7 @@ module _ {D N : Type 0} (view : D → View) (tells : Bool) (coming : N → ℕ �
     own_added own = subst Added (sym (own_body_is own)) added
 
     landed_is : book_in view longer ≡ after
-    landed_is = landing.landed_is view tells s order t p up out has can rooms c some body written spent new (length_of j) (file_of view past) spending installing long filed
+    landed_is = landing.landed_is view tells s order t p up out has can rooms c some body written spent new (length_of j) (file_in notes) spending installing long filed
 
     gives : KeepsGiven view s longer
     gives f given_so = untold.had view tells s order t p up out has can rooms c some spent same keeps whole spelled goes f given_so new states_by
@@ -249,9 +252,9 @@ module _ {D N : Type 0} (view : D → View) (tells : Bool) (coming : N → ℕ �
     landed_publishes = record {
       event = λ own. quiet_event view coming s longer event (reply_of x) after refl refl landed_is (λ given. quiet x given) (lands own x replied).step;
       in_order = landed_order view tells s order up t.number out told_change its_number (told_in t c) (inside_of c) written.spelled (told_own (state_in c)) taken read_there room longer refl refl mid call run had sound landed_is laws.exact laws.landings unbroken added
-          (λ told. behind.installed view tells s order t p up out has can rooms c some spent same keeps whole spelled goes told new states_by);
+          (λ told. behind.installed view tells s order t p up out has can rooms c some spent same keeps whole spelled goes told new states_by) serves.now noted marks (subst AreBytes written.is bytes);
       own = λ own. added_own view tells s longer order refl refl event (fate_by (reply_of x)) (reply_of x) after landed_is ((lands own x replied).step 0) tt tt tt refl out laws.events up told_change (can_be_written own) (own_room own) (before_own own) mid call (own_run own)
-          serves.counts_now (own_states own) serves.reads own.own (lands own x replied).landed none_down (own_added own);
+          serves.counts_now (own_states own) serves.reads own.own serves.now (lands own x replied).landed none_down (own_added own);
       spent = ap (λ (y : Book). y.out) landed_is;
       any_moment = λ told. landed_run view tells s order up t.number out told_change its_number (told_in t c) (inside_of c) written.spelled (told_own (state_in c)) taken read_there room longer refl refl mid call run had sound landed_is laws.landings_between told
           serves.only_now;
@@ -264,15 +267,17 @@ module _ {D N : Type 0} (view : D → View) (tells : Bool) (coming : N → ℕ �
     }
 
   -- it is in doubt
-  module _ (count : ℕ) (doubt : Option doubt_type.Doubt) (doubted : option_map doubt_of doubt ≡ doubt_by count p.change) (same_length : length_of j ≡ length_of s.journal) where
+  module _ (count : ℕ) (doubt : Option doubt_type.Doubt) (doubted : option_map doubt_of doubt ≡ doubt_by count p.change) (same_length : length_of j ≡ length_of s.journal) (notes : FileNotes) (noted : IsNoted notes) (stays : StaysAsTold s.notes notes) where
     abbrev doubtful : Shelf D N
-    doubtful = record s { journal = j; book = spent; down = doubt }
+    doubtful = record s { journal = j; book = spent; down = doubt; notes = notes }
 
     abbrev in_doubt : Book
     in_doubt = doubted_in count told_change (inside_of c) (spend t.number b)
 
     doubted_is : book_in view doubtful ≡ in_doubt
-    doubted_is = landing.doubted_is view tells s order t p up out has can rooms c some body written count spent (length_of j) (option_map doubt_of doubt) spending same_length doubted
+    doubted_is =
+        ap (λ (f : File). record (book_in view doubtful) { file = f }) stays.file
+        ∙ landing.doubted_is view tells s order t p up out has can rooms c some body written count spent (length_of j) (option_map doubt_of doubt) spending same_length doubted
 
     doubts : Mine → Comes (rules_of s.rules) b event (step.disk_fault count) (step.disk_failed count) in_doubt None
     doubts own = landing.doubted_comes view tells s order t p up out has can rooms c some own.fits (carries own) body written count
@@ -284,7 +289,7 @@ module _ {D N : Type 0} (view : D → View) (tells : Bool) (coming : N → ℕ �
     doubted_publishes = record {
       event = λ own. quiet_event view coming s doubtful event (step.disk_failed count) in_doubt refl refl doubted_is (λ given. refl) (doubts own).step;
       in_order = doubted_order view tells s order up t.number out told_change its_number (told_in t c) (inside_of c) written.spelled (told_own (state_in c)) taken read_there room doubtful refl refl mid call run (some_kept l.all s.book spent keeps order.kept) sound count doubted_is
-          (λ e. down_there doubt _ e (ap (λ (y : Book). y.down) doubted_is)) laws.landings_between serves.only_now serves.counts_now;
+          (λ e. down_there doubt _ e (ap (λ (y : Book). y.down) doubted_is)) laws.landings_between serves.only_now serves.counts_now serves.now noted;
       own = λ own. shelves.doubted_own view tells s doubtful order refl refl event (step.disk_fault count) (step.disk_failed count) in_doubt doubted_is ((doubts own).step 0) tt tt tt refl out laws.events up told_change (can_be_written own) (own_room own) (before_own own) mid call
           (own_run own) serves.counts_now (keeps (sources.own tt) l.all) serves.reads own.own laws.between serves.only_now (stake own) refl (fate_by (reply_of p.reply)) (lands own p.reply refl).landed;
       spent = ap (λ (y : Book). y.out) doubted_is;

@@ -37,3 +37,15 @@ pub mod Leaving
 pub mod Freeing
 pub mod Going
 pub mod Replayed
+pub mod Newest
+pub mod Known
+pub mod Alike
+pub mod Copies
+pub mod Compacting
+pub mod Compacted
+pub mod Planned
+pub mod Replaced
+pub mod Rewritten
+pub mod Migrated
+pub mod Moving
+pub mod Throughout

@@ -24,7 +24,8 @@ use Rattle.instance_book.specs.Swept.{cells_in}
 use Rattle.book_visits.specs.Fits.{IsFor, FitsAs}
 use Rattle.book_visits.specs.Laws.{KeepsStateAs}
 use Rattle.shelf.specs.Runs.{IsRunOver}
-use Rattle.shelf.proofs.Replayed.{IsLike, run_like}
+use Rattle.visit_runs.specs.Likes.{IsLike}
+use Rattle.shelf.proofs.Replayed.{run_like}
 use Rattle.shelf.specs.Views.{IsSegmentOf}
 
 -- what holds of a value, if there is one, holds of this one
@@ -79,12 +80,12 @@ module _ (all : List Named) (b : Book) (t : Ticket) (name : List ℕ) (a : Arena
     held_segment law (refused why) e fits holds = tt
 
 -- where the instance is gone, nothing is admitted
-pub gone_segment : (b : Book) (t : Ticket) (name : List ℕ) (n : PageName) (fuel : ℕ) (s : eval.Segment) (a : Admission) → cells_in n.instance b ≡ None → admit b (page name n) ≡ a → IsSegmentOf fuel b t a s
-gone_segment b t name n fuel s (begins k x) gone adm = absurd (page_is_no_start b name n k x adm)
-gone_segment b t name n fuel s (resumes at) gone adm =
+pub gone_refused : (b : Book) (name : List ℕ) (n : PageName) (a : Admission) → cells_in n.instance b ≡ None → admit b (page name n) ≡ a → refusal_of a ≡ None → ⊥
+gone_refused b name n (begins k x) gone adm ok = page_is_no_start b name n k x adm
+gone_refused b name n (resumes at) gone adm ok =
     let there = ap (option_map (λ (i : Instance). i.cells)) (page_stands b name n at adm).here in
-    absurd (cc (gone, there))
-gone_segment b t name n fuel s (refused r) gone adm = tt
+    cc (gone, there)
+gone_refused b name n (refused r) gone adm ok = cc ok
 
 pub if_some : {X : Type 0} (o : Option X) (x : X) (P : X → Type 0) → o ≡ Some x → P x → IfSome o P
 if_some o x P e p = subst (λ z. IfSome z P) (sym e) p

@@ -7,7 +7,7 @@ use Rattle.script_nodes.specs.Setup.{Named, Library}
 use Rattle.script_nodes.specs.Views.{named_of}
 use Rattle.script_nodes.specs.declared.setup.NamedScript.{NamedScript}
 use Rattle.web_disk.specs.View.{View, LeavesOnly}
-use Rattle.page_journal.specs.Records.{records, Intact, stored, at_rest}
+use Rattle.page_journal.specs.Records.{newest, records, format_of, Intact, stored, at_rest}
 use Rattle.page_journal.specs.Scanned.{IsQuiet}
 use Rattle.page_journal.specs.Settled.{IsSettled, bodies_in, length_of}
 use Rattle.page_journal.specs.declared.journal.Journal.{Journal}
@@ -17,7 +17,9 @@ use Rattle.journal_records.specs.Reading.{read_record}
 use Rattle.journal_records.specs.Laws.{AreRecordsExact}
 use Rattle.journal_spec.specs.Before.{Earlier, Made, made_of}
 use Rattle.journal_spec.specs.Retaking.{Told, unread, misread, told, told_in}
-use Rattle.journal_spec.specs.Making.{has_script, told_next, Making, nothing, begun, made, damaged, other, began, first_setup, first_by, next_setup, next_by, second_by, made_in, with_body, with_bodies, book_of, book_in_bytes}
+use Rattle.journal_spec.specs.Making.{has_script, told_next, Making, nothing, begun, made, damaged, other, began, first_setup, first_by, next_setup, next_by, second_by, made_in, with_body, with_bodies, book_of}
+use Rattle.journal_spec.specs.Bytes.{book_in_bytes}
+use Rattle.journal_spec.specs.Old.{book_of_format}
 use Rattle.journal_spec.specs.Opening.{opened_on}
 use Rattle.journal_spec.specs.Standing.{IsMadeBook, Makes, IsOneOf}
 use Rattle.journal_spec.specs.Keeping.{Keeps}
@@ -26,13 +28,15 @@ use Rattle.journal_spec.specs.Disks.{IsFit}
 use Rattle.journal_spec.proofs.Fitting.{made_fits}
 use Rattle.journal_spec.proofs.Between.{read_as}
 use Rattle.journal_spec.proofs.Standings.{settled_stands}
+use Rattle.shelf.proofs.Newest.{makes_so}
 use Rattle.instance_book.specs.declared.book.Book.{Book as RustBook}
 use Rattle.instance_book.specs.Views as views
 use Rattle.instance_book.specs.Views.{Beside}
 use Rattle.instance_book.proofs.Behind.{arena_again}
 use Rattle.book_recovery.specs.Found.{FindsBook, beside_file}
 use Rattle.shelf.specs.Files.{file_in, read_file}
-use Rattle.shelf.specs.Opening.{making_of}
+use Rattle.shelf.specs.Migrating.{making_now}
+use Rattle.shelf.specs.Opening.{making_of, now_by_log, now_in_bytes}
 use Rattle.shelf.specs.Views.{TellsStates}
 use Rattle.book_recovery.specs.Found.{HasToldStates}
 
@@ -47,7 +51,7 @@ module _ (shelf place n : ℕ) where
       by_test true = λ e. cc e
       by_test false = λ e. cc e
 
-  some_first : (o : Option Record) → first_by texts shelf place n o ≢ nothing
+  pub some_first : (o : Option Record) → first_by texts shelf place n o ≢ nothing
   some_first None = λ e. cc e
   some_first (Some (changes c state)) = λ e. cc e
   some_first (Some (renews named)) = λ e. cc e
@@ -55,16 +59,16 @@ module _ (shelf place n : ℕ) where
   some_first (Some (begins s named)) = some_setup_first s (texts named)
 
 module _ (place n : ℕ) (m : Made) where
-  some_told : (x : Told) (c : _) → told_next place n m c x ≢ nothing
+  pub some_told : (x : Told) (c : _) → told_next place n m c x ≢ nothing
   some_told unread c = λ e. cc e
   some_told misread c = λ e. cc e
   some_told (told d) c = λ e. cc e
 
-  some_setup : (o : Option (List Named)) → next_setup place n m o ≢ nothing
+  pub some_setup : (o : Option (List Named)) → next_setup place n m o ≢ nothing
   some_setup None = λ e. cc e
   some_setup (Some scripts) = λ e. cc e
 
-  some_if : (t : Bool) (x : Making) → x ≢ nothing → (if t then x else damaged place) ≢ nothing
+  pub some_if : (t : Bool) (x : Making) → x ≢ nothing → (if t then x else damaged place) ≢ nothing
   some_if true x h = h
   some_if false x h = λ e. cc e
 
@@ -114,12 +118,22 @@ whole_named s script =
 
 -- ---- the bytes of a disk, and the bodies of the journal that is opened on it
 
-pub read_in_bytes : (shelf : ℕ) (bytes : List ℕ) → (records bytes ≡ Intact (stored bytes)) ⊎ (bytes ≡ []) → book_in_bytes texts shelf bytes ≡ book_of texts shelf (stored bytes)
+-- where there are none, any format makes nothing of them
+pub read_in_bytes : (shelf : ℕ) (bytes : List ℕ) → (records bytes ≡ Intact (stored bytes)) ⊎ (bytes ≡ []) → book_in_bytes texts shelf bytes ≡ book_of_format (format_of bytes) texts shelf (stored bytes)
 read_in_bytes shelf bytes (inl intact) = read_as texts shelf (stored bytes) bytes intact
-read_in_bytes shelf bytes (inr none) = ap (book_in_bytes texts shelf) none ∙ ap (λ (l : List ℕ). book_of texts shelf (stored l)) (sym none)
+read_in_bytes shelf bytes (inr none) = ap (book_in_bytes texts shelf) none ∙ ap (λ (l : List ℕ). book_of_format (format_of l) texts shelf (stored l)) (sym none)
 
-pub same_books : (shelf : ℕ) (bytes : List ℕ) (bodies : List (List ℕ)) → (records bytes ≡ Intact (stored bytes)) ⊎ (bytes ≡ []) → bodies ≡ stored bytes → book_in_bytes texts shelf bytes ≡ book_of texts shelf bodies
-same_books shelf bytes bodies intact is = read_in_bytes shelf bytes intact ∙ ap (book_of texts shelf) (sym is)
+pub same_books : (shelf : ℕ) (bytes : List ℕ) (bodies : List (List ℕ)) → (records bytes ≡ Intact (stored bytes)) ⊎ (bytes ≡ []) → bodies ≡ stored bytes → book_in_bytes texts shelf bytes ≡ book_of_format (format_of bytes) texts shelf bodies
+same_books shelf bytes bodies intact is = read_in_bytes shelf bytes intact ∙ ap (book_of_format (format_of bytes) texts shelf) (sym is)
+
+-- what an opening goes on with, by the bytes
+pub now_in : (shelf : ℕ) (bytes : List ℕ) → (records bytes ≡ Intact (stored bytes)) ⊎ (bytes ≡ []) → now_in_bytes shelf bytes ≡ making_now (format_of bytes) shelf (stored bytes)
+now_in shelf bytes (inl intact) = by_bytes bytes intact
+  where
+    by_bytes : (bs : List ℕ) → records bs ≡ Intact (stored bs) → now_in_bytes shelf bs ≡ making_now (format_of bs) shelf (stored bs)
+    by_bytes [] is = absurd (let no : ⊥ = cc is in no)
+    by_bytes (b ∷ bs) is = ap (now_by_log (format_of (b ∷ bs)) shelf) is
+now_in shelf bytes (inr none) = ap (now_in_bytes shelf) none ∙ ap (λ (l : List ℕ). making_now (format_of l) shelf (stored l)) (sym none)
 
 -- what the shelf goes on with is a book by the bytes where it is by the bodies
 pub made_there : (scripts : List Named) (shelf : ℕ) (m n : Making) (b : Book) → m ≡ n → IsMadeBook (opened_on shelf scripts n) b → IsMadeBook (opened_on shelf scripts m) b
@@ -133,8 +147,8 @@ module _ {D : Type 0} (view : D → View) (shelf : ℕ) (j : Journal D) where
   read_beside = record { length = length_of j; file = read_file view shelf j; down = None }
 
   -- what can go on, with the states that records told
-  pub found_fit : (b : Book) → AreRecordsExact → IsSettled view j → HasWholeScripts b → IsReadSetup b.scripts → Makes texts shelf (bodies_in view j) b → b ≡ reopened b → IsFit view texts shelf j b
-  found_fit b x settled whole read (seen, makes) again =
+  pub found_fit : (b : Book) → AreRecordsExact → IsSettled view j → j.format ≡ newest → HasWholeScripts b → IsReadSetup b.scripts → Makes texts shelf (bodies_in view j) b → b ≡ reopened b → IsFit view texts shelf j b
+  found_fit b x settled now whole read (seen, makes) again =
       let fits = made_fits x texts shelf (bodies_in view j) (made_of b seen) makes in
       let keeps : Keeps texts shelf (bodies_in view j) (reopened b) = record {
         earlier = seen;
@@ -145,7 +159,7 @@ module _ {D : Type 0} (view : D → View) (shelf : ℕ) (j : Journal D) where
       record {
         settled = λ _. settled;
         holds = λ _. subst (Keeps texts shelf (bodies_in view j)) (sym again) keeps;
-        stands = settled_stands view texts shelf j b settled (seen, makes) (ap (λ (y : Book). y.down) again);
+        stands = settled_stands view texts shelf j b settled (makes_so view shelf j b now (seen, makes)) (ap (λ (y : Book). y.down) again);
       }
 
   -- a book that was read of it, under this library

@@ -22,6 +22,7 @@ use Rattle.instance_book.proofs.Given.{places_of}
 use Rattle.book_visits.specs.Views.{reply_of}
 use Rattle.shelf.specs.declared.rules.Rules as limits_of
 use Rattle.shelf.specs.declared.shelf.Shelf.{Shelf}
+use Rattle.shelf.specs.Files.{KnowsFile}
 use Rattle.shelf.specs.Ranges.{AreInRange}
 use Rattle.book_visits.specs.Admissions.{HasFew}
 use Rattle.script_nodes.specs.Views.{library_of}
@@ -68,6 +69,7 @@ module _ {D N : Type 0} where
     pub whole : new.down ≡ None → is_broken new.journal ≡ false
     pub fit : IsTrue tells → IsFit view texts shelf new.journal d
     pub told : IsTrue tells → new.down ≡ None → TellsStates view (library_in new).all shelf new.journal new.book
+    pub knows : KnowsFile view tells shelf new.journal (new.down ≡ None) new.notes
 
   -- a shelf in order stays so where its book is orderly and in range
   pub order_of : (view : D → View) (tells : Bool) (old new : Shelf D N) (after : Book) → IsInOrder view tells old → HasSomeStates (library_in new).all new.book → IsOrderly after → HasWholeScripts after
@@ -86,6 +88,7 @@ module _ {D N : Type 0} where
     whole = stays.whole;
     fit = λ told. subst (λ (b : Book). IsFit view texts new.rules.number new.journal b) (sym is) (subst (λ (l : limits_of.Rules). IsFit view texts l.number new.journal after) (sym limits) (stays.fit told));
     told = λ told up. subst (λ (l : limits_of.Rules). TellsStates view (library_in new).all l.number new.journal new.book) (sym limits) (stays.told told up);
+    knows = subst (λ (l : limits_of.Rules). KnowsFile view tells l.number new.journal (new.down ≡ None) new.notes) (sym limits) stays.knows;
   }
 
   -- so it stays behind an event

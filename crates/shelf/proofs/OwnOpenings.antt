@@ -1,38 +1,40 @@
 -- An opening finds and leaves own records.
-use Rattle.std.proofs.Common.{◌≡◌, ℕ, ◌+◌, ◌≤◌, ◌^◌, Bool, List, [], ◌∷◌, length, None, IsTrue, sym, ◌∙◌, ap, subst, arith}
+use Rattle.std.proofs.Common.{◌≡◌, ℕ, ◌+◌, ◌≤◌, ◌^◌, Bool, List, [], ◌∷◌, length, None, IsTrue, refl, sym, ◌∙◌, ap, subst, arith}
 use Rattle.setup_reader.specs.Texts.{setup_of_texts as texts}
 use Rattle.web_disk.specs.View.{View, NoNewImage, Elapses, LeavesOnly}
-use Rattle.page_journal.specs.Records.{stored}
+use Rattle.page_journal.specs.Records.{newest, format_of, stored}
+use Rattle.page_journal.specs.Opened.{TellsFormat}
 use Rattle.page_journal.specs.Holding.{MayHold}
 use Rattle.page_journal.specs.Scanned.{IsQuiet}
 use Rattle.page_journal.specs.Settled.{IsSettled, view_of, bodies_in, length_of}
 use Rattle.page_journal.specs.declared.journal.Journal.{Journal}
 use Rattle.page_journal.proofs.Mending.{leaves_then}
-use Rattle.journal_spec.specs.Owning.{AreOwn}
+use Rattle.journal_spec.specs.Owning.{AreOwn, AreOwnIn}
 use Rattle.journal_spec.specs.Disks.{IsFit}
 use Rattle.shelf.specs.declared.shelf.Shelf.{Shelf}
 use Rattle.shelf.specs.Views.{book_in, rules_of, IsOwnShelf}
 use Rattle.shelf.specs.Opening.{HasOwnRecords, OpensOwn}
 use Rattle.shelf.specs.Owning.{IsOwnImage, HoldsOwnRecords, HasOwnImages, StaysOwnThroughout}
-use Rattle.shelf.proofs.Owned.{none_own, first_own, images_own, stored_own, with_flight, settled_own, stays_own, quiet_own, quiet_run_own}
+use Rattle.shelf.proofs.Owned.{none_own, first_own, images_own, stored_own, with_added, settled_own, stays_own, quiet_own, quiet_run_own}
+use Rattle.shelf.proofs.Newest.{own_in, now_own}
 use Rattle.shelf.proofs.Standing.{OnlyNow}
 use Rattle.shelf.proofs.Recorded.{measured_up}
 use Rattle.shelf.proofs.Openings.{nine}
 
 -- a journal without records, for whose first one room is made
-module _ {D : Type 0} (view : D → View) (shelf : ℕ) (j0 j1 : Journal D) (settled : IsSettled view j0) (none : bodies_in view j0 ≡ []) (only_now : OnlyNow (view_of view j0))
+module _ {D : Type 0} (view : D → View) (shelf : ℕ) (j0 j1 : Journal D) (now_is : j0.format ≡ newest) (settled : IsSettled view j0) (none : bodies_in view j0 ≡ []) (only_now : OnlyNow (view_of view j0))
     (images : NoNewImage (view_of view j0) (view_of view j1)) (time : Elapses (view_of view j0) (view_of view j1)) where
   pub unwritten_moments : StaysOwnThroughout shelf (view_of view j0) (view_of view j1)
   unwritten_moments =
       quiet_run_own shelf (view_of view j0) (view_of view j1) only_now images time
-      (settled_own view shelf j0 settled (subst (AreOwn texts shelf) (sym none) (none_own shelf)))
+      (settled_own view shelf j0 settled (subst (AreOwnIn j0.format texts shelf) (sym none) (none_own j0.format shelf)))
 
   pub begun_moments : (j2 : Journal D) (body : List ℕ) → (view_of view j1).seen ≡ (view_of view j0).seen → length_of j0 + 5 + length body ≤ 2 ^ 30
-      → LeavesOnly (view_of view j1) (view_of view j2) (MayHold (bodies_in view j1) body) → StaysOwnThroughout shelf (view_of view j0) (view_of view j2)
+      → LeavesOnly (view_of view j1) (view_of view j2) (MayHold newest (bodies_in view j1) body) → StaysOwnThroughout shelf (view_of view j0) (view_of view j2)
   begun_moments j2 body seen room run =
-      let here : LeavesOnly (view_of view j1) (view_of view j2) (MayHold [] body) =
-      subst (λ (bs : List (List ℕ)). LeavesOnly (view_of view j1) (view_of view j2) (MayHold bs body)) (ap stored seen ∙ none) run in
-      let o = with_flight shelf [] body (omega (arith, room, nine view j0 settled none)) (first_own shelf body) in
+      let here : LeavesOnly (view_of view j1) (view_of view j2) (MayHold newest [] body) =
+      subst (λ (bs : List (List ℕ)). LeavesOnly (view_of view j1) (view_of view j2) (MayHold newest bs body)) (ap stored seen ∙ none) run in
+      let o = with_added shelf [] body (omega (arith, room, nine view j0 settled none)) (now_own shelf [] (none_own newest shelf)) (first_own shelf body) in
       leaves_then (view_of view j0) (view_of view j1) (view_of view j2) (HoldsOwnRecords shelf) unwritten_moments
       (stays_own shelf (view_of view j1) (view_of view j2) o here)
 
@@ -41,28 +43,34 @@ pub begun_records : {D : Type 0} (view : D → View) (shelf : ℕ) (j : Journal 
 begun_records view shelf j body is = subst (AreOwn texts shelf) (sym is) (first_own shelf body)
 
 -- own records are read
-pub read_moments : {D : Type 0} (view : D → View) (shelf : ℕ) (j0 j1 : Journal D) → IsSettled view j0 → HasOwnRecords view shelf j0 → IsQuiet (view_of view j0) (view_of view j1)
+pub read_moments : {D : Type 0} (view : D → View) (shelf : ℕ) (j0 j1 : Journal D) → j0.format ≡ newest → IsSettled view j0 → HasOwnRecords view shelf j0 → IsQuiet (view_of view j0) (view_of view j1)
     → StaysOwnThroughout shelf (view_of view j0) (view_of view j1)
-read_moments view shelf j0 j1 settled own quiet =
-    quiet_own shelf (view_of view j0) (view_of view j1) quiet.moments (settled_own view shelf j0 settled own)
+read_moments view shelf j0 j1 now settled own quiet =
+    quiet_own shelf (view_of view j0) (view_of view j1) quiet.moments (settled_own view shelf j0 settled (own_in view shelf j0 now own))
 
--- what an opened journal has are the records that the disk had
-pub records_found : {D : Type 0} (view : D → View) (shelf : ℕ) (v : View) (j : Journal D) → bodies_in view j ≡ stored v.seen → IsOwnImage shelf v.seen → HasOwnRecords view shelf j
-records_found view shelf v j is own = subst (AreOwn texts shelf) (sym is) (stored_own shelf v.seen own)
+-- what an opened journal has are the records that the disk had, in their format; where there is none, the format is any
+pub records_found : {D : Type 0} (view : D → View) (shelf : ℕ) (v : View) (j : Journal D) → bodies_in view j ≡ stored v.seen → TellsFormat v.seen j.format → IsOwnImage shelf v.seen → AreOwnIn j.format texts shelf (bodies_in view j)
+records_found view shelf v j is tells own = by_bytes v.seen refl
+  where
+    by_bytes : (bytes : List ℕ) → v.seen ≡ bytes → AreOwnIn j.format texts shelf (bodies_in view j)
+    by_bytes [] none = subst (AreOwnIn j.format texts shelf) (sym (is ∙ ap stored none)) (none_own j.format shelf)
+    by_bytes (b ∷ bytes) some =
+        let known : j.format ≡ format_of v.seen = tells (λ e. let no : b ∷ bytes ≡ [] = sym some ∙ e in cc no) in
+        subst (λ (f : ℕ). AreOwnIn f texts shelf (bodies_in view j)) (sym known) (subst (AreOwnIn (format_of v.seen) texts shelf) (sym is) (stored_own shelf v.seen own))
 
-pub records_left : {D : Type 0} (view : D → View) (shelf : ℕ) (v : View) (j : Journal D) → bodies_in view j ≡ stored v.seen → v.images v.seen → HasOwnImages shelf v → HasOwnRecords view shelf j
-records_left view shelf v j is reads own = records_found view shelf v j is (images_own shelf v v.seen own reads)
+pub records_left : {D : Type 0} (view : D → View) (shelf : ℕ) (v : View) (j : Journal D) → bodies_in view j ≡ stored v.seen → TellsFormat v.seen j.format → v.images v.seen → HasOwnImages shelf v → AreOwnIn j.format texts shelf (bodies_in view j)
+records_left view shelf v j is tells reads own = records_found view shelf v j is tells (images_own shelf v v.seen own reads)
 
 -- a shelf that is opened on own records
-pub opened_own : {D N : Type 0} (view : D → View) (tells : Bool) (s : Shelf D N) → (book_in view s).down ≡ None → (IsTrue tells → IsFit view texts s.rules.number s.journal (book_in view s))
+pub opened_own : {D N : Type 0} (view : D → View) (tells : Bool) (s : Shelf D N) → s.journal.format ≡ newest → (book_in view s).down ≡ None → (IsTrue tells → IsFit view texts s.rules.number s.journal (book_in view s))
     → OpensOwn view s.rules.number s.journal (s.book, s.library) → IsOwnShelf view tells s
-opened_own view tells s up fits own = record {
+opened_own view tells s now up fits own = record {
   states = own.states;
   own = λ told.
       let fit = fits told in
       let t = fit.stands in
       record {
-        images = settled_own view s.rules.number s.journal (fit.settled up) own.records;
+        images = settled_own view s.rules.number s.journal (fit.settled up) (own_in view s.rules.number s.journal now own.records);
         stands = (t.0, (t.1.0, (t.1.1, measured_up (rules_of s.rules) t.0 (book_in view s) up)));
       };
 }

@@ -1,23 +1,30 @@
 -- An opening goes on behind the reading of a journal.
-use Rattle.std.proofs.Common.{◌≡◌, inl, inr, ⊎_elim, ℕ, Bool, List, ◌++◌, Result, Err, IfOk, IsTrue, refl, sym, ◌∙◌, ap, subst, arith}
+use Rattle.std.proofs.Common.{◌≡◌, inl, inr, ⊎_elim, ℕ, Bool, List, ◌++◌, Some, Result, Err, IfOk, IsTrue, refl, sym, ◌∙◌, ap, subst, arith}
 use Rattle.setup_reader.specs.Texts.{setup_of_texts as texts}
 use Rattle.script_nodes.specs.Setup.{Named, Library}
 use Rattle.script_nodes.specs.declared.library.Library as kept
 use Rattle.web_disk.specs.View.{View}
-use Rattle.page_journal.specs.Records.{stored}
+use Rattle.page_journal.specs.Records.{newest, stored}
 use Rattle.page_journal.specs.Holding.{IsClosed}
 use Rattle.page_journal.specs.Scanned.{IsQuiet}
 use Rattle.page_journal.specs.Settled.{HasFailed, IsSettled, view_of, bodies_in, length_of}
 use Rattle.page_journal.specs.declared.journal.Journal.{Journal}
-use Rattle.page_journal.proofs.Holds.{settled_images}
 use Rattle.page_journal.proofs.Mending.{leaves_then}
-use Rattle.journal_spec.specs.Making.{Making, made_in, book_of}
+use Rattle.journal_spec.specs.Before.{Made}
+use Rattle.journal_spec.specs.Reading.{AreAllBytes}
+use Rattle.journal_spec.specs.Old.{book_of_format, format_of_now}
+use Rattle.journal_spec.specs.Making.{Making, nothing, begun, made, damaged, other, made_in, book_of}
+use Rattle.file_notes.specs.declared.notes.FileNotes.{FileNotes}
+use Rattle.file_notes.specs.Files as noted
+use Rattle.book_recovery.specs.Noting.{marks_of, IsFileOf, NotesFile}
+use Rattle.shelf.specs.Files.{file_in, KnowsRead}
 use Rattle.journal_spec.specs.Opening.{opened_on}
 use Rattle.journal_spec.specs.Owning.{AreOwn}
-use Rattle.journal_spec.specs.Standing.{IsMadeBook, Held}
+use Rattle.journal_spec.specs.Standing.{IsMadeBook, Hold, Held}
 use Rattle.journal_spec.proofs.Standings.{closed_holds}
 use Rattle.instance_book.specs.declared.book.Book.{Book as RustBook}
-use Rattle.book_recovery.specs.Found.{FindsBook}
+use Rattle.book_recovery.specs.declared.found.Found.{Found}
+use Rattle.book_recovery.specs.Found.{FindsBook, Finds}
 use Rattle.shelf.specs.Opening.{making_of, opened_beside, added_by, HasOwnRecords, Opens, Renews, HasAdded}
 use Rattle.shelf.specs.Faults.{IsReadFault, IsReadFaultOf}
 use Rattle.shelf.specs.Owning.{HoldsOwnRecords, StaysOwnThroughout}
@@ -25,8 +32,9 @@ use Rattle.shelf.specs.declared.begin.BeginFault.{BeginFault}
 use Rattle.shelf.specs.declared.begin.BeginFault.TheVariants as fault
 use Rattle.shelf.proofs.Openings.{quiet_then, quiet_leaves}
 use Rattle.shelf.proofs.OwnOpenings.{read_moments}
+use Rattle.shelf.proofs.Newest.{newest_images}
 
-module _ {D : Type 0} (view : D → View) (tells : Bool) (scripts : List Named) (shelf : ℕ) (j0 j1 : Journal D) (settled : IsTrue tells → IsSettled view j0) (quiet : IsQuiet (view_of view j0) (view_of view j1)) where
+module _ {D : Type 0} (view : D → View) (tells : Bool) (scripts : List Named) (shelf : ℕ) (j0 j1 : Journal D) (now_is : j0.format ≡ newest) (settled : IsTrue tells → IsSettled view j0) (quiet : IsQuiet (view_of view j0) (view_of view j1)) where
   bodies_same : bodies_in view j1 ≡ bodies_in view j0
   bodies_same = ap stored quiet.seen
 
@@ -41,7 +49,7 @@ module _ {D : Type 0} (view : D → View) (tells : Bool) (scripts : List Named) 
       subst (λ (n : ℕ). FindsBook shelf n b lib (making_of view shelf j1)) (sym len) (subst (FindsBook shelf (length_of j0) b lib) (sym making_same) finds)
 
   own_read : IsTrue tells → HasOwnRecords view shelf j0 → StaysOwnThroughout shelf (view_of view j0) (view_of view j1)
-  own_read told own = read_moments view shelf j0 j1 (settled told) own quiet
+  own_read told own = read_moments view shelf j0 j1 now_is (settled told) own quiet
 
   -- nothing was written, and nothing more is done
   pub read_refused : (e : BeginFault) → (IsTrue tells → IsReadFaultOf scripts shelf (making_of view shelf j0) e) → (e ≡ fault.DiskFault → HasFailed (view_of view j0) (view_of view j1)) → Opens view tells scripts shelf j0 j1 (Err e)
@@ -68,11 +76,11 @@ module _ {D : Type 0} (view : D → View) (tells : Bool) (scripts : List Named) 
     renews_then : IsTrue tells → Renews view scripts shelf j1 j2 → Renews view scripts shelf j0 j2
     renews_then told r =
         let k = r.moments.0 in
-        let holds : (image : List ℕ) → (view_of view j0).images image → Held k image = λ image left. closed_holds k.bodies k.more image (subst (λ (bs : List (List ℕ)). IsClosed bs image) (sym (r.moments.1 ∙ bodies_same)) (settled_images view j0 (settled told) image left)) in
+        let holds : (image : List ℕ) → (view_of view j0).images image → Held k image = λ image left. subst (λ (f : ℕ). Hold f k.bodies k.flight image) (sym r.moments.1) (closed_holds newest k.bodies k.flight image (subst (λ (bs : List (List ℕ)). IsClosed newest bs image) (sym (r.moments.2 ∙ bodies_same)) (newest_images view j0 (settled told) now_is image left))) in
         record {
           made = r.made;
           found = sym (ap made_in making_same) ∙ r.found;
-          moments = (k, r.moments.1 ∙ bodies_same, quiet_leaves (view_of view j0) (view_of view j1) (view_of view j2) (Held k) quiet holds r.moments.2);
+          moments = (k, r.moments.1, r.moments.2 ∙ bodies_same, quiet_leaves (view_of view j0) (view_of view j1) (view_of view j2) (Held k) quiet holds r.moments.3);
         }
 
     pub opens_after : Opens view tells scripts shelf j0 j2 result
@@ -92,4 +100,42 @@ module _ {D : Type 0} (view : D → View) (tells : Bool) (scripts : List Named) 
           (subst (λ (m : Making). HasAdded view (added_by scripts shelf m result) j1 j2) making_same (next.keeps told no));
       cause = λ h. omega (arith, next.cause h, quiet.faults);
       later = omega (arith, next.later, quiet.faults);
+    }
+
+-- what is found of a journal of the newest format
+pub found_at : {D : Type 0} (view : D → View) (shelf : ℕ) (j : Journal D) → j.format ≡ newest → (f : Found) → Finds shelf (length_of j) f (book_of_format j.format texts shelf (bodies_in view j)) → Finds shelf (length_of j) f (making_of view shelf j)
+found_at view shelf j now f finds =
+    subst (Finds shelf (length_of j) f) (ap (λ (k : ℕ). book_of_format k texts shelf (bodies_in view j)) now ∙ format_of_now texts shelf (bodies_in view j)) finds
+
+-- what is known of it, where its records make a book
+pub known_at : {D : Type 0} (view : D → View) (shelf : ℕ) (j : Journal D) (notes : FileNotes) → j.format ≡ newest → (b : RustBook) (lib : Library) → FindsBook shelf (length_of j) b lib (making_of view shelf j)
+    → NotesFile j.format shelf (bodies_in view j) notes (book_of_format j.format texts shelf (bodies_in view j)) → KnowsRead view shelf j notes
+known_at view shelf j notes now b lib finds known =
+    let bodies = bodies_in view j in
+    let is : book_of_format j.format texts shelf bodies ≡ making_of view shelf j = ap (λ (k : ℕ). book_of_format k texts shelf bodies) now ∙ format_of_now texts shelf bodies in
+    record {
+      records = record {
+        marks = known.marks ∙ ap (λ (k : ℕ). marks_of k texts shelf 8 bodies nothing) now;
+        bytes = known.bytes;
+      };
+      file = by_making (making_of view shelf j) finds.whole finds.is (subst (IsFileOf notes) is known.file) ∙ sym (ap file_in finds.is);
+    }
+  where
+    by_making : (m : Making) (w : Made) → made_in m ≡ Some w → IsFileOf notes m → noted.file_in notes ≡ w.book.file
+    by_making nothing w made_is file = absurd (let no : ⊥ = cc made_is in no)
+    by_making (begun y) w made_is file = file ∙ ap (λ (z : Made). z.book.file) (let same : y ≡ w = cc made_is in same)
+    by_making (made y) w made_is file = file ∙ ap (λ (z : Made). z.book.file) (let same : y ≡ w = cc made_is in same)
+    by_making (damaged p) w made_is file = absurd (let no : ⊥ = cc made_is in no)
+    by_making (other p) w made_is file = absurd (let no : ⊥ = cc made_is in no)
+
+-- it goes on to be known behind a call that wrote nothing
+pub known_after : {D : Type 0} (view : D → View) (shelf : ℕ) (j0 j1 : Journal D) (notes : FileNotes) → IsQuiet (view_of view j0) (view_of view j1) → KnowsRead view shelf j0 notes → KnowsRead view shelf j1 notes
+known_after view shelf j0 j1 notes quiet known =
+    let these : bodies_in view j0 ≡ bodies_in view j1 = ap stored (sym quiet.seen) in
+    record {
+      records = record {
+        marks = known.records.marks ∙ ap (λ (bs : List (List ℕ)). marks_of newest texts shelf 8 bs nothing) these;
+        bytes = subst AreAllBytes these known.records.bytes;
+      };
+      file = known.file ∙ ap (λ (bs : List (List ℕ)). file_in (made_in (book_of texts shelf bs))) these;
     }

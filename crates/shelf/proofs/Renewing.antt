@@ -1,5 +1,5 @@
 -- A shelf goes on with a setup, behind records that make a book.
-use Rattle.std.proofs.Common.{◌≡◌, inl, inr, ⊎_elim, ℕ, ◌+◌, ◌≤◌, ◌<◌, ◌^◌, Bool, true, false, List, [], ◌∷◌, ◌++◌, length, Option, Some, None, Result, Ok, Err, IfOk, IsTrue, if◌then◌else◌, refl, sym, ◌∙◌, ap, subst, arith}
+use Rattle.std.proofs.Common.{◌≡◌, inl, inr, ⊎_elim, ℕ, ◌+◌, ◌≤◌, ◌<◌, ◌^◌, Bool, true, false, List, [], ◌∷◌, ◌++◌, length, Some, None, Result, Ok, Err, IfOk, IsTrue, if◌then◌else◌, refl, sym, ◌∙◌, ap, subst, arith}
 use Rattle.std.specs.Prelude.{OnOk, IsErrOf}
 use Rattle.std.proofs.lemmas.Bool.Decides.{leb_tells}
 use Rattle.std.proofs.lemmas.Option.{same_Some}
@@ -8,12 +8,14 @@ use Rattle.script_nodes.specs.Setup.{Named, Library}
 use Rattle.script_nodes.specs.Views.{library_of}
 use Rattle.script_nodes.specs.declared.library.Library as kept
 use Rattle.web_disk.specs.View.{View, LeavesOnly}
-use Rattle.page_journal.specs.Records.{frames}
+use Rattle.page_journal.specs.Records.{newest, frames}
 use Rattle.page_journal.specs.Holding.{MayHold, Holdable}
 use Rattle.page_journal.specs.Settled.{IsSettled, view_of, bodies_in, length_of, length_with}
 use Rattle.page_journal.specs.declared.journal.Journal.{Journal}
 use Rattle.replay_spec.specs.Book.{Book, File, Instance, reopened, are_same}
-use Rattle.replay_spec.specs.Compaction.{renewed_length}
+use Rattle.replay_spec.specs.Book.{renewed as setup_line}
+use Rattle.replay_spec.specs.Change.{with_line}
+use Rattle.replay_spec.specs.Compaction.{renewed_length, renewed_file}
 use Rattle.replay_spec.specs.Invariant.{IsOrderly}
 use Rattle.journal_records.specs.Records.{IsInGrammar, renewal_of}
 use Rattle.journal_records.specs.Laws.{AreRecordsExact}
@@ -24,13 +26,13 @@ use Rattle.journal_spec.specs.Lengths.{journal_rules}
 use Rattle.journal_spec.specs.Making.{Making, nothing, begun, made, damaged, other, beside, next_setup, made_in, book_of}
 use Rattle.journal_spec.specs.Opening.{renewal_body, renewal_bodies, opened_book, opened_on}
 use Rattle.journal_spec.specs.Owning.{AreOwn}
-use Rattle.journal_spec.specs.Standing.{Hold, ThroughoutFrom}
+use Rattle.journal_spec.specs.Standing.{adds, Hold, Held, ThroughoutFrom}
 use Rattle.journal_spec.specs.Keeping.{Keeps, KeepsWith}
 use Rattle.journal_spec.specs.Events.{IsGiven}
 use Rattle.journal_spec.specs.Whole.{AreWhole, HasWholeScripts}
 use Rattle.journal_spec.specs.Disks.{IsFit}
 use Rattle.journal_spec.specs.Laws.{ASetupIsItsTexts, RenewalsAreKept, RenewalsStandBetween}
-use Rattle.journal_spec.proofs.Standings.{settled_stands}
+use Rattle.journal_spec.proofs.Standings.{any_less, carried, settled_stands}
 use Rattle.instance_book.specs.declared.book.Book.{Book as RustBook}
 use Rattle.instance_book.specs.Views as views
 use Rattle.instance_book.specs.Views.{Beside}
@@ -39,7 +41,14 @@ use Rattle.instance_book.specs.Places.{given}
 use Rattle.instance_book.specs.Makes.{HasItsStates}
 use Rattle.book_recovery.specs.Found.{FindsBook, IsBookInOrder, beside_file}
 use Rattle.book_recovery.proofs.Longer.{instances_longer, places_longer, states_longer}
-use Rattle.shelf.specs.Files.{file_in, read_file}
+use Rattle.value_bytes.specs.Laws.{AreBytes}
+use Rattle.journal_records.specs.Old.{read_record_in}
+use Rattle.journal_spec.specs.Old.{book_of_format, format_of_now}
+use Rattle.journal_spec.specs.Reading.{AreAllBytes}
+use Rattle.file_notes.specs.declared.notes.FileNotes.{FileNotes}
+use Rattle.book_recovery.specs.Noting.{mark_by, marks_of}
+use Rattle.shelf.proofs.Known.{bodies_more, mark_made, bytes_more}
+use Rattle.shelf.specs.Files.{file_in, read_file, KnowsRead, NotesRenewed}
 use Rattle.shelf.specs.Opening.{making_of, opening_bodies, HasOwnRecords, OpensOwn, TellsSetup, TellsFull, IsLibraryOf, Opens, Renews, IsMadeOf, IsDoneUnlessOutside, with_book}
 use Rattle.shelf.specs.Owning.{StaysOwnThroughout}
 use Rattle.shelf.specs.Views.{TellsStates}
@@ -49,7 +58,8 @@ use Rattle.shelf.specs.declared.begin.BeginFault.{BeginFault}
 use Rattle.shelf.specs.declared.begin.BeginFault.TheVariants as fault
 use Rattle.shelf.proofs.Openings.{found_fit, read_beside, there, found_is, found_again, found_makes, found_told, quiet_none}
 use Rattle.shelf.proofs.Standing.{OnlyNow}
-use Rattle.shelf.proofs.Owned.{with_flight, stays_own, settled_own, quiet_own}
+use Rattle.shelf.proofs.Owned.{with_added, stays_own, settled_own, quiet_own}
+use Rattle.shelf.proofs.Newest.{own_in, makes_so}
 
 -- ---- what a setup adds, by what the records made
 
@@ -84,7 +94,7 @@ by_memory e (inr (inr h)) other_one = absurd (let none : ⊥ = cc h in none)
 
 module _ {D : Type 0} (view : D → View) (tells : Bool) (scripts : List Named) (shelf : ℕ) (j : Journal D) (b : RustBook) (old : kept.Library)
     (finds : IsTrue tells → FindsBook shelf (length_of j) b (library_of old) (making_of view shelf j)) (order : IsBookInOrder shelf b (library_of old))
-    (settled : IsTrue tells → IsSettled view j) (only_now : OnlyNow (view_of view j)) (x : AreRecordsExact) (read : IsReadSetup scripts) (whole : AreWhole scripts) (renews : IsInGrammar (renewal_of scripts)) where
+    (now_is : j.format ≡ newest) (settled : IsTrue tells → IsSettled view j) (only_now : OnlyNow (view_of view j)) (x : AreRecordsExact) (read : IsReadSetup scripts) (whole : AreWhole scripts) (renews : IsInGrammar (renewal_of scripts)) where
   abbrev pub lib : Library
   lib = library_of old
 
@@ -95,13 +105,13 @@ module _ {D : Type 0} (view : D → View) (tells : Bool) (scripts : List Named) 
   whole_there = order.whole (length_of j) (read_file view shelf j)
 
   old_fit : IsTrue tells → IsFit view texts shelf j pre
-  old_fit told = found_fit view shelf j pre x (settled told) whole_there order.read (found_makes view shelf j b lib (finds told)) (found_again view shelf j b lib (finds told))
+  old_fit told = found_fit view shelf j pre x (settled told) now_is whole_there order.read (found_makes view shelf j b lib (finds told)) (found_again view shelf j b lib (finds told))
 
   up : pre.down ≡ None
   up = refl
 
   own_now : IsTrue tells → HasOwnRecords view shelf j → StaysOwnThroughout shelf (view_of view j) (view_of view j)
-  own_now told own = quiet_own shelf (view_of view j) (view_of view j) (quiet_none (view_of view j) only_now).moments (settled_own view shelf j (settled told) own)
+  own_now told own = quiet_own shelf (view_of view j) (view_of view j) (quiet_none (view_of view j) only_now).moments (settled_own view shelf j (settled told) (own_in view shelf j now_is own))
 
   -- ---- with the setup that it had
 
@@ -172,29 +182,28 @@ module _ {D : Type 0} (view : D → View) (tells : Bool) (scripts : List Named) 
     own_more : (told : IsTrue tells) → HasOwnRecords view shelf j → AreOwn texts shelf (bodies_in view j ++ body ∷ [])
     own_more told own = (keeps_new told).own own
 
-    pub renewed_moments : (told : IsTrue tells) (v : View) → length_with j body ≤ 2 ^ 30 → LeavesOnly (view_of view j) v (MayHold (bodies_in view j) body) → HasOwnRecords view shelf j
+    pub renewed_moments : (told : IsTrue tells) (v : View) → length_with j body ≤ 2 ^ 30 → LeavesOnly (view_of view j) v (MayHold newest (bodies_in view j) body) → HasOwnRecords view shelf j
         → StaysOwnThroughout shelf (view_of view j) v
-    renewed_moments told v short run own = stays_own shelf (view_of view j) v (with_flight shelf (bodies_in view j) body (room told short) (own_more told own)) run
+    renewed_moments told v short run own = stays_own shelf (view_of view j) v (with_added shelf (bodies_in view j) body (room told short) own (own_more told own)) run
 
-    pub renewed_between : (told : IsTrue tells) (new : Journal D) → length_with j body ≤ 2 ^ 30 → LeavesOnly (view_of view j) (view_of view new) (MayHold (bodies_in view j) body)
+    pub renewed_between : (told : IsTrue tells) (new : Journal D) → length_with j body ≤ 2 ^ 30 → LeavesOnly (view_of view j) (view_of view new) (MayHold newest (bodies_in view j) body)
         → Renews view scripts shelf j new
     renewed_between told new short run =
         let f = finds told in
         let is = found_is view shelf j b lib f in
         let l = between texts shelf (bodies_in view j) pre scripts (keeps_old told) given_setup differs (room told short) in
-        let P : List (List ℕ) → Option (List ℕ) → Type 0 = λ bs o. LeavesOnly (view_of view j) (view_of view new) (Hold bs o) in
-        let run_held : P l.0.bodies l.0.more = subst (λ (bs : List (List ℕ)). P bs l.0.more) (sym l.1) (subst (P (bodies_in view j)) (sym l.2) run) in
+        let run_held = any_less (view_of view j) (view_of view new) (Hold newest (bodies_in view j) (adds body)) (Held l.0) (carried newest (bodies_in view j) (adds body) l.0 l.1) run in
         let Q : Book → Type 0 = λ y. ThroughoutFrom (bodies_in view j) texts shelf y (opened_book shelf scripts y) (view_of view j) (view_of view new) in
         record {
           made = f.whole;
           found = f.is;
-          moments = subst Q (sym is) (l.0, l.1, run_held);
+          moments = subst Q (sym is) (l.0, l.1.format, l.1.bodies_are, run_held);
         }
 
     -- the setup was told, and the library has it
-    module _ (new : Journal D) (now : kept.Library) (has : IsLibraryOf lib.all scripts now) where
-      now_is : library_of now ≡ record { all = lib.all ++ scripts; setup = scripts }
-      now_is = ap (λ (all : List Named). record (library_of now) { all = all }) has.all ∙ ap (λ (ss : List Named). record { all = lib.all ++ scripts; setup = ss }) has.setup
+    module _ (new : Journal D) (new_is : new.format ≡ newest) (now : kept.Library) (has : IsLibraryOf lib.all scripts now) where
+      lib_is : library_of now ≡ record { all = lib.all ++ scripts; setup = scripts }
+      lib_is = ap (λ (all : List Named). record (library_of now) { all = all }) has.all ∙ ap (λ (ss : List Named). record { all = lib.all ++ scripts; setup = ss }) has.setup
 
       -- the library, as it is told
       abbrev pub told_lib : Library
@@ -224,7 +233,7 @@ module _ {D : Type 0} (view : D → View) (tells : Bool) (scripts : List Named) 
       }
 
       pub renewed_order : IsBookInOrder shelf b (library_of now)
-      renewed_order = subst (IsBookInOrder shelf b) (sym now_is) told_order
+      renewed_order = subst (IsBookInOrder shelf b) (sym lib_is) told_order
 
       pub renewed_states : HasItsStates lib.all b → HasItsStates (library_of now).all b
       renewed_states states = subst (λ (all : List Named). HasItsStates all b) (sym has.all) (states_longer scripts lib.all (places.own tt) b states)
@@ -246,7 +255,7 @@ module _ {D : Type 0} (view : D → View) (tells : Bool) (scripts : List Named) 
         post_is =
             let here : read_beside view shelf new ≡ record { length = opened.length; file = opened.file; down = None } =
             ap (λ (n : ℕ). record new_beside { length = n }) (long ∙ sym long_is) ∙ ap (λ (y : File). record { length = opened.length; file = y; down = None }) file_is in
-            ap (λ (l : Library). views.book_of l new_beside b) now_is
+            ap (λ (l : Library). views.book_of l new_beside b) lib_is
             ∙ (over_is new_beside
             ∙ (ap (λ (y : Beside). record (views.book_of lib y b) { scripts = scripts }) here
             ∙ ap (λ (z : Book). record z { scripts = scripts; length = opened.length; file = opened.file }) (found_again view shelf j b lib f)))
@@ -261,7 +270,7 @@ module _ {D : Type 0} (view : D → View) (tells : Bool) (scripts : List Named) 
         renewed_fit = subst (IsFit view texts shelf new) (sym post_is) (record {
           settled = λ _. ends;
           holds = λ _. keeps_then;
-          stands = settled_stands view texts shelf new opened ends (keeps_then.earlier, keeps_then.makes) refl;
+          stands = settled_stands view texts shelf new opened ends (makes_so view shelf new opened new_is (keeps_then.earlier, keeps_then.makes)) refl;
         })
 
         pub renewed_told : TellsStates view (library_of now).all shelf new b
@@ -274,16 +283,34 @@ module _ {D : Type 0} (view : D → View) (tells : Bool) (scripts : List Named) 
             subst (λ (all : List Named). HasToldStates all m.earlier.states b) (sym has.all)
             (states_longer scripts lib.all (given (λ n. state_at n m.earlier.states)) b (subst (λ (e : Earlier). HasToldStates lib.all e.states b) same f.told))
 
+        -- the record of the setup is one that recovery takes
+        pub renewed_known : (old_notes new_notes : FileNotes) → KnowsRead view shelf j old_notes → NotesRenewed scripts old_notes new_notes → AreBytes body → KnowsRead view shelf new new_notes
+        renewed_known old_notes new_notes known more small =
+            let reads : read_record_in newest body ≡ Some (renewal_of scripts) = x.newest body ∙ x.back (renewal_of scripts) renews in
+            let now_made : made_in (book_of_format newest texts shelf (bodies_in view j)) ≡ Some f.whole = ap made_in (format_of_now texts shelf (bodies_in view j)) ∙ f.is in
+            let one : marks_of newest texts shelf 8 (bodies_in view j ++ body ∷ []) nothing ≡ marks_of newest texts shelf 8 (bodies_in view j) nothing ++ true ∷ [] =
+            bodies_more newest shelf 8 (bodies_in view j) body nothing
+            ∙ ap (λ (ts : List Bool). marks_of newest texts shelf 8 (bodies_in view j) nothing ++ ts) (mark_made f.whole (book_of_format newest texts shelf (bodies_in view j)) body now_made ∙ ap (mark_by newest f.whole) reads) in
+            let lined : opened.file ≡ with_line (setup_line scripts (length body)) (read_file view shelf j) =
+            ap (λ (t : Bool). if t then read_file view shelf j else renewed_file (Some (journal_rules shelf)) scripts (read_file view shelf j)) differs in
+            record {
+              records = record {
+                marks = more.marks ∙ (ap (λ (ts : List Bool). ts ++ true ∷ []) known.records.marks ∙ (sym one ∙ ap (λ (bs : List (List ℕ)). marks_of newest texts shelf 8 bs nothing) (sym bodies)));
+                bytes = subst AreAllBytes (sym bodies) (bytes_more (bodies_in view j) body known.records.bytes small);
+              };
+              file = more.file ∙ (ap (with_line (setup_line scripts (length body))) known.file ∙ (sym lined ∙ sym file_is));
+            }
+
     -- ---- what is answered
 
-    module _ (new : Journal D) (now : kept.Library) where
+    module _ (new : Journal D) (new_is : new.format ≡ newest) (now : kept.Library) where
       short_opens : (result : Result (Unit {0}) BeginFault) → length_with j body ≤ 2 ^ 30 → TellsSetup view tells j new body result → OnOk result (IsLibraryOf lib.all scripts now)
           → Opens view tells scripts shelf j new (with_book b now result)
       short_opens (Ok done) short t has = record {
-        begun = λ told. renewed_made new now has told (t.added told).0 (t.added told).1 t.len;
-        fit = λ told. renewed_fit new now has told (t.added told).0 (t.added told).1 t.len;
-        told = λ told. renewed_told new now has told (t.added told).0 (t.added told).1 t.len;
-        in_order = renewed_order new now has;
+        begun = λ told. renewed_made new new_is now has told (t.added told).0 (t.added told).1 t.len;
+        fit = λ told. renewed_fit new new_is now has told (t.added told).0 (t.added told).1 t.len;
+        told = λ told. renewed_told new new_is now has told (t.added told).0 (t.added told).1 t.len;
+        in_order = renewed_order new new_is now has;
         setup = has.setup;
         own_moments = λ told own. renewed_moments told (view_of view new) short (t.moments told) own;
         refused = λ told. tt;
@@ -305,6 +332,15 @@ module _ {D : Type 0} (view : D → View) (tells : Bool) (scripts : List Named) 
         cause = λ h. t.cause (let is : e ≡ fault.DiskFault = cc h in λ i. Err (is i));
         later = t.later;
       }
+
+      -- what is known of the file, where the setup was told
+      pub other_known : (result : Result (Unit {0}) BeginFault) → (length_with j body ≤ 2 ^ 30 → TellsSetup view tells j new body result) → (2 ^ 30 < length_with j body → TellsFull j new body result)
+          → OnOk result (IsLibraryOf lib.all scripts now) → (told : IsTrue tells) → (old_notes new_notes : FileNotes) → KnowsRead view shelf j old_notes → OnOk result (NotesRenewed scripts old_notes new_notes) → OnOk result (KnowsRead view shelf new new_notes)
+      other_known (Err e) short full has told old_notes new_notes known more = tt
+      other_known (Ok done) short full has told old_notes new_notes known more =
+          let fits : length_with j body ≤ 2 ^ 30 = ⊎_elim (λ t. t.1) (λ t. absurd (let no : ⊥ = cc ((full t.1).told) in no)) (leb_tells (length_with j body) (2 ^ 30)) in
+          let t = short fits in
+          renewed_known new new_is now has told (t.added told).0 (t.added told).1 t.len old_notes new_notes known more t.bytes
 
       full_here : 2 ^ 30 < length_with j body → Opens view tells scripts shelf j j (Err (fault.Full (length_with j body)))
       full_here long = record {
@@ -345,7 +381,7 @@ module _ {D : Type 0} (view : D → View) (tells : Bool) (scripts : List Named) 
       short_own : (result : Result (Unit {0}) BeginFault) → TellsSetup view tells j new body result → OnOk result (IsLibraryOf lib.all scripts now)
           → (told : IsTrue tells) → HasOwnRecords view shelf j → HasItsStates lib.all b → IfOk (with_book b now result) (OpensOwn view shelf new)
       short_own (Ok done) t has told own states =
-          record { records = subst (AreOwn texts shelf) (sym (t.added told).1) (own_more told own); states = renewed_states new now has states }
+          record { records = subst (AreOwn texts shelf) (sym (t.added told).1) (own_more told own); states = renewed_states new new_is now has states }
       short_own (Err e) t has told own states = tt
 
       pub other_own : (result : Result (Unit {0}) BeginFault) → (length_with j body ≤ 2 ^ 30 → TellsSetup view tells j new body result) → (2 ^ 30 < length_with j body → TellsFull j new body result)

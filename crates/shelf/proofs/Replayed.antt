@@ -1,5 +1,5 @@
 -- The segment of a ticket is that of its visit.
-use Rattle.std.proofs.Common.{◌≡◌, ◌∙◌, ap, sym, subst, ℕ, List, [], length, map, Option, Some, None, IfSome, Result, Ok, Err, IfOk, slice_get, refl}
+use Rattle.std.proofs.Common.{◌≡◌, ◌∙◌, ap, sym, subst, ℕ, List, length, map, Option, Some, None, IfSome, Result, Ok, Err, IfOk, slice_get, refl}
 use Rattle.std.proofs.lemmas.Option.{same_Some}
 use Rattle.std.specs.declared.alloc.AllocError.{AllocError}
 use Rattle.script_value.specs.Val.{Val}
@@ -11,26 +11,23 @@ use Rattle.script_nodes.specs.Setup.{Named, Library, Script, trees_of}
 use Rattle.script_value.specs.declared.outcome.TxName.{TxName}
 use Rattle.page_names.specs.Names.{Destination, start, page}
 use Rattle.page_names.specs.declared.names.PageName.{PageName}
-use Rattle.instance_cells.specs.Cells.{Effect, AreOn, reads_of}
+use Rattle.instance_cells.specs.Cells.{Effect, AreOn}
 use Rattle.instance_cells.specs.Views.{effect_of}
-use Rattle.replay_spec.specs.Tape.{Reads, recorded, present, Answer, Tape}
+use Rattle.replay_spec.specs.Tape.{present, Answer}
 use Rattle.replay_spec.specs.Eval as eval
-use Rattle.replay_spec.specs.Eval.{run}
-use Rattle.replay_spec.specs.Book.{Page}
-use Rattle.replay_spec.specs.Next.{Visit, home_of, tape_of, tape_for, page_tape, comes_to}
+use Rattle.replay_spec.specs.Next.{Visit, tape_for}
 use Rattle.replay_spec.specs.Next as next
-use Rattle.replay_spec.specs.Laws.{EffectsAreOnCells, longer}
-use Rattle.replay_spec.proofs.Decided.{tape_longer}
+use Rattle.replay_spec.specs.Laws.{EffectsAreOnCells}
 use Rattle.machine_states.specs.Machine.{Suspended, inside_of}
 use Rattle.machine_states.specs.Fits.{Fits}
 use Rattle.machine_states.specs.Laws.{IsStateOf}
-use Rattle.machine_states.specs.Views.{suspended_of, origin_of, Keeps, segment_of}
+use Rattle.machine_states.specs.Views.{suspended_of, origin_of, Keeps}
 use Rattle.machine_states.specs.declared.segment.Origin.{Origin}
 use Rattle.machine_states.specs.declared.segment.Origin.TheVariants as origin
 use Rattle.machine_states.specs.declared.segment.Outcome.{Outcome}
 use Rattle.machine_states.specs.declared.segment.Outcome.TheVariants.{Shown, Finished, Ended, Faulted, Fuel}
 use Rattle.machine_states.specs.declared.segment.Segment.{Segment}
-use Rattle.send_suspend.specs.Segments.{newest, FitsFrom, IsLastOver, Replays, bindings_in, AreBindings, IsConsistent}
+use Rattle.send_suspend.specs.Segments.{newest, FitsFrom, Replays, bindings_in, AreBindings, IsConsistent}
 use Rattle.book_visits.specs.declared.ticket.Ticket.{Ticket}
 use Rattle.book_visits.specs.Views.{ticket_of}
 use Rattle.script_nodes.proofs.Scripts.{arena_again}
@@ -38,9 +35,10 @@ use Rattle.instance_book.specs.Places.{arena_of}
 use Rattle.instance_book.specs.declared.book.Book as kept
 use Rattle.instance_book.specs.Swept.{cells_at}
 use Rattle.book_visits.specs.Prepares.{HasItsScript, AreOnBy}
-use Rattle.book_visits.specs.Fits.{GoesOnFrom, IsFor, IsRunnable}
+use Rattle.book_visits.specs.Fits.{IsFor, IsRunnable}
 use Rattle.instance_book.specs.Fits.{FitsScript, IsStoredScript}
-use Rattle.book_visits.specs.Laws.{KeepsStateOver}
+use Rattle.visit_runs.specs.Likes.{IsLike}
+use Rattle.visit_runs.proofs.Visits.{runs_from}
 use Rattle.shelf.specs.Runs.{IsRunFrom, IsRunOver, IsRunAs}
 use Rattle.shelf.specs.Holding.{AreHeld, AreHeldBy, IsWhole, ShowsWholeFrom}
 
@@ -89,35 +87,6 @@ run_alike t o a b fuel cells (Ok r) from same replays consistent fits =
       consistent = consistent_alike o t.from a cells r from consistent;
       fits = fits;
     })
-
--- a segment is that of a visit over these cells, its state is kept over the visit's tape, and its page is inside what the state is
-pub record IsLike (v : Visit) (cells : List Val) (fuel : ℕ) (r : Segment) : Type 0 where
-  pub comes : segment_of r ≡ comes_to v (present cells fuel)
-  pub state : KeepsStateOver v r
-  pub inside : Keeps r.outcome (λ d. inside_of d.frames ≡ r.entered.items)
-
-over_tape : (v : Visit) (a : Arena) (cells : List Val) (fuel : ℕ) (r : Segment) (tape : Reads → Tape) → v.script.script ≡ script_of a
-    → a ≡ arena_of v.script.script → ((reads : Reads) → tape reads ≡ tape_for v reads) → IsLastOver a r tape (present cells fuel)
-    → IsLike v cells fuel r
-over_tape v a cells fuel r tape e same is last =
-    let read : Reads = recorded (reads_of (map effect_of r.effects.items)) in
-    record {
-      comes = last.0.0 ∙ (ap (λ (t : Tape). run (script_of a) t) (is (present cells fuel)) ∙ ap (λ (s : Script). run s (tape_for v (present cells fuel))) (sym e));
-      state = subst (λ (t : Tape). Keeps r.outcome (λ d. IsStateOf (arena_of v.script.script) t d)) (is read)
-          (subst (λ (b : Arena). Keeps r.outcome (λ d. IsStateOf b (tape read) d)) same last.1.1);
-      inside = subst (λ (s : eval.Segment). Keeps r.outcome (λ d. inside_of d.frames ≡ s.entered)) (sym last.0.0) last.0.1;
-    }
-
-runs_from : (v : Visit) (a : Arena) (cells : List Val) (fuel : ℕ) (r : Segment) → v.script.script ≡ script_of a → a ≡ arena_of v.script.script
-    → (o : Origin) → GoesOnFrom v (origin_of o) → Replays o a (next.newest v (present cells fuel)) r → IsLike v cells fuel r
-runs_from v a cells fuel r e same origin.Start goes replays =
-    over_tape v a cells fuel r (λ reads. tape_of (home_of v) [] (next.newest v reads)) e same
-    (λ reads. ap (λ (ps : List Page). tape_of (home_of v) ps (next.newest v reads)) (sym goes)) replays
-runs_from v a cells fuel r e same (origin.Page d) goes replays =
-    let t = page_tape (home_of v) goes.ancestors goes.page in
-    over_tape v a cells fuel r (λ reads. longer (next.newest v reads) t) e same
-    (λ reads. sym (ap (λ (ps : List Page). tape_of (home_of v) ps (next.newest v reads)) goes.chain ∙ tape_longer (home_of v) goes.ancestors goes.page (next.newest v reads)))
-    (replays t (subst (λ (b : Arena). IsStateOf b t (suspended_of d)) (sym same) goes.state))
 
 -- the answer of a ticket that is for a visit is the visit's
 answer_is : (scripts : List Named) (t : Ticket) (v : Visit) (cells : List Val) (fuel : ℕ) → v.ticket ≡ ticket_of t → IsFor scripts t v

@@ -2,7 +2,7 @@
 use Rattle.std.proofs.Common.{◌≡◌, ◌∙◌, ap, sym, subst, refl, ℕ, ◌+◌, ◌≤◌, ◌^◌, ◌++◌, ◌∷◌, [], Bool, IsTrue, false, List, length, Option, Some, None, option_map}
 use Rattle.setup_reader.specs.Texts.{IsReadSetup, setup_of_texts as texts}
 use Rattle.web_disk.specs.View.{View, LeavesOnly}
-use Rattle.page_journal.specs.Records.{stored}
+use Rattle.page_journal.specs.Records.{newest, stored}
 use Rattle.page_journal.specs.Holding.{MayHold}
 use Rattle.page_journal.specs.Settled as journal
 use Rattle.page_journal.specs.Settled.{IsSettled, view_of, bodies_in, length_of, is_broken}
@@ -38,7 +38,10 @@ use Rattle.shelf.specs.declared.rules.Rules as limits_of
 use Rattle.shelf.specs.declared.shelf.Shelf.{Shelf}
 use Rattle.shelf.specs.Ranges.{AreInRange}
 use Rattle.shelf.specs.declared.doubt.Doubt as doubt_type
-use Rattle.shelf.specs.Files.{file_of}
+use Rattle.file_notes.specs.declared.notes.FileNotes.{FileNotes}
+use Rattle.file_notes.specs.Files.{file_in, IsNoted, StaysAsTold}
+use Rattle.shelf.specs.Files.{KnowsFile}
+use Rattle.shelf.proofs.Known.{known_quiet, known_doubted, may_newest}
 use Rattle.shelf.specs.Views.{rules_of, doubt_of, library_in, book_in, TellsStates, IsInOrder, IsOwnShelf}
 use Rattle.book_recovery.specs.Found.{HasToldStates}
 use Rattle.shelf.specs.Owning.{StandsOwn}
@@ -76,12 +79,13 @@ module _ {D N : Type 0} (view : D → View) (tells : Bool) (s t : Shelf D N) (to
     still_up : t.down ≡ None → s.down ≡ None
     still_up up = not_doubted s.down (down ∙ (ap (λ (b : Book). b.down) (sym is) ∙ ap (λ (o : Option doubt_type.Doubt). option_map doubt_of o) up))
 
-    pub quiet_order : HasWholeScripts d → (t.down ≡ None → is_broken t.journal ≡ false) → IsInOrder view tells t
-    quiet_order scripts whole = order_behind view tells s t event fate x d order lawful tick some scripts is told_same limits stepped (record {
+    pub quiet_order : HasWholeScripts d → (t.down ≡ None → is_broken t.journal ≡ false) → IsNoted t.notes → StaysAsTold s.notes t.notes → IsInOrder view tells t
+    quiet_order scripts whole noted stays = order_behind view tells s t event fate x d order lawful tick some scripts is told_same limits stepped (record {
       sound = sound;
       whole = whole;
       fit = λ told. quiet_fit view tells s.rules.number (rules_of s.rules) (book_in view s) event fate s.journal refl appends gives tells_none lawful events d there none same down t.journal call told (order.fit told);
       told = λ told up m made_there. stay m.earlier.states (order.told told (still_up up) m (ap (λ (bs : List (List ℕ)). made_in (make.book_of texts s.rules.number bs)) (sym (ap stored call.seen)) ∙ made_there));
+      knows = known_quiet view tells s.rules.number s.journal t.journal (s.down ≡ None) (t.down ≡ None) s.notes t.notes order.knows call stays noted still_up;
     })
 
     pub quiet_run : IsTrue tells → OnlyNow (view s.journal.disk) → HasMoments view s t
@@ -121,7 +125,7 @@ module _ {D N : Type 0} (view : D → View) (tells : Bool) (s t : Shelf D N) (or
     (stepped : step.step (rules_of s.rules) (book_in view s) 0 event fate ≡ (x, d)) (appends : IsAppending event) (gives : Gives texts event) (setup : KeepsSetup event (book_in view s)) (tells_none : told_bodies event (book_in view s) ≡ []) (lawful : IsLawful event (book_in view s)) (events : EventsAreKept)
     (up : s.down ≡ None) (c : Change) (spelled : CanBeWritten (book_in view s) c) (room : length_of s.journal + 5 + length (own_body (book_in view s) c) ≤ 2 ^ 30)
     (before : (told : IsTrue tells) → IsOwnBefore ((order.fit told).holds (ap (λ (o : Option doubt_type.Doubt). option_map doubt_of o) up)).earlier (book_in view s) (Some c)) (mid : Journal D) (call : IsQuietCall view tells s.journal mid)
-    (run : IsTrue tells → LeavesOnly (view_of view mid) (view_of view t.journal) (MayHold (bodies_in view mid) (own_body (book_in view s) c))) (counts : CountsNow (view t.journal.disk)) where
+    (run : IsTrue tells → LeavesOnly (view_of view mid) (view_of view t.journal) (MayHold newest (bodies_in view mid) (own_body (book_in view s) c))) (counts : CountsNow (view t.journal.disk)) where
   abbrev b : Book
   b = book_in view s
 
@@ -144,7 +148,7 @@ module _ {D N : Type 0} (view : D → View) (tells : Bool) (s t : Shelf D N) (or
       let n = length (own_body b c) in (
         n,
         subst (λ (y : Book). Throughout texts s.rules.number b (if_kept n y) (view s.journal.disk) (view t.journal.disk)) (sym is)
-            (recorded_moments view tells s.rules.number rules b event s.journal refl appends gives setup tells_none lawful events none_down c spelled room (order.fit told) (before told) mid t.journal call (run told) counts fate d then_there stake between only_now),
+            (recorded_moments view tells s.rules.number rules b event s.journal order.knows.newest_is refl appends gives setup tells_none lawful events none_down c spelled room (order.fit told) (before told) mid t.journal call (run told) counts fate d then_there stake between only_now),
       )
 
   -- at each moment an own one was so
@@ -155,50 +159,52 @@ module _ {D N : Type 0} (view : D → View) (tells : Bool) (s t : Shelf D N) (or
       let v = view s.journal.disk in
       let w = view t.journal.disk in
       record {
-        own = own_run view tells n rules b event s.journal refl appends gives setup tells_none lawful events none_down c spelled room (order.fit told) (before told) mid t.journal call (run told) counts f landed only_now reads (own.own told).images;
+        own = own_run view tells n rules b event s.journal order.knows.newest_is refl appends gives setup tells_none lawful events none_down c spelled room (order.fit told) (before told) mid t.journal call (run told) counts f landed only_now reads (own.own told).images;
         measured = subst (λ (y : Book). (m : ℕ) × Throughout texts n b (if_kept m y) v w × MeasuresDoubt rules m y) (sym is)
-            (measured_moments view tells n rules b event s.journal refl appends gives setup tells_none lawful events none_down c spelled room (order.fit told) (before told) mid t.journal call (run told) counts fate d then_there stake between only_now);
+            (measured_moments view tells n rules b event s.journal order.knows.newest_is refl appends gives setup tells_none lawful events none_down c spelled room (order.fit told) (before told) mid t.journal call (run told) counts fate d then_there stake between only_now);
       }
 
   module _ (some : HasSomeStates (library_in s).all s.book → HasSomeStates (library_in t).all t.book) (scripts : HasWholeScripts d) (sound : journal.IsSound t.journal) (tick : GivesTick event) where
     pub added_order : lands rules b event fate ≡ Some c → d.down ≡ None → is_broken t.journal ≡ false
         → (IsTrue tells → IsSettled view t.journal × (bodies_in view t.journal ≡ bodies_in view mid ++ own_body b c ∷ []))
-        → (IsTrue tells → (m : Made) → made_in (make.book_of texts s.rules.number (bodies_in view s.journal ++ own_body b c ∷ [])) ≡ Some m → HasToldStates (library_in t).all m.earlier.states t.book) → IsInOrder view tells t
-    added_order landed still whole added says = order_behind view tells s t event fate x d order lawful tick some scripts is told_same limits stepped (record {
+        → (IsTrue tells → (m : Made) → made_in (make.book_of texts s.rules.number (bodies_in view s.journal ++ own_body b c ∷ [])) ≡ Some m → HasToldStates (library_in t).all m.earlier.states t.book) → KnowsFile view tells s.rules.number t.journal (t.down ≡ None) t.notes → IsInOrder view tells t
+    added_order landed still whole added says knows = order_behind view tells s t event fate x d order lawful tick some scripts is told_same limits stepped (record {
       sound = sound;
       whole = λ _. whole;
-      fit = λ told. added_fit view tells s.rules.number rules b event s.journal refl appends gives setup tells_none lawful events none_down c spelled room (order.fit told) (before told) mid t.journal call fate d then_there landed still (added told).0 (added told).1;
+      fit = λ told. added_fit view tells s.rules.number rules b event s.journal order.knows.newest_is refl appends gives setup tells_none lawful events none_down c spelled room (order.fit told) (before told) mid t.journal knows.newest_is call fate d then_there landed still (added told).0 (added told).1;
+      knows = knows;
       told = λ told _ m made_there. says told m
           (ap (λ (bs : List (List ℕ)). made_in (make.book_of texts s.rules.number bs)) (ap (λ (bs : List (List ℕ)). bs ++ own_body b c ∷ []) (sym (ap stored call.seen)) ∙ sym (added told).1) ∙ made_there);
     })
 
-    pub doubted_order : EventsStandBetween → OnlyNow (view s.journal.disk) → stake_of rules b 0 event fate ≡ Some c → (d.down ≡ None → ⊥) → (t.down ≡ None → ⊥) → reopened b ≡ reopened d → IsInOrder view tells t
-    doubted_order between only_now stake in_doubt in_doubt_there same = order_behind view tells s t event fate x d order lawful tick some scripts is told_same limits stepped (record {
+    pub doubted_order : EventsStandBetween → OnlyNow (view s.journal.disk) → stake_of rules b 0 event fate ≡ Some c → (d.down ≡ None → ⊥) → (t.down ≡ None → ⊥) → reopened b ≡ reopened d → t.journal.format ≡ newest → IsNoted t.notes → IsInOrder view tells t
+    doubted_order between only_now stake in_doubt in_doubt_there same now noted = order_behind view tells s t event fate x d order lawful tick some scripts is told_same limits stepped (record {
       sound = sound;
       whole = λ none. absurd (in_doubt_there none);
-      fit = λ told. doubted_fit view tells s.rules.number rules b event s.journal refl appends gives setup tells_none lawful events none_down c spelled room (order.fit told) (before told) mid t.journal call (run told) counts fate d then_there stake between only_now in_doubt same;
+      fit = λ told. doubted_fit view tells s.rules.number rules b event s.journal order.knows.newest_is refl appends gives setup tells_none lawful events none_down c spelled room (order.fit told) (before told) mid t.journal call (run told) counts fate d then_there stake between only_now in_doubt same;
       told = λ told none. absurd (in_doubt_there none);
+      knows = known_doubted view tells s.rules.number t.journal (t.down ≡ None) t.notes now noted (λ told. may_newest (view_of view mid) (view_of view t.journal) (bodies_in view mid) (own_body (book_in view s) c) counts (run told)) in_doubt_there;
     })
 
   -- an own one goes on to be
   module _ (states : HasItsStates (library_in s).all s.book → HasItsStates (library_in t).all t.book) (reads : IsTrue tells → (view s.journal.disk).images (view s.journal.disk).seen) (own : IsOwnShelf view tells s) where
-    pub added_own : lands rules b event fate ≡ Some c → d.down ≡ None → (IsTrue tells → IsSettled view t.journal × (bodies_in view t.journal ≡ bodies_in view mid ++ own_body b c ∷ [])) → IsOwnShelf view tells t
-    added_own landed still added = record {
+    pub added_own : t.journal.format ≡ newest → lands rules b event fate ≡ Some c → d.down ≡ None → (IsTrue tells → IsSettled view t.journal × (bodies_in view t.journal ≡ bodies_in view mid ++ own_body b c ∷ [])) → IsOwnShelf view tells t
+    added_own now landed still added = record {
       states = states own.states;
-      own = λ told. own_there told (recorded.added_own view tells s.rules.number rules b event s.journal refl appends gives setup tells_none lawful events none_down c spelled room (order.fit told) (before told) mid t.journal call fate d then_there landed still (added told).0 (added told).1
-          (own_images view tells s.rules.number rules b event s.journal refl appends gives setup tells_none lawful events none_down c spelled room (order.fit told) (before told) mid t.journal call (run told) counts fate landed (reads told) (own.own told).images));
+      own = λ told. own_there told (recorded.added_own view tells s.rules.number rules b event s.journal order.knows.newest_is refl appends gives setup tells_none lawful events none_down c spelled room (order.fit told) (before told) mid t.journal now call fate d then_there landed still (added told).0 (added told).1
+          (own_images view tells s.rules.number rules b event s.journal order.knows.newest_is refl appends gives setup tells_none lawful events none_down c spelled room (order.fit told) (before told) mid t.journal call (run told) counts fate landed (reads told) (own.own told).images));
     }
 
     pub doubted_own : EventsStandBetween → OnlyNow (view s.journal.disk) → stake_of rules b 0 event fate ≡ Some c → reopened b ≡ reopened d → (f : step.Fate) → lands rules b event f ≡ Some c → IsOwnShelf view tells t
     doubted_own between only_now stake same f landed = record {
       states = states own.states;
-      own = λ told. own_there told (recorded.doubted_own view tells s.rules.number rules b event s.journal refl appends gives setup tells_none lawful events none_down c spelled room (order.fit told) (before told) mid t.journal call (run told) counts fate d then_there stake between only_now same f landed (reads told) (own.own told).images);
+      own = λ told. own_there told (recorded.doubted_own view tells s.rules.number rules b event s.journal order.knows.newest_is refl appends gives setup tells_none lawful events none_down c spelled room (order.fit told) (before told) mid t.journal call (run told) counts fate d then_there stake between only_now same f landed (reads told) (own.own told).images);
     }
 
 -- a shelf whose book alone was made anew, the same
-pub same_order : {D N : Type 0} (view : D → View) (tells : Bool) (s t : Shelf D N) → IsInOrder view tells s → book_in view t ≡ book_in view s → HasSomeStates (library_in t).all t.book → StayTold s t → t.journal ≡ s.journal → t.down ≡ s.down → t.library ≡ s.library
+pub same_order : {D N : Type 0} (view : D → View) (tells : Bool) (s t : Shelf D N) → IsInOrder view tells s → book_in view t ≡ book_in view s → HasSomeStates (library_in t).all t.book → StayTold s t → t.journal ≡ s.journal → t.notes ≡ s.notes → t.down ≡ s.down → t.library ≡ s.library
     → t.rules ≡ s.rules → IsInOrder view tells t
-same_order view tells s t order is some stay journal_same down told_same limits = record {
+same_order view tells s t order is some stay journal_same notes_same down told_same limits = record {
   placed = places_of (library_in t).all t.book some;
   kept = some;
   orderly = subst IsOrderly (sym is) order.orderly;
@@ -214,10 +220,14 @@ same_order view tells s t order is some stay journal_same down told_same limits 
       (subst (λ (j : Journal _). IsFit view texts s.rules.number j (book_in view s)) (sym journal_same) (order.fit told)));
   told = λ told up. subst (λ (l : limits_of.Rules). TellsStates view (library_in t).all l.number t.journal t.book) (sym limits)
       (subst (λ (j : Journal _). TellsStates view (library_in t).all s.rules.number j t.book) (sym journal_same) (λ m made_there. stay m.earlier.states (order.told told (sym down ∙ up) m made_there)));
+  knows = subst (λ (l : limits_of.Rules). KnowsFile view tells l.number t.journal (t.down ≡ None) t.notes) (sym limits)
+      (subst (λ (j : Journal _). KnowsFile view tells s.rules.number j (t.down ≡ None) t.notes) (sym journal_same)
+      (subst (λ (n : FileNotes). KnowsFile view tells s.rules.number s.journal (t.down ≡ None) n) (sym notes_same)
+      (subst (λ (o : Option doubt_type.Doubt). KnowsFile view tells s.rules.number s.journal (o ≡ None) s.notes) (sym down) order.knows)));
 }
 
 -- what holds of the book beside the journal holds of a shelf's book where nothing is in doubt
 pub at_up : {D N : Type 0} (view : D → View) (s : Shelf D N) (P : Book → Type 0) → s.down ≡ None
-    → P (book_of (library_in s) (record { length = length_of s.journal; file = file_of view s.file; down = None }) s.book) → P (book_in view s)
+    → P (book_of (library_in s) (record { length = length_of s.journal; file = file_in s.notes; down = None }) s.book) → P (book_in view s)
 at_up view s P up h =
-    subst (λ (o : Option doubt_type.Doubt). P (book_of (library_in s) (record { length = length_of s.journal; file = file_of view s.file; down = option_map doubt_of o }) s.book)) (sym up) h
+    subst (λ (o : Option doubt_type.Doubt). P (book_of (library_in s) (record { length = length_of s.journal; file = file_in s.notes; down = option_map doubt_of o }) s.book)) (sym up) h

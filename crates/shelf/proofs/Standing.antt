@@ -2,7 +2,7 @@
 use Rattle.std.proofs.Common.{◌≡◌, ℕ, ◌≤◌, Bool, List, [], ◌++◌, Option, None, IsTrue, inl, refl, sym, ◌∙◌, ap, subst, arith}
 use Rattle.std.proofs.lemmas.List.{append-nil}
 use Rattle.setup_reader.specs.Texts.{setup_of_texts as texts}
-use Rattle.web_disk.specs.View.{View, NoNewImage, Elapses, LeavesOnly}
+use Rattle.web_disk.specs.View.{View, NoNewImage, Elapses}
 use Rattle.page_journal.specs.Records.{stored}
 use Rattle.page_journal.specs.Settled.{IsSettled, view_of, bodies_in}
 use Rattle.page_journal.specs.declared.journal.Journal.{Journal}
@@ -11,14 +11,14 @@ use Rattle.replay_spec.specs.Rules.{Rules}
 use Rattle.replay_spec.specs.Step.{Event, Fate, kept, recovered, step}
 use Rattle.replay_spec.specs.Runs.{lands}
 use Rattle.replay_spec.specs.Laws.{IsLawful}
-use Rattle.journal_spec.specs.Standing.{Between, Hold, HoldIn, if_kept, Stands, Throughout}
+use Rattle.journal_spec.specs.Standing.{Between, Held, HoldIn, if_kept, Stands, Throughout}
 use Rattle.journal_spec.specs.Keeping.{AreOver, IsAppending, Keeps, KeepsDoubt, IsOwnDoubt, KeepsWith, landed_bodies, told_bodies, IsWritable}
 use Rattle.journal_spec.specs.Events.{Gives}
 use Rattle.journal_spec.specs.Disks.{IsFit}
 use Rattle.journal_spec.specs.Laws.{MeasuresDoubt, EventsAreKept}
 use Rattle.journal_spec.specs.Owning.{IsOwnBefore}
 use Rattle.journal_spec.proofs.Between.{kept_alike, stand_alike}
-use Rattle.journal_spec.proofs.Standings.{stays_then, stands_then}
+use Rattle.journal_spec.proofs.Standings.{any_less, carried, stays_then, stands_then}
 use Rattle.shelf.specs.Owning.{StandsMeasured, StandsOwn}
 
 abbrev pub OnlyNow : View → Type 0
@@ -30,6 +30,7 @@ CountsNow v = (t : ℕ) (image : List ℕ) → t ≤ v.moment → v.images image
 -- no call was made, or one that leaves no new image: the journal has the same records, and can go on where it could
 pub record IsQuietCall {D : Type 0} (view : D → View) (tells : Bool) (old new : Journal D) : Type 0 where
   pub settled : IsTrue tells → IsSettled view old → IsSettled view new
+  pub format : new.format ≡ old.format
   pub seen : (view_of view new).seen ≡ (view_of view old).seen
   pub images : NoNewImage (view_of view old) (view_of view new)
   pub time : Elapses (view_of view old) (view_of view new)
@@ -38,7 +39,7 @@ no_time : (v : View) → Elapses v v
 no_time v = record { later = omega arith; nothing_else = λ t image le left. inl left; keeps = λ t image le left. left; faults = omega arith }
 
 pub no_call : {D : Type 0} (view : D → View) (tells : Bool) (j : Journal D) → IsQuietCall view tells j j
-no_call view tells j = record { settled = λ told s. s; seen = refl; images = λ image left. left; time = no_time (view_of view j) }
+no_call view tells j = record { settled = λ told s. s; format = refl; seen = refl; images = λ image left. left; time = no_time (view_of view j) }
 
 pub no_call_on : {D : Type 0} (view : D → View) (tells : Bool) (old new : Journal D) → new ≡ old → IsQuietCall view tells old new
 no_call_on view tells old new same = subst (λ (j : Journal _). IsQuietCall view tells old j) (sym same) (no_call view tells old)
@@ -48,7 +49,7 @@ held_alike : (shelf : ℕ) (a b c d : Book) (images : List ℕ → Type 0) → r
     → (l : Between texts shelf c d) × HoldIn l images
 held_alike shelf a b c d images first second k held =
     let l = (stand_alike texts shelf).1 a b c d first second k in
-    (l.0, λ image left. subst (λ (bs : List (List ℕ)). Hold bs l.0.more image) (sym l.1) (subst (λ (o : Option (List ℕ)). Hold k.bodies o image) (sym l.2) (held image left)))
+    (l.0, λ image left. carried k.format k.bodies k.flight l.0 l.1 image (held image left))
 
 stands_alike : (shelf : ℕ) (v : View) (b c : Book) → reopened b ≡ reopened c → b.down ≡ c.down → Stands texts shelf v b → Stands texts shelf v c
 stands_alike shelf v b c same down s =
@@ -57,8 +58,7 @@ stands_alike shelf v b c same down s =
 pub throughout_alike : (shelf : ℕ) (a b c : Book) (old new : View) → reopened b ≡ reopened c → Throughout texts shelf a b old new → Throughout texts shelf a c old new
 throughout_alike shelf a b c old new same (k, run) =
     let l = (stand_alike texts shelf).1 a b a c refl same k in
-    let P : List (List ℕ) → Option (List ℕ) → Type 0 = λ bs o. LeavesOnly old new (Hold bs o) in
-    (l.0, subst (λ (bs : List (List ℕ)). P bs l.0.more) (sym l.1) (subst (P k.bodies) (sym l.2) run))
+    (l.0, any_less old new (Held k) (Held l.0) (λ image held. carried k.format k.bodies k.flight l.0 l.1 image held) run)
 
 -- where nothing is in doubt, all that is kept is kept with it
 abbrev pub nothing_doubted : (shelf : ℕ) (bodies : List (List ℕ)) (b : Book) → b.down ≡ None → Keeps texts shelf bodies b → KeepsDoubt texts shelf bodies b

@@ -1,16 +1,19 @@
 -- What the events of a shelf come to.
-use Rattle.std.proofs.Common.{◌≡◌, ◌∙◌, ap, refl, ℕ, ◌^◌, ◌==◌, nat_le, true, false, List, [], Option, Some, None}
+use Rattle.std.proofs.Common.{◌≡◌, ◌∙◌, ap, refl, ℕ, ◌^◌, ◌<◌, ◌≤◌, ◌==◌, nat_le, arith, Bool, true, false, List, [], Option, Some, None}
+use Rattle.std.specs.Prelude.{nat_lt}
+use Rattle.std.proofs.lemmas.Bool.Decides.{nat_tests}
 use Rattle.script_value.specs.Val.{Val}
 use Rattle.script_value.specs.declared.outcome.Refusal.{Refusal}
 use Rattle.script_value.specs.declared.outcome.TxName.{TxName}
 use Rattle.page_names.specs.Names.{Destination}
-use Rattle.replay_spec.specs.Book.{Change, sweeps, landing, Doubt, Book, draw, spend}
+use Rattle.replay_spec.specs.Book.{Change, sweeps, landing, compacting, Doubt, Book, draw, spend}
+use Rattle.replay_spec.specs.Compaction.{compaction, file_length, rewritten}
 use Rattle.replay_spec.specs.Change.{land}
 use Rattle.replay_spec.specs.Rules.{Rules}
 use Rattle.replay_spec.specs.Admission.{when, or_else, refusal_of, admit}
 use Rattle.replay_spec.specs.Next as next
 use Rattle.replay_spec.specs.Step as step
-use Rattle.replay_spec.specs.Step.{replies, records, unless, decide, settle, publish_comes, sweep_comes, freed, plain, no_memory, disk_fault}
+use Rattle.replay_spec.specs.Step.{Decision, replies, records, compacts, unless, decide, settle, publish_comes, sweep_comes, freed, plain, no_memory, disk_fault}
 use Rattle.replay_spec.specs.Runs.{lands, recorded_under}
 use Rattle.replay_spec.specs.Remade.{through}
 use Rattle.replay_spec.proofs.Last.{last}
@@ -150,6 +153,50 @@ module _ (r : limits_of.Rules) (b : Book) where
           step = λ nonce. rw late (ap (settle over b (disk_fault count)) recorded);
           landed = rw late refl;
         }
+
+  -- a compaction
+  told_compact : (x : step.Reply) → step.compact_comes over b ≡ replies x → Comes over b step.compact (fate_by x) x b None
+  unfolding step.step
+  told_compact x is = record {
+    step = λ nonce. ap (settle over b (fate_by x)) is ∙ (told over b x).settled;
+    landed = refl;
+  }
+
+  pub down_compact : (d : Doubt) → b.down ≡ Some d → Comes over b step.compact plain (step.down d.count) b None
+  down_compact d is = told_compact (step.down d.count) (ap (λ (o : Option Doubt). unless (step.down_by o) (step.decide_compact over b)) is)
+
+  pub wanting_compact : Comes over b step.compact no_memory step.memory b None
+  unfolding step.step
+  wanting_compact = record { step = λ nonce. refl; landed = refl }
+
+  module _ (up : b.down ≡ None) where
+    abbrev pub compacted : ℕ
+    compacted = file_length (compaction b)
+
+    abbrev too_far : Option step.Reply → Decision
+    too_far o = unless o (compacts (step.compacted compacted))
+
+    compact_decided : step.compact_comes over b ≡ too_far (when (nat_lt step.most_of_journal compacted) (step.journal_full compacted))
+    compact_decided = ap (λ (o : Option Doubt). unless (step.down_by o) (step.decide_compact over b)) up
+
+    pub full_compact : 2 ^ 30 < compacted → Comes over b step.compact plain (step.journal_full compacted) b None
+    full_compact long =
+        let so : nat_lt step.most_of_journal compacted ≡ true = grind (arith, nat_tests, long) in
+        told_compact (step.journal_full compacted) (compact_decided ∙ ap (λ (t : Bool). too_far (when t (step.journal_full compacted))) so)
+
+    module _ (short : compacted ≤ 2 ^ 30) where
+      rewriting : step.compact_comes over b ≡ compacts (step.compacted compacted)
+      rewriting =
+          let so : nat_lt step.most_of_journal compacted ≡ false = grind (arith, nat_tests, short) in
+          compact_decided ∙ ap (λ (t : Bool). too_far (when t (step.journal_full compacted))) so
+
+      pub rewritten_compact : Comes over b step.compact plain (step.compacted compacted) (rewritten over b) None
+      unfolding step.step
+      rewritten_compact = record { step = λ nonce. ap (settle over b plain) rewriting; landed = refl }
+
+      pub doubted_compact : (count : ℕ) → Comes over b step.compact (disk_fault count) (step.disk_failed count) (step.doubting count compacting b) None
+      unfolding step.step
+      doubted_compact count = record { step = λ nonce. ap (settle over b (disk_fault count)) rewriting; landed = refl }
 
   -- the takes
   pub no_take : (target : Destination) (answer : Val) (x : step.Reply) → step.no_take b target ≡ Some x → fate_by x ≡ plain → Comes over b (step.take target answer) (fate_by x) x b None

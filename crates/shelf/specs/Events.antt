@@ -17,7 +17,7 @@ use Rattle.shelf.specs.Owning.{StaysOwnThroughout}
 use Rattle.replay_spec.specs.Book as spec
 use Rattle.replay_spec.specs.Admission.{or_else, refusal_of, admit}
 use Rattle.replay_spec.specs.Step as step
-use Rattle.replay_spec.specs.Step.{Decision, replies, records, compacts, take, publish, sweep, down_by, refused_by, no_take, publish_comes}
+use Rattle.replay_spec.specs.Step.{Decision, replies, records, compacts, take, publish, sweep, compact, down_by, refused_by, no_take, publish_comes}
 use Rattle.book_visits.specs.declared.ticket.Ticket.{Ticket}
 use Rattle.book_visits.specs.declared.prepared.Prepared.{Prepared}
 use Rattle.instance_book.specs.declared.change.Change.{Change}
@@ -26,7 +26,7 @@ use Rattle.instance_book.specs.Views.{instances_of}
 use Rattle.book_visits.specs.Views.{ticket_of, ticket_for, reply_of}
 use Rattle.book_visits.specs.Prepares.{IsCarriedOut}
 use Rattle.shelf.specs.declared.shelf.Shelf.{Shelf}
-use Rattle.shelf.specs.Views.{unmeasured, rules_of, library_in, book_in, taken_of, swept_of, IsEvent, HoldNow}
+use Rattle.shelf.specs.Views.{unmeasured, rules_of, library_in, book_in, taken_of, swept_of, compacted_of, IsEvent, HoldNow}
 
 -- a take is one event
 abbrev pub IsTake : {D N : Type 0} → (D → View) → (coming : N → ℕ → ℕ) → (old new : Shelf D N) → Target → Value → Result Ticket Reply → Type 0
@@ -95,6 +95,10 @@ SpendsOnly view old new t result = result ≡ reply.Memory → book_in view new 
 abbrev pub IsSweep : {D N : Type 0} → (D → View) → (coming : N → ℕ → ℕ) → (old new : Shelf D N) → (tick : ℕ) → Result ℕ Reply → Type 0
 IsSweep view coming old new tick result = IsEvent view coming old new (sweep tick) (swept_of result)
 
+-- a compaction is one event
+abbrev pub IsCompaction : {D N : Type 0} → (D → View) → (coming : N → ℕ → ℕ) → (old new : Shelf D N) → Result ℕ Reply → Type 0
+IsCompaction view coming old new result = IsEvent view coming old new compact (compacted_of result)
+
 -- A crash at any moment of a call leaves what makes the book before it, or the book after it with what is in doubt then.
 abbrev pub HasMoments : {D N : Type 0} → (D → View) → (old new : Shelf D N) → Type 0
 HasMoments view old new =
@@ -139,6 +143,7 @@ LeavesDisk old new (step.shown page url) = ⊤
 LeavesDisk old new (step.finished page) = ⊤
 LeavesDisk old new (step.ended page) = ⊤
 LeavesDisk old new (step.swept instances) = ⊤
+LeavesDisk old new (step.compacted length) = ⊤
 LeavesDisk old new (step.disk_failed count) = ⊤
 LeavesDisk old new _ = IsLeftAlone old new
 

@@ -2,6 +2,8 @@ pub mod Ranges
 pub mod Files
 pub mod Present
 pub mod Owning
+pub mod Compacting
+pub mod Migrating
 pub mod Views
 pub mod Tickets
 pub mod Holding

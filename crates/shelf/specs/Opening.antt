@@ -1,5 +1,5 @@
 -- What opening a shelf finds.
-use Rattle.std.specs.Prelude.{◌≡◌, ◌≢◌, ◌⊎◌, ◌≤◌, ℕ, Bool, List, [], ◌∷◌, ◌++◌, length, Some, None, Result, Ok, Err, IfOk, OnOk, IsErrOf, is_ok, IsTrue, ⊤}
+use Rattle.std.specs.Prelude.{◌≡◌, ◌≢◌, ◌⊎◌, ◌≤◌, ◌^◌, ℕ, Bool, List, [], ◌∷◌, ◌++◌, length, Some, None, Result, Ok, Err, IfOk, OnOk, IsErrOf, is_ok, IsTrue, ⊤}
 use Rattle.script_nodes.specs.Setup.{Named}
 use Rattle.script_nodes.specs.Setup as spec
 use Rattle.script_nodes.specs.Views.{library_of}
@@ -7,9 +7,11 @@ use Rattle.script_nodes.specs.declared.library.Library.{Library}
 use Rattle.setup_reader.specs.Texts.{setup_of_texts}
 use Rattle.web_outside.specs.Causes.{Rose}
 use Rattle.web_disk.specs.View.{View, AreAmong, Only, NoNewImage, LeavesOnly}
+use Rattle.value_bytes.specs.Laws.{AreBytes}
 use Rattle.page_journal.specs.Holding.{MayHold}
-use Rattle.page_journal.specs.Opened.{IsIntactOrEmpty}
-use Rattle.page_journal.specs.Records.{at_rest, stored}
+use Rattle.page_journal.specs.Opened.{IsIntactOrEmpty, TellsFormat}
+use Rattle.page_journal.specs.Records as log
+use Rattle.page_journal.specs.Records.{Log, newest, records, format_of, at_rest_in, at_rest, stored}
 use Rattle.page_journal.specs.Scanned.{IsQuiet}
 use Rattle.page_journal.specs.Settled.{HasFailed, IsSettled, view_of, bodies_in, length_of, length_with}
 use Rattle.page_journal.specs.declared.journal.Journal.{Journal}
@@ -19,17 +21,19 @@ use Rattle.replay_spec.specs.Rules.{Rules}
 use Rattle.replay_spec.specs.Step.{crash, Fate, lost, kept, live, step}
 use Rattle.journal_spec.specs.Before.{Made}
 use Rattle.journal_spec.specs.Keeping.{AreOver}
-use Rattle.journal_spec.specs.Making.{Making, nothing, begun, made, damaged, other, made_in, book_of, book_in_bytes}
+use Rattle.journal_spec.specs.Making.{Making, nothing, begun, made, damaged, other, made_in, book_of}
+use Rattle.journal_spec.specs.Bytes.{book_in_bytes}
 use Rattle.journal_spec.specs.Opening.{first_body, renewal_bodies, opened_book, opened_on}
 use Rattle.journal_spec.specs.Disks.{IsFit}
 use Rattle.journal_spec.specs.Owning.{AreOwn}
-use Rattle.journal_spec.specs.Standing.{IsMadeBook, Stands, ThroughoutFrom, OpensThroughout, IsOneOf}
+use Rattle.journal_spec.specs.Standing.{IsMadeBook, Between, Held, HoldIn, HeldOpened, HoldsOpening, Stands, ThroughoutFrom, OpensThroughout, IsOneOf}
 use Rattle.instance_book.specs.declared.book.Book.{Book as RustBook}
 use Rattle.instance_book.specs.Views as views
 use Rattle.instance_book.specs.Makes.{HasItsStates}
 use Rattle.book_recovery.specs.Found.{FindsBook, IsBookInOrder}
 use Rattle.shelf.specs.Files.{read_file}
 use Rattle.shelf.specs.Owning.{HasOwnImages, StaysOwnThroughout, StandsMeasured}
+use Rattle.shelf.specs.Migrating.{making_now, bodies_now, IsTooLongAnew}
 use Rattle.shelf.specs.Faults.{IsReadFaultOf, IsReadFault, IsTooLong}
 use Rattle.shelf.specs.Views.{TellsStates, IsOwnShelf, library_in, book_in}
 use Rattle.shelf.specs.declared.begin.BeginFault.{BeginFault}
@@ -44,13 +48,49 @@ making_of view shelf journal = book_of setup_of_texts shelf (bodies_in view jour
 abbrev pub making_on : (shelf : ℕ) → View → Making
 making_on shelf v = book_in_bytes setup_of_texts shelf v.seen
 
+-- what an opening goes on with makes of a shelf, of records in this format
+abbrev pub now_by_log : (format shelf : ℕ) → Log → Making
+now_by_log format shelf (log.Damaged place) = damaged place
+now_by_log format shelf (log.Intact bodies) = making_now format shelf bodies
+
+-- what an opening on these bytes goes on with makes of a shelf: of an older format the records that stay, in the newest
+abbrev pub now_in_bytes : (shelf : ℕ) → List ℕ → Making
+now_in_bytes shelf [] = nothing
+now_in_bytes shelf (b ∷ bytes) = now_by_log (format_of (b ∷ bytes)) shelf (records (b ∷ bytes))
+
+abbrev pub making_after : (shelf : ℕ) → View → Making
+making_after shelf v = now_in_bytes shelf v.seen
+
+-- the bodies that an opening on these bytes goes on with
+abbrev pub bodies_after : (shelf : ℕ) → List ℕ → List (List ℕ)
+bodies_after shelf bytes = bodies_now (format_of bytes) shelf (stored bytes)
+
+-- the bytes of a disk are of the newest format, if there are any
+abbrev pub IsOfNow : View → Type 0
+IsOfNow v = TellsFormat v.seen newest
+
+-- a journal has room for what stays of these bytes
+abbrev pub HasRoomFor : (shelf : ℕ) → List ℕ → Type 0
+HasRoomFor shelf bytes = length (at_rest (bodies_after shelf bytes)) ≤ 2 ^ 30
+
+-- a journal has room for what stays of these bytes; one that goes on with this setup would have this length, which is longer than one may be
+pub record IsTooLongBehind (scripts : List Named) (shelf : ℕ) (bytes : List ℕ) (n : ℕ) : Type 0 where
+  pub fits : HasRoomFor shelf bytes
+  pub setup : IsTooLong scripts shelf (now_in_bytes shelf bytes) n
+
+-- a journal of what stays of these bytes would have this length, or one that goes on with this setup, which is longer than one may be
+abbrev pub IsTooLongIn : List Named → (shelf : ℕ) → List ℕ → (length : ℕ) → Type 0
+IsTooLongIn scripts shelf bytes n = IsTooLongAnew (format_of bytes) shelf (stored bytes) n ⊎ IsTooLongBehind scripts shelf bytes n
+
 -- the fault is why the bytes of the disk make no shelf of this setup, unless the outside failed
 abbrev pub IsFaultOf : List Named → (shelf : ℕ) → View → BeginFault → Type 0
+IsFaultOf scripts shelf old (fault.Full n) = IsTooLongIn scripts shelf old.seen n
 IsFaultOf scripts shelf old e = IsReadFaultOf scripts shelf (making_on shelf old) e
 
 -- a fault that is answered is why the bytes of the disk make no shelf of this setup, unless the outside failed
 abbrev pub IsFault : {T : Type 0} → List Named → (shelf : ℕ) → View → Result T BeginFault → Type 0
-IsFault scripts shelf old result = IsReadFault scripts shelf (making_on shelf old) result
+IsFault scripts shelf old (Ok x) = ⊤
+IsFault scripts shelf old (Err e) = IsFaultOf scripts shelf old e
 
 -- the bodies that an opening with this setup adds to records that make this: the first one, where there is none; and that of the setup,
 -- where it has other names or texts than the last one that was told
@@ -107,7 +147,8 @@ IsDoneUnlessOutside result = IsErrOf result fault.DiskFault ⊎ (IsErrOf result 
 pub record TellsSetup {D T : Type 0} (view : D → View) (tells : Bool) (old new : Journal D) (body : List ℕ) (result : Result T BeginFault) : Type 0 where
   pub added : IsTrue tells → OnOk result (IsSettled view new × (bodies_in view new ≡ bodies_in view old ++ body ∷ []))
   pub len : OnOk result (length_of new ≡ length_with old body)
-  pub moments : IsTrue tells → LeavesOnly (view_of view old) (view_of view new) (MayHold (bodies_in view old) body)
+  pub bytes : OnOk result (AreBytes body)
+  pub moments : IsTrue tells → LeavesOnly (view_of view old) (view_of view new) (MayHold newest (bodies_in view old) body)
   pub refused : IsDoneUnlessOutside result
   pub untouched : IsErrOf result fault.Memory → IsUntouched (view_of view old) (view_of view new)
   pub cause : TellsFailure view old new result
@@ -151,15 +192,20 @@ abbrev pub IsReadOrRenewed : {D : Type 0} → (D → View) → List Named → (s
 IsReadOrRenewed view scripts shelf old new =
     making_of view shelf old ≢ nothing → IsQuiet (view_of view old) (view_of view new) ⊎ Renews view scripts shelf old new
 
--- these records and a closed gate behind them are the whole of a disk, also after a crash
-abbrev pub HoldsAtRest : List (List ℕ) → View → Type 0
-HoldsAtRest bodies v = (v.seen ≡ at_rest bodies) × Only v.seen v
+-- these records of this format and a closed gate behind them are the whole of a disk, also after a crash
+abbrev pub HoldsAtRest : (format : ℕ) → List (List ℕ) → View → Type 0
+HoldsAtRest f bodies v = (v.seen ≡ at_rest_in f bodies) × Only v.seen v
 
--- A disk on which nothing was lost in an opening that added these bodies: it is as it was, where there are none; or it holds the records
--- that were read of it, and these behind them.
-abbrev pub KeepsRecords : (more : List (List ℕ)) → View → View → Type 0
-KeepsRecords more old new =
-    ((more ≡ []) × IsUntouched old new) ⊎ (IsIntactOrEmpty old × HoldsAtRest (stored old.seen ++ more) new)
+-- the disk holds the records that were read of it, in their format
+abbrev pub HoldsAsRead : View → View → Type 0
+HoldsAsRead old new = (f : ℕ) × (TellsFormat old.seen f × HoldsAtRest f (stored old.seen) new)
+
+-- A disk on which nothing was lost in an opening that added these bodies: it is as it was, or holds the records that were read of it, where
+-- there are none; or it holds these records, of an older format those that stay, and the bodies behind them.
+abbrev pub KeepsRecords : (shelf : ℕ) → (more : List (List ℕ)) → View → View → Type 0
+KeepsRecords shelf more old new =
+    ((more ≡ []) × IsUntouched old new)
+    ⊎ (IsIntactOrEmpty old × (HoldsAtRest newest (bodies_after shelf old.seen ++ more) new ⊎ ((more ≡ []) × HoldsAsRead old new)))
 
 -- the disk of a journal is as it was, where no bodies were added, or has these behind its records
 abbrev pub HasAdded : {D : Type 0} → (D → View) → (more : List (List ℕ)) → (old new : Journal D) → Type 0
@@ -210,7 +256,7 @@ nonces_of (Err (e, disk, nonces)) = nonces
 
 -- the book is the one that a shelf goes on with on the bytes of the disk, with this setup
 abbrev pub MakesBook : List Named → (shelf : ℕ) → View → Book → Type 0
-MakesBook scripts shelf old b = IsMadeBook (opened_on shelf scripts (making_on shelf old)) b
+MakesBook scripts shelf old b = IsMadeBook (opened_on shelf scripts (making_after shelf old)) b
 
 -- the book of the shelf that was opened is the one that a shelf goes on with on the bytes of the disk, with this setup
 abbrev pub MakesShelf : {D N : Type 0} → (D → View) → List Named → (shelf : ℕ) → D → Result (Shelf D N) (BeginFault × D × N) → Type 0
@@ -233,6 +279,28 @@ OpensOneOf view scripts shelf disk result = IfOk result (λ s. IsOneOf setup_of_
 abbrev pub StandsThroughout : {D N : Type 0} → (D → View) → List Named → (shelf : ℕ) → D → Result (Shelf D N) (BeginFault × D × N) → Type 0
 StandsThroughout view scripts shelf disk result = OpensThroughout setup_of_texts shelf scripts (view disk) (view (disk_of result))
 
+-- a book with another file, which begins with the same setup and tells the next number
+pub record IsRenewedAs (b c : Book) : Type 0 where
+  pub book : c ≡ record b { length = c.length; file = c.file }
+  pub first : c.file.scripts ≡ b.file.scripts
+  pub drawn : c.file.drawn ≡ Some b.logged
+
+-- bytes may hold what makes the book, or what makes it with a file of the newest format, with this setup or without it
+abbrev pub HoldsAnew : (shelf : ℕ) → List Named → Book → List ℕ → Type 0
+HoldsAnew shelf scripts b bytes =
+    (c : Book) × (IsRenewedAs (reopened b) c
+    × (((l : Between setup_of_texts shelf b c) × Held l bytes) ⊎ HoldsOpening setup_of_texts shelf scripts c bytes))
+
+-- whatever two books the disk stood between, a crash at any moment of an opening leaves it there, or one of the two with this setup, or one
+-- of these with a file of the newest format
+abbrev pub OpensOrMigrates : (shelf : ℕ) → List Named → View → View → Type 0
+OpensOrMigrates shelf scripts old new =
+    (before after : Book) (k : Between setup_of_texts shelf before after) → HoldIn k old.images
+    → LeavesOnly old new (λ bytes. HeldOpened k scripts bytes ⊎ (HoldsAnew shelf scripts before bytes ⊎ HoldsAnew shelf scripts after bytes))
+
+abbrev pub MigratesThroughout : {D N : Type 0} → (D → View) → List Named → (shelf : ℕ) → D → Result (Shelf D N) (BeginFault × D × N) → Type 0
+MigratesThroughout view scripts shelf disk result = OpensOrMigrates shelf scripts (view disk) (view (disk_of result))
+
 -- where what a crash leaves of the disk holds own records, so does what it leaves at any moment of the opening
 abbrev pub LeavesOwn : {D N : Type 0} → (D → View) → (shelf : ℕ) → D → Result (Shelf D N) (BeginFault × D × N) → Type 0
 LeavesOwn view shelf disk result = HasOwnImages shelf (view disk) → StaysOwnThroughout shelf (view disk) (view (disk_of result))
@@ -254,13 +322,13 @@ TellsCause view disk result = IsErrOf (fault_of result) fault.DiskFault → Rose
 abbrev pub KeepsDisk : {D N : Type 0} → (D → View) → List Named → (shelf : ℕ) → D → Result (Shelf D N) (BeginFault × D × N) → Type 0
 KeepsDisk view scripts shelf disk result =
     (IsErrOf (fault_of result) fault.DiskFault → ⊥)
-    → KeepsRecords (added_by scripts shelf (making_on shelf (view disk)) (fault_of result)) (view disk) (view (disk_of result))
+    → KeepsRecords shelf (added_by scripts shelf (making_after shelf (view disk)) (fault_of result)) (view disk) (view (disk_of result))
 
 -- where an opening tells that there is no room for the setup, this is so of whatever a crash leaves of the disk that is handed back
 abbrev pub IsFullStill : {D N : Type 0} → (D → View) → List Named → (shelf : ℕ) → Result (Shelf D N) (BeginFault × D × N) → Type 0
 IsFullStill view scripts shelf result =
     (len : ℕ) → IsErrOf (fault_of result) (fault.Full len) → (image : List ℕ) → (view (disk_of result)).images image
-    → IsTooLong scripts shelf (book_in_bytes setup_of_texts shelf image) len
+    → IsTooLongIn scripts shelf image len
 
 -- the book is the one after the event crash, by which what was in doubt is lost or kept
 abbrev pub IsCrashed : Rules → Book → (nonce : ℕ) → List Named → Fate → Book → Type 0

@@ -1,28 +1,31 @@
 -- Disks whose records have the states of their pages' chains.
-use Rattle.std.specs.Prelude.{◌≡◌, ℕ, List, ◌++◌, Option}
+use Rattle.std.specs.Prelude.{◌≡◌, ℕ, true, List}
 use Rattle.web_disk.specs.View.{View, LeavesOnly}
-use Rattle.page_journal.specs.Records.{Intact, records}
+use Rattle.page_journal.specs.Records.{Intact, is_format, format_of, records}
 use Rattle.setup_reader.specs.Texts.{setup_of_texts}
 use Rattle.replay_spec.specs.Book.{Book}
 use Rattle.replay_spec.specs.Rules.{Rules}
 use Rattle.journal_spec.specs.Laws.{MeasuresDoubt}
-use Rattle.journal_spec.specs.Owning.{AreOwn}
-use Rattle.journal_spec.specs.Standing.{flight, HasRoom, Hold, Between, HoldIn, if_kept}
+use Rattle.journal_spec.specs.Owning.{AreOwnIn}
+use Rattle.journal_spec.specs.Standing.{Flight, with_flight, format_with, HasRoom, Hold, Between, HoldIn, if_kept}
 
 -- the whole records of these bytes are own ones; an empty disk has none
 abbrev pub IsOwnImage : (shelf : ℕ) → List ℕ → Type 0
-IsOwnImage shelf image = (bodies : List (List ℕ)) → records image ≡ Intact bodies → AreOwn setup_of_texts shelf bodies
+IsOwnImage shelf image = (bodies : List (List ℕ)) → records image ≡ Intact bodies → AreOwnIn (format_of image) setup_of_texts shelf bodies
 
--- own records, of which the last may be in flight
+-- own records of a format, of which the last may be in flight, or others that are put in their place
 pub record OwnRecords (shelf : ℕ) : Type 0 where
+  pub format : ℕ
+  pub known : is_format format ≡ true
   pub bodies : List (List ℕ)
-  pub more : Option (List ℕ)
-  pub room : HasRoom bodies more
-  pub own : AreOwn setup_of_texts shelf (bodies ++ flight more)
+  pub flight : Flight
+  pub room : HasRoom bodies flight
+  pub first : AreOwnIn format setup_of_texts shelf bodies
+  pub own : AreOwnIn (format_with format flight) setup_of_texts shelf (with_flight bodies flight)
 
 -- bytes hold these own records, whatever becomes of them in a recovery that crashes, too
 abbrev pub HoldOwn : {shelf : ℕ} → OwnRecords shelf → List ℕ → Type 0
-HoldOwn o image = Hold o.bodies o.more image
+HoldOwn o image = Hold o.format o.bodies o.flight image
 
 -- bytes hold some own records, whatever becomes of them in a recovery that crashes, too
 abbrev pub HoldsOwnRecords : (shelf : ℕ) → List ℕ → Type 0

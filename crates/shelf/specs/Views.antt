@@ -1,7 +1,6 @@
 -- What the program's shelf stands for in the definitions.
 use Rattle.std.specs.Prelude.{◌≡◌, ℕ, ◌+◌, Bool, false, IsTrue, List, [], map, length, Option, Some, None, option_map, IfSome, Contains, Result, Ok, Err, ⊤}
 use Rattle.script_value.specs.declared.outcome.Reply.{Reply}
-use Rattle.script_value.specs.declared.outcome.Refusal.{Refusal}
 use Rattle.script_nodes.specs.Setup.{Named, Library}
 use Rattle.script_nodes.specs.Views.{library_of}
 use Rattle.page_names.specs.Names.{Destination, start, page}
@@ -28,7 +27,7 @@ use Rattle.replay_spec.specs.Eval.{Segment}
 use Rattle.replay_spec.specs.Book as spec
 use Rattle.replay_spec.specs.Book.{Book, instance_at}
 use Rattle.replay_spec.specs.Rules as spec_rules
-use Rattle.replay_spec.specs.Admission.{Admission, begins, resumes, refused, refusal_of, admit}
+use Rattle.replay_spec.specs.Admission.{Admission, begins, resumes, refused, admit}
 use Rattle.replay_spec.specs.Next.{comes_to, start_visit, page_visit}
 use Rattle.replay_spec.specs.Step as step
 use Rattle.replay_spec.specs.Runs as runs
@@ -51,10 +50,11 @@ use Rattle.instance_book.specs.declared.book.Book as kept
 use Rattle.shelf.specs.Runs.{IsRunOver}
 use Rattle.shelf.specs.declared.doubt.Doubt.{Doubt}
 use Rattle.shelf.specs.declared.doubt.Work.{Work}
-use Rattle.shelf.specs.declared.doubt.Work.TheVariants.{Visits, Sweeps}
+use Rattle.shelf.specs.declared.doubt.Work.TheVariants.{Visits, Sweeps, Compacts}
 use Rattle.shelf.specs.declared.rules.Rules.{Rules}
 use Rattle.shelf.specs.declared.shelf.Shelf.{Shelf}
-use Rattle.shelf.specs.Files.{file_of}
+use Rattle.file_notes.specs.Files as noted
+use Rattle.shelf.specs.Files.{KnowsFile}
 use Rattle.shelf.specs.Ranges.{AreInRange}
 use Rattle.shelf.specs.Owning.{StandsOwn}
 
@@ -70,6 +70,7 @@ rules_of r = record (unmeasured r) { journal = Some (journal_rules r.number) }
 abbrev pub work_of : Work → spec.Work
 work_of (Visits c) = spec.landing (change_of c) (inside_of c)
 work_of (Sweeps tick) = spec.landing (spec.sweeps tick) []
+work_of Compacts = spec.compacting
 
 -- what is in doubt, as the definitions have it
 abbrev pub doubt_of : Doubt → spec.Doubt
@@ -82,7 +83,7 @@ doubt_by count (Some c) = Some (record { count = count; work = spec.landing (cha
 
 -- what stands beside the book of a shelf: its journal, seen through this view of the disk, and what is in doubt
 abbrev pub beside_of : {D N : Type 0} → (D → View) → Shelf D N → Beside
-beside_of view s = record { length = length_of s.journal; file = file_of view s.file; down = option_map doubt_of s.down }
+beside_of view s = record { length = length_of s.journal; file = noted.file_in s.notes; down = option_map doubt_of s.down }
 
 -- what a journal told a shelf of: the scripts of all setups, and those of the last one
 abbrev pub library_in : {D N : Type 0} → Shelf D N → Library
@@ -108,7 +109,7 @@ TellsStates view all shelf j b =
 -- What holds of a shelf between its calls, on a disk of this view, whoever left the journal: each instance is of a script that the journal
 -- told, and each page has a state that fits it; the book is orderly, of whole scripts and of numbers that records tell, and of the shelf's
 -- number; the setup is what its names and texts are read as; the limits are in their ranges; where nothing is in doubt, the journal can go
--- on; and where the disk tells its bytes, it stands for the book, whose pages have the states that the records told.
+-- on; where the disk tells its bytes, it stands for the book, whose pages have the states that the records told; and the journal's file is known.
 pub record IsInOrder {D N : Type 0} (view : D → View) (tells : Bool) (s : Shelf D N) : Type 0 where
   pub placed : HasPlaces (library_in s).all s.book
   pub kept : HasSomeStates (library_in s).all s.book
@@ -123,6 +124,7 @@ pub record IsInOrder {D N : Type 0} (view : D → View) (tells : Bool) (s : Shel
   pub whole : s.down ≡ None → is_broken s.journal ≡ false
   pub fit : IsTrue tells → IsFit view setup_of_texts s.rules.number s.journal (book_in view s)
   pub told : IsTrue tells → s.down ≡ None → TellsStates view (library_in s).all s.rules.number s.journal s.book
+  pub knows : KnowsFile view tells s.rules.number s.journal (s.down ≡ None) s.notes
 
 -- What this program's own shelves have besides: each page has the state of its chain; and where the disk tells its bytes, so has each
 -- record that a crash may leave there, and what is in doubt is measured as its record is.
@@ -139,6 +141,11 @@ taken_of (Err r) = reply_of r
 abbrev pub swept_of : Result ℕ Reply → step.Reply
 swept_of (Ok n) = step.swept n
 swept_of (Err r) = reply_of r
+
+-- what a compaction answers
+abbrev pub compacted_of : Result ℕ Reply → step.Reply
+compacted_of (Ok n) = step.compacted n
+compacted_of (Err r) = reply_of r
 
 -- the fate of an event is read off its reply
 abbrev pub fate_by : step.Reply → step.Fate
@@ -159,10 +166,6 @@ pub record IsEvent {D N : Type 0} (view : D → View) (coming : N → ℕ → �
 -- what a target is admitted as now
 abbrev pub admission_now : {D N : Type 0} → (D → View) → Shelf D N → Target → Admission
 admission_now view s target = admit (book_in view s) (target_of target)
-
--- why a target is not admitted now, if it is not
-abbrev pub refusal_now : {D N : Type 0} → (D → View) → Shelf D N → Target → Option Refusal
-refusal_now view s target = refusal_of (admission_now view s target)
 
 -- where the ticket's target is admitted now, the ticket is for the visit of it
 abbrev pub FitsNow : {D N : Type 0} → (D → View) → Shelf D N → Ticket → Type 0

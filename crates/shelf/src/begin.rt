@@ -1,6 +1,8 @@
 ghost use Rattle.std.specs.Prelude.{◌≡◌, ◌≤◌, ◌<◌, ◌^◌, [], false, length, IsTrue, IfOk, OnOk};
 ghost use Rattle.script_nodes.specs.Views.{named_of, scripts_of, library_of};
 ghost use Rattle.setup_reader.specs.Texts.{IsReadSetup};
+ghost use Rattle.disk_trio.specs.Trio.{trio_view};
+ghost use Rattle.page_journal.specs.Records.{newest};
 ghost use Rattle.page_journal.specs.Settled.{IsSettled, IsSound, length_with, is_broken};
 ghost use Rattle.journal_records.specs.Records.{IsInGrammar, begin_of, renewal_of, body_of};
 ghost use Rattle.journal_records.specs.Views.{recorded_of};
@@ -10,14 +12,18 @@ ghost use Rattle.instance_book.specs.Makes.{HasItsStates};
 ghost use Rattle.book_recovery.specs.Found.{IsBookInOrder};
 ghost use Rattle.shelf.specs.Faults.{begin_fault};
 ghost use Rattle.shelf.specs.Opening.{HasOwnRecords, OpensOwn, Opens, TellsSetup, TellsFull, IsLibraryOf, with_book, WasFound};
+ghost use Rattle.file_notes.specs.Files.{IsNoted};
+ghost use Rattle.shelf.specs.Files.{KnowsRead, NotesBegun, NotesRenewed};
 ghost use Rattle.shelf.specs.Ranges.{AreInRange};
 
-use crate::file::FilePast;
+use crate::migration::migrated;
 use crate::present::is_present;
 use crate::recording::added;
 use crate::rules::Rules;
 use crate::shelf::Shelf;
-use book_recovery::{Found, read_book};
+use book_recovery::{Found, ReadBook, read_book};
+use disk_trio::Disks;
+use file_notes::FileNotes;
 use instance_book::Book;
 use journal_records::{Recorded, body_length, encode, records_are_exact};
 use journal_spec::{
@@ -55,13 +61,21 @@ fn fault_by(fault: JournalFault) -> BeginFault
     }
 }
 
+// How long the body of a record is.
+fn long(line: &Recorded<'_>) -> u64
+    requires counted { length (body_of (recorded_of line.now)) < 2 ^ 63 }
+    ensures { result ≡ length (body_of (recorded_of line.now)) }
+{
+    body_length(line)
+}
+
 // How long the journal is with a record more.
 fn with_record<D: Disk>(journal: &Journal<D>, line: &Recorded<'_>) -> u64
     requires sound { IsSound journal.now }
     requires counted { length (body_of (recorded_of line.now)) < 2 ^ 63 }
     ensures { result ≡ length_with journal.now (body_of (recorded_of line.now)) }
 {
-    journal.len() + 5 + body_length(line)
+    journal.len() + 5 + long(line)
 }
 
 // Adds the record of a setup, for which the journal has room.
@@ -71,12 +85,14 @@ fn tell<D: Disk>(
     line: &Recorded<'_>,
 ) -> Result<(), BeginFault>
     requires sound { IsSound journal.old }
+    requires newest { journal.old.format ≡ newest }
     requires whole { is_broken journal.old ≡ false }
     requires settled { IsTrue D.tells → IsSettled D.view journal.old }
     requires spelled { IsInGrammar (recorded_of line.now) }
     requires short { length_with journal.old (body_of (recorded_of line.now)) ≤ 2 ^ 30 }
     ensures told { TellsSetup D.view D.tells journal.old journal.new
         (body_of (recorded_of line.now)) result }
+    ensures newest { journal.new.format ≡ newest }
     ensures sound { IsSound journal.new }
     ensures whole { OnOk result (is_broken journal.new ≡ false) }
 {
@@ -98,8 +114,11 @@ fn start<D: Disk>(
     journal: &mut Journal<D>,
     setup: &Setup,
     number: u32,
+    notes: &mut FileNotes,
 ) -> Result<Library, BeginFault>
     requires sound { IsSound journal.old }
+    requires newest { journal.old.format ≡ newest }
+    requires noted { IsNoted notes.old }
     requires whole { is_broken journal.old ≡ false }
     requires settled { IsTrue D.tells → IsSettled D.view journal.old }
     requires read { IsReadSetup (scripts_of setup.now) }
@@ -110,6 +129,9 @@ fn start<D: Disk>(
     ensures full { 2 ^ 30 < length_with journal.old (first_body (scripts_of setup.now) number)
         → TellsFull journal.old journal.new (first_body (scripts_of setup.now) number) result }
     ensures library { IfOk result (IsLibraryOf [] (scripts_of setup.now)) }
+    ensures notes { OnOk result (NotesBegun (scripts_of setup.now) number notes.new) }
+    ensures noted { IsNoted notes.new }
+    ensures newest { journal.new.format ≡ newest }
     ensures sound { IsSound journal.new }
     ensures whole { OnOk result (is_broken journal.new ≡ false) }
 {
@@ -125,7 +147,10 @@ fn start<D: Disk>(
         return Err(BeginFault::Memory);
     };
     match tell(alloc, journal, &line) {
-        Ok(()) => Ok(Library::of(scripts)),
+        Ok(()) => {
+            notes.begin(&scripts, 14 + long(&line));
+            Ok(Library::of(scripts))
+        }
         Err(fault) => Err(fault),
     }
 }
@@ -136,8 +161,11 @@ fn renew<D: Disk>(
     journal: &mut Journal<D>,
     setup: &Setup,
     library: &mut Library,
+    notes: &mut FileNotes,
 ) -> Result<(), BeginFault>
     requires sound { IsSound journal.old }
+    requires newest { journal.old.format ≡ newest }
+    requires noted { IsNoted notes.old }
     requires whole { is_broken journal.old ≡ false }
     requires settled { IsTrue D.tells → IsSettled D.view journal.old }
     requires read { IsReadSetup (scripts_of setup.now) }
@@ -149,6 +177,9 @@ fn renew<D: Disk>(
         → TellsFull journal.old journal.new (renewal_body (scripts_of setup.now)) result }
     ensures library { OnOk result
         (IsLibraryOf (library_of library.old).all (scripts_of setup.now) library.new) }
+    ensures notes { OnOk result (NotesRenewed (scripts_of setup.now) notes.old notes.new) }
+    ensures noted { IsNoted notes.new }
+    ensures newest { journal.new.format ≡ newest }
     ensures sound { IsSound journal.new }
     ensures whole { OnOk result (is_broken journal.new ≡ false) }
 {
@@ -160,10 +191,16 @@ fn renew<D: Disk>(
     let Ok(scripts) = setup.try_clone(alloc) else {
         return Err(BeginFault::Memory);
     };
-    if library.renew(scripts).is_err() {
+    if notes.room().is_err() || library.renew(scripts).is_err() {
         return Err(BeginFault::Memory);
     }
-    tell(alloc, journal, &line)
+    match tell(alloc, journal, &line) {
+        Ok(()) => {
+            notes.renew(setup, long(&line) as u32);
+            Ok(())
+        }
+        Err(fault) => Err(fault),
+    }
 }
 
 // A shelf goes on with a setup, whose book was read: where it has other names or texts than the present one, it is told.
@@ -174,8 +211,12 @@ fn go_on<D: Disk>(
     number: u32,
     book: &Book,
     library: &mut Library,
+    notes: &mut FileNotes,
 ) -> Result<(), BeginFault>
     requires sound { IsSound journal.old }
+    requires newest { journal.old.format ≡ newest }
+    requires noted { IsNoted notes.old }
+    requires known { IsTrue D.tells → KnowsRead D.view number journal.old notes.old }
     requires whole { is_broken journal.old ≡ false }
     requires settled { IsTrue D.tells → IsSettled D.view journal.old }
     requires read { IsReadSetup (scripts_of setup.now) }
@@ -189,6 +230,9 @@ fn go_on<D: Disk>(
     ensures own { IsTrue D.tells → HasOwnRecords D.view number journal.old
         → HasItsStates (library_of library.old).all book.now
         → IfOk (with_book book.now library.new result) (OpensOwn D.view number journal.new) }
+    ensures known { IsTrue D.tells → OnOk result (KnowsRead D.view number journal.new notes.new) }
+    ensures noted { IsNoted notes.new }
+    ensures newest { journal.new.format ≡ newest }
     ensures sound { IsSound journal.new }
     ensures whole { OnOk result (is_broken journal.new ≡ false) }
 {
@@ -199,7 +243,7 @@ fn go_on<D: Disk>(
     if is_present(library, setup) {
         Ok(())
     } else {
-        renew(alloc, journal, setup, library)
+        renew(alloc, journal, setup, library, notes)
     }
 }
 
@@ -209,8 +253,11 @@ fn open<D: Disk>(
     journal: &mut Journal<D>,
     setup: &Setup,
     number: u32,
+    notes: &mut FileNotes,
 ) -> Result<(Book, Library), BeginFault>
     requires sound { IsSound journal.old }
+    requires newest { journal.old.format ≡ newest }
+    requires noted { IsNoted notes.old }
     requires whole { is_broken journal.old ≡ false }
     requires settled { IsTrue D.tells → IsSettled D.view journal.old }
     requires read { IsReadSetup (scripts_of setup.now) }
@@ -218,19 +265,28 @@ fn open<D: Disk>(
     ensures opened { Opens D.view D.tells (scripts_of setup.now) number journal.old journal.new result }
     ensures own { IsTrue D.tells → HasOwnRecords D.view number journal.old
         → IfOk result (OpensOwn D.view number journal.new) }
+    ensures known { IsTrue D.tells → OnOk result (KnowsRead D.view number journal.new notes.new) }
+    ensures noted { IsNoted notes.new }
+    ensures newest { journal.new.format ≡ newest }
     ensures sound { IsSound journal.new }
     ensures whole { OnOk result (is_broken journal.new ≡ false) }
 {
     records_are_exact();
     fresh_journals_are_kept();
     scripts_are_whole(setup);
-    let Ok(found) = read_book(alloc, journal, number) else {
+    let Ok(read) = read_book(alloc, journal, number) else {
         return Err(BeginFault::DiskFault);
     };
+    let ReadBook {
+        found,
+        notes: known,
+        anew: _,
+    } = read;
+    *notes = known;
     match found {
         Found::Made { book, library } => {
             let mut library = library;
-            match go_on(alloc, journal, setup, number, &book, &mut library) {
+            match go_on(alloc, journal, setup, number, &book, &mut library, notes) {
                 Ok(()) => Ok((book, library)),
                 Err(fault) => Err(fault),
             }
@@ -238,7 +294,7 @@ fn open<D: Disk>(
         Found::Damaged { place } => Err(BeginFault::Damaged { place }),
         Found::Other { place } => Err(BeginFault::Other { place }),
         Found::Memory => Err(BeginFault::Memory),
-        Found::Nothing => match start(alloc, journal, setup, number) {
+        Found::Nothing => match start(alloc, journal, setup, number, notes) {
             Ok(library) => Ok((Book::empty(alloc, number), library)),
             Err(fault) => Err(fault),
         },
@@ -263,74 +319,84 @@ fn can_be_run(named: &NamedScript)
     let _root = named.script.root();
 }
 
-impl<D: Disk, N: Nonces + Drop> Shelf<D, N> {
+impl<F: Disk, N: Nonces + Drop> Shelf<Disks<F>, N> {
     ghost use Rattle.shelf.specs.Views.{IsInOrder, IsOwnShelf};
     ghost use Rattle.shelf.specs.Owning.{IsOwnImage};
-    ghost use Rattle.shelf.specs.Opening.{MakesShelf, IsOpenedAnew, OpensOneOf, StandsThroughout, OpensOwnIfEmpty, LeavesOwn, TellsFault, TellsCause, KeepsDisk, IsFullStill, disk_of, nonces_of};
+    ghost use Rattle.shelf.specs.Opening.{MakesShelf, IsOpenedAnew, OpensOneOf, StandsThroughout, MigratesThroughout, IsOfNow, OpensOwnIfEmpty, LeavesOwn, TellsFault, TellsCause, KeepsDisk, IsFullStill, HasRoomFor, disk_of, nonces_of};
 
-    /// Opens the shelf of these limits, which are in their ranges, on a disk: its book is what the records of the journal make,
-    /// as after a crash. A disk without a record gets the first, which tells the shelf's number and its scripts. Where the setup has
+    /// Opens the shelf of these limits, which are in their ranges, on three disks: its book is what the records of the journal make,
+    /// as after a crash. Disks without a record get the first, which tells the shelf's number and its scripts. A journal of an older
+    /// format gives place to one of the newest, with the records of live instances and the setups. Where the setup has
     /// other names or texts than the last one that the journal tells, it is told behind the others; instances go on with the scripts
-    /// with which they began. A disk that is refused is handed back, with what stands on it, but where one of its calls failed. Where
-    /// the records that are read are own ones, as those of an empty disk are, the shelf is an own one; on a disk that tells no bytes
-    /// it is where its book has no instance. Where a disk holds own records, a crash at any moment of the opening leaves some.
+    /// with which they began. Disks that are refused are handed back, with what stands on them, but where one of their calls failed.
+    /// Where the records that are read are own ones, as those of empty disks are, the shelf is an own one; on disks that tell no bytes
+    /// it is where its book has no instance. Where disks hold own records, a crash at any moment of the opening leaves some.
     ///
-    /// Damage and another shelf's number are told before all else, then that the journal has no room for the setup.
+    /// Damage and another shelf's number are told before all else, then that a file of the newest format would be too long, and then that
+    /// the journal has no room for the setup. Before the first and the second nothing is written.
     ///
-    /// It asks for a setup that is what its names and texts are read as, which records can tell.
+    /// It asks for a setup that is what its names and texts are read as, which records can tell, and for disks that were not opened yet.
     pub fn begin(
         alloc: Global,
-        disk: D,
+        disks: Disks<F>,
         nonces: N,
         setup: &Setup,
         rules: Rules,
-    ) -> Result<Shelf<D, N>, (BeginFault, D, N)>
+    ) -> Result<Shelf<Disks<F>, N>, (BeginFault, Disks<F>, N)>
+        requires fresh { disks.known ≡ false }
         requires range { AreInRange rules }
         requires read { IsReadSetup (scripts_of setup.now) }
         requires begins { IsInGrammar (begin_of rules.number (scripts_of setup.now)) }
-        ensures book { IsTrue D.tells
-            → MakesShelf D.view (scripts_of setup.now) rules.number disk result }
-        ensures opened { IfOk result (IsOpenedAnew D.view (scripts_of setup.now)) }
-        ensures one_of { IsTrue D.tells
-            → OpensOneOf D.view (scripts_of setup.now) rules.number disk result }
-        ensures any_moment { IsTrue D.tells
-            → StandsThroughout D.view (scripts_of setup.now) rules.number disk result }
-        ensures in_order { IfOk result (λ s. IsInOrder D.view D.tells s) }
-        ensures own { IsTrue D.tells → IsOwnImage rules.number (D.view disk).seen
-            → IfOk result (IsOwnShelf D.view D.tells) }
-        ensures own_if_empty { OpensOwnIfEmpty D.view D.tells result }
-        ensures own_moments { IsTrue D.tells → LeavesOwn D.view rules.number disk result }
+        ensures book { IsTrue F.tells
+            → MakesShelf trio_view (scripts_of setup.now) rules.number disks result }
+        ensures opened { IfOk result (IsOpenedAnew trio_view (scripts_of setup.now)) }
+        ensures one_of { IsTrue F.tells → IsOfNow (trio_view disks)
+            → OpensOneOf trio_view (scripts_of setup.now) rules.number disks result }
+        ensures any_moment { IsTrue F.tells → IsOfNow (trio_view disks)
+            → StandsThroughout trio_view (scripts_of setup.now) rules.number disks result }
+        ensures migration { IsTrue F.tells
+            → MigratesThroughout trio_view (scripts_of setup.now) rules.number disks result }
+        ensures in_order { IfOk result (λ s. IsInOrder trio_view F.tells s) }
+        ensures own { IsTrue F.tells → IsOwnImage rules.number (trio_view disks).seen
+            → IfOk result (IsOwnShelf trio_view F.tells) }
+        ensures own_if_empty { OpensOwnIfEmpty trio_view F.tells result }
+        ensures own_moments { IsTrue F.tells → LeavesOwn trio_view rules.number disks result }
         ensures rules { IfOk result (λ s. s.rules ≡ rules) }
         ensures nonces { nonces_of result ≡ nonces }
-        ensures refused { IsTrue D.tells
-            → TellsFault D.view (scripts_of setup.now) rules.number disk result }
-        ensures keeps { IsTrue D.tells
-            → KeepsDisk D.view (scripts_of setup.now) rules.number disk result }
-        ensures full { IsTrue D.tells
-            → IsFullStill D.view (scripts_of setup.now) rules.number result }
-        ensures cause { TellsCause D.view disk result }
-        ensures later { (D.view disk).faults ≤ (D.view (disk_of result)).faults }
+        ensures refused { IsTrue F.tells
+            → TellsFault trio_view (scripts_of setup.now) rules.number disks result }
+        ensures keeps { IsTrue F.tells
+            → KeepsDisk trio_view (scripts_of setup.now) rules.number disks result }
+        ensures full { IsTrue F.tells
+            → IsFullStill trio_view (scripts_of setup.now) rules.number result }
+        ensures fits { IsTrue F.tells
+            → OnOk result (HasRoomFor rules.number (trio_view disks).seen) }
+        ensures cause { TellsCause trio_view disks result }
+        ensures later { (trio_view disks).faults ≤ (trio_view (disk_of result)).faults }
     {
-        openings_stay::<D>();
-        recoveries_find_one::<D>();
-        let mut journal = match Journal::begin(alloc, disk) {
+        openings_stay::<Disks<F>>();
+        recoveries_find_one::<Disks<F>>();
+        let mut journal = match Journal::begin_on(alloc, disks) {
             Ok(journal) => journal,
-            Err((fault, disk)) => return Err((fault_by(fault), disk, nonces)),
+            Err((fault, disks)) => return Err((fault_by(fault), disks, nonces)),
         };
-        match open(alloc, &mut journal, setup, rules.number) {
-            Ok((book, library)) => {
-                let file = FilePast::read(rules.number, &journal);
-                Ok(Shelf {
-                    journal,
-                    book,
-                    library,
-                    down: None,
-                    nonces,
-                    rules,
-                    file,
-                })
+        match migrated(alloc, &mut journal, rules.number) {
+            Ok(()) => {
+                let mut notes = FileNotes::none(alloc);
+                match open(alloc, &mut journal, setup, rules.number, &mut notes) {
+                    Ok((book, library)) => Ok(Shelf {
+                        journal,
+                        book,
+                        library,
+                        down: None,
+                        nonces,
+                        rules,
+                        notes,
+                    }),
+                    Err(fault) => Err((fault, journal.close(), nonces)),
+                }
             }
-            Err(fault) => Err((fault, journal.close(), nonces)),
+            Err(unmoved) => Err((unmoved, journal.close(), nonces)),
         }
     }
 }

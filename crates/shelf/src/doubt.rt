@@ -10,6 +10,8 @@ pub enum Work {
     Visits(Change),
     /// It was being recorded that time went on to this tick, in seconds.
     Sweeps(u64),
+    /// Its file was being compacted.
+    Compacts,
 }
 
 /// What may have happened, since the disk failed in it: the shelf is down until it is opened again.

@@ -7,8 +7,9 @@ ghost use Rattle.shelf.specs.Opening.{AReopenedShelfHasCrashed, AReopenedShelfIs
 
 mod begin;
 mod body;
+mod compaction;
 mod doubt;
-mod file;
+mod migration;
 mod nesting;
 mod prepare;
 mod present;
@@ -24,7 +25,6 @@ mod take;
 pub use begin::BeginFault;
 pub use book_visits::Ticket;
 pub use doubt::{Doubt, Work};
-pub use file::FilePast;
 use replay_spec::{orderly_books_stay, pages_stay};
 pub use rules::Rules;
 pub use run::run_ticket;

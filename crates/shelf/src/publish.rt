@@ -147,7 +147,7 @@ impl<D: Disk, N: Nonces + Drop> Shelf<D, N> {
         let Some(change) = &prepared.change else {
             return install(&mut self.book, prepared);
         };
-        let body = match told_body(alloc, &mut self.journal, ticket, change) {
+        let body = match told_body(alloc, &mut self.journal, &mut self.notes, ticket, change) {
             Ok(body) => body,
             Err(reply) => {
                 drop(prepared);
@@ -156,7 +156,7 @@ impl<D: Disk, N: Nonces + Drop> Shelf<D, N> {
         };
         match added(&mut self.journal, body.as_slice()) {
             Ok(()) => {
-                self.file.visit(change, body.len() as u64);
+                self.notes.visit(change, body.len() as u32);
                 install(&mut self.book, prepared)
             }
             Err(count) => {

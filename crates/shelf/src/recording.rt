@@ -2,6 +2,8 @@ ghost use Rattle.std.specs.Prelude.{◌≡◌, ◌≤◌, ◌+◌, ◌++◌, ◌
 ghost use Rattle.web_outside.specs.Causes.{Rose};
 ghost use Rattle.web_disk.specs.View.{NoNewImage, Elapses, LeavesOnly};
 ghost use Rattle.page_journal.specs.Holding.{MayHold};
+ghost use Rattle.page_journal.specs.Records.{newest};
+ghost use Rattle.value_bytes.specs.Laws.{AreBytes};
 ghost use Rattle.page_journal.specs.Settled.{IsSettled, IsReady, IsSound, view_of, bodies_in, length_of, length_with, is_broken};
 ghost use Rattle.journal_records.specs.Records.{changes};
 ghost use Rattle.journal_records.specs.Views.{recorded_of};
@@ -10,10 +12,12 @@ ghost use Rattle.instance_book.specs.Changes.{change_of};
 ghost use Rattle.book_visits.specs.Changes.{IsSpelledIn};
 ghost use Rattle.kept_states.specs.Kept.{kept_of};
 ghost use Rattle.machine_states.specs.Views.{suspended_of};
+ghost use Rattle.file_notes.specs.Files.{IsNoted, HasRoom, StaysAsTold};
 ghost use Rattle.shelf.specs.Recording.{refusal_of_size, CanBeWritten, IsWritten, IsStateFor, IsLentAs, IsKeptIn, WhereTold, BindsIn, told_in, lent};
 
 use crate::nesting::nests_shallow;
 use book_visits::Ticket;
+use file_notes::FileNotes;
 use instance_book::Change;
 use journal_records::{Recorded, encode, record_length};
 use kept_states::{KeptState, kept_are_written};
@@ -93,18 +97,24 @@ fn refused(journal: u64, size: u64) -> Option<Reply>
     None
 }
 
-/// The body of a record, for which the journal is made ready; or why it can't be added. No call of the disk is made that could
-/// fail.
+/// The body of a record, for which the journal and the notes of its file are made ready; or why it can't be added. No call of the disk
+/// is made that could fail.
 pub fn written<D: Disk>(
     alloc: Global,
     journal: &mut Journal<D>,
+    notes: &mut FileNotes,
     line: &Recorded<'_>,
 ) -> Result<Bytes, Reply>
     requires sound { IsSound journal.old }
     requires settled { IsTrue D.tells → IsSettled D.view journal.old }
+    requires noted { IsNoted notes.old }
     requires spelled { CanBeWritten (length_of journal.old) (recorded_of line.now) }
     ensures written { IsWritten (length_of journal.old) (recorded_of line.now) result }
     ensures ready { IfOk result (λ body. IsReady D.view journal.new (length body)) }
+    ensures note { OnOk result (HasRoom notes.new.notes) }
+    ensures told { StaysAsTold notes.old notes.new }
+    ensures noted { IsNoted notes.new }
+    ensures format { journal.new.format ≡ journal.old.format }
     ensures sound { IsSound journal.new }
     ensures settled { IsTrue D.tells → IsSettled D.view journal.new }
     ensures len { length_of journal.new ≡ length_of journal.old }
@@ -121,6 +131,9 @@ pub fn written<D: Disk>(
     let Ok(body) = encode(alloc, line) else {
         return Err(Reply::Memory);
     };
+    if notes.room().is_err() {
+        return Err(Reply::Memory);
+    }
     match journal.room(body.len() as u32) {
         Ok(()) => Ok(body),
         Err(_) => Err(Reply::Memory),
@@ -131,10 +144,12 @@ pub fn written<D: Disk>(
 pub fn added<D: Disk>(journal: &mut Journal<D>, body: &[u8]) -> Result<(), u64>
     requires sound { IsSound journal.old }
     requires settled { IsTrue D.tells → IsSettled D.view journal.old }
+    requires newest { journal.old.format ≡ newest }
     requires whole { is_broken journal.old ≡ false }
     requires ready { IsReady D.view journal.old (length body.now) }
     requires short { length_with journal.old body.now ≤ 2 ^ 30 }
     ensures sound { IsSound journal.new }
+    ensures newest { journal.new.format ≡ newest }
     ensures whole { OnOk result (is_broken journal.new ≡ false) }
     ensures len { OnOk result (length_of journal.new ≡ length_with journal.old body.now) }
     ensures same_len { OnErr result (length_of journal.new ≡ length_of journal.old) }
@@ -142,7 +157,8 @@ pub fn added<D: Disk>(journal: &mut Journal<D>, body: &[u8]) -> Result<(), u64>
         × (bodies_in D.view journal.new ≡ bodies_in D.view journal.old ++ body.now ∷ [])) }
     ensures any_moment { IsTrue D.tells →
         LeavesOnly (view_of D.view journal.old) (view_of D.view journal.new)
-        (MayHold (bodies_in D.view journal.old) body.now) }
+        (MayHold newest (bodies_in D.view journal.old) body.now) }
+    ensures bytes { AreBytes body.now }
     ensures count { IfErr result (λ count. count ≡ (view_of D.view journal.new).faults) }
     ensures cause { OnErr result
         (Rose (view_of D.view journal.old).faults (view_of D.view journal.new).faults) }

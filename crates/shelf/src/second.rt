@@ -61,7 +61,7 @@ pub fn segment_now(
         return Ok(first);
     };
     let Some(cells) = book.cells(page.instance) else {
-        return Ok(first);
+        unreachable!()
     };
     if cells.holds(&first.effects) {
         return Ok(first);

@@ -1,8 +1,8 @@
 ghost use Rattle.std.specs.Prelude.{◌≡◌, ◌<◌, ◌^◌};
 
 use crate::doubt::Doubt;
-use crate::file::FilePast;
 use crate::rules::Rules;
+use file_notes::FileNotes;
 use instance_book::Book;
 use page_journal::Journal;
 use script_nodes::Library;
@@ -19,14 +19,16 @@ pub struct Shelf<D: Disk, N> {
     pub(crate) down: Option<Doubt>,
     pub(crate) nonces: N,
     pub(crate) rules: Rules,
-    pub(crate) file: FilePast<D>,
+    // What is known of the journal's file.
+    pub(crate) notes: FileNotes,
 }
 
 // What stands in memory is let go.
-fn forget(book: Book, library: Library, down: Option<Doubt>) {
+fn forget(book: Book, library: Library, down: Option<Doubt>, notes: FileNotes) {
     drop(book);
     drop(library);
     drop(down);
+    drop(notes);
 }
 
 impl<D: Disk, N> Shelf<D, N> {
@@ -89,9 +91,9 @@ impl<D: Disk, N> Shelf<D, N> {
             down,
             nonces,
             rules: _,
-            file: _,
+            notes,
         } = self;
-        forget(book, library, down);
+        forget(book, library, down, notes);
         (journal.close(), nonces)
     }
 }

@@ -46,13 +46,13 @@ impl<D: Disk, N: Nonces + Drop> Shelf<D, N> {
             return Err(Reply::Down(doubt.count));
         }
         let record = Recorded::Sweep { clock: tick };
-        let body = match written(alloc, &mut self.journal, &record) {
+        let body = match written(alloc, &mut self.journal, &mut self.notes, &record) {
             Ok(body) => body,
             Err(reply) => return Err(reply),
         };
         match added(&mut self.journal, body.as_slice()) {
             Ok(()) => {
-                self.file.sweep(tick, body.len() as u64);
+                self.notes.sweep(tick, body.len() as u32);
                 Ok(self.book.free_expired(tick))
             }
             Err(count) => {

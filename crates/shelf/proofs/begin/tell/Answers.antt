@@ -7,11 +7,11 @@ use Rattle.shelf.proofs.begin.tell.Goals as goal
 pub returns-in-Ok-added-clause-told : goal.returns-in-Ok-added-clause-told
 returns-in-Ok-added-clause-told g c =
     told_setup g.D.Disk.view g.D.Disk.tells c.args.journal.now c.room.new.self c.added.new.journal (body_of (recorded_of c.args.line.now)) c.as_slice.result.now (c.as_slice.ensures ∙ c.in-Ok.ensures)
-    (g.met.D.Disk.only_now c.args.journal.now.disk) c.requires.settled c.room.ensures.seen c.room.ensures.images c.room.ensures.time c.room.ensures.faults c.added.ensures.any_moment c.added.ensures.later
-    c.in-Ok-added.ensures.ok c.in-Ok-added.ensures.len c.room.ensures.len
+    c.requires.newest (g.met.D.Disk.only_now c.args.journal.now.disk) c.requires.settled c.room.ensures.seen c.room.ensures.images c.room.ensures.time c.room.ensures.faults c.added.ensures.any_moment c.added.ensures.later
+    c.added.ensures.bytes c.in-Ok-added.ensures.ok c.in-Ok-added.ensures.len c.room.ensures.len
 
 pub returns-clause-told : goal.returns-clause-told
 returns-clause-told g c =
     failed_setup g.D.Disk.view g.D.Disk.tells c.args.journal.now c.room.new.self c.added.new.journal (body_of (recorded_of c.args.line.now)) c.as_slice.result.now (c.as_slice.ensures ∙ c.in-Ok.ensures)
-    (g.met.D.Disk.only_now c.args.journal.now.disk) c.requires.settled c.room.ensures.seen c.room.ensures.images c.room.ensures.time c.room.ensures.faults c.added.ensures.any_moment c.added.ensures.later
+    c.requires.newest (g.met.D.Disk.only_now c.args.journal.now.disk) c.requires.settled c.room.ensures.seen c.room.ensures.images c.room.ensures.time c.room.ensures.faults c.added.ensures.any_moment c.added.ensures.later
     c.in-Err.ensures.cause

@@ -18,13 +18,12 @@ use Rattle.instance_book.specs.declared.book.Book as kept
 use Rattle.book_visits.specs.declared.ticket.Ticket.{Ticket}
 use Rattle.instance_book.specs.Views.{no_journal, script_in, no_script}
 use Rattle.instance_book.proofs.Seen.{cells_seen}
-use Rattle.machine_states.specs.Views.{segment_of}
 use Rattle.shelf.specs.Holding.{AreHeld}
 use Rattle.shelf.specs.Tickets.{GoesOnWhere}
 use Rattle.shelf.specs.Views.{HoldIn, HaveTheirCells}
 use Rattle.shelf.proofs.Tickets.{as_many_cells}
 use Rattle.shelf.proofs.Replayed.{shows_whole, start_held, page_held, held_on, on_cells_of}
-use Rattle.shelf.proofs.Now.{of_some, gone_segment, keeps_state, held_segment, rerun_segment, if_some}
+use Rattle.shelf.proofs.Now.{of_some, gone_refused, keeps_state, held_segment, rerun_segment, if_some}
 use Rattle.shelf.proofs.second.segment_now.Goals as goal
 use Rattle.shelf.proofs.second.segment_now.Goals.{Then-holds}
 
@@ -58,25 +57,14 @@ returns-in_default-target-clause-on c =
 pub returns-in_default-target-clause-whole : goal.returns-in_default-target-clause-whole
 returns-in_default-target-clause-whole c = shows_whole (library_of c.args.library.now).all c.args.ticket.now c.args.fuel c.args.ticket.now.cells c.args.first c.requires.runs c.requires.segment
 
--- ---- an answer, whose instance is gone
+-- ---- an answer that is admitted, whose instance is there
 
-pub returns-in_default-cells-clause-segment : goal.returns-in_default-cells-clause-segment
-returns-in_default-cells-clause-segment c own =
+pub unreachable-requires-in_default-cells : goal.unreachable-requires-in_default-cells
+unreachable-requires-in_default-cells c =
     let b = book_under (library_of c.args.library.now) c.args.book.now in
-    let t = c.args.ticket.now in
     let n = c.in-Page.page.instance in
     let gone : cells_in n b ≡ None = sym (cells_seen (library_of c.args.library.now) no_journal n c.args.book.now) ∙ (sym c.cells.ensures ∙ ap (option_map (λ x. x.now)) c.in_default-cells.is) in
-    gone_segment b t (name_of c.in-Page.field-0) c.in-Page.page c.args.fuel (segment_of c.args.first) (admit b (target_of t.target)) gone (ap (λ (x : Target). admit b (target_of x)) (sym c.in-Page.is))
-
-pub returns-in_default-cells-clause-state : goal.returns-in_default-cells-clause-state
-returns-in_default-cells-clause-state c own =
-    let b = book_under (library_of c.args.library.now) c.args.book.now in
-    let t = c.args.ticket.now in
-    let named = c.in-Some.named.now in
-    keeps_state (library_of c.args.library.now).all b t (name_of c.in-Page.field-0) named.script c.root-root.ensures.script (named_of named) refl (sym c.in-Some.ensures) c.args.fuel t.cells c.args.first c.requires.segment (admit b (target_of t.target)) own.fits
-
-pub returns-in_default-cells-clause-whole : goal.returns-in_default-cells-clause-whole
-returns-in_default-cells-clause-whole c = shows_whole (library_of c.args.library.now).all c.args.ticket.now c.args.fuel c.args.ticket.now.cells c.args.first c.requires.runs c.requires.segment
+    gone_refused b (name_of c.in-Page.field-0) c.in-Page.page (admit b (target_of c.args.ticket.now.target)) gone (ap (λ (x : Target). admit b (target_of x)) (sym c.in-Page.is)) c.requires.admitted
 
 -- ---- an answer, where the first run's effects hold over the cells of now
 

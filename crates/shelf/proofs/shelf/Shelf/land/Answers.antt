@@ -1,4 +1,4 @@
-use Rattle.std.proofs.Common.{◌≡◌, ◌∙◌, ap, sym, subst, refl, ℕ, ◌+◌, ◌<◌, ◌^◌, ◌++◌, ◌∷◌, [], List, length, arith}
+use Rattle.std.proofs.Common.{◌≡◌, ◌∙◌, ap, sym, subst, refl, ℕ, ◌+◌, ◌<◌, ◌^◌, ◌++◌, ◌∷◌, [], true, List, length, map, arith}
 use Rattle.script_value.specs.declared.outcome.Reply.{Reply}
 use Rattle.script_value.specs.declared.outcome.Reply.TheVariants as reply
 use Rattle.web_disk.specs.View.{LeavesOnly}
@@ -9,10 +9,15 @@ use Rattle.instance_book.specs.Makes.{shelf_from}
 use Rattle.book_visits.specs.Views.{reply_of}
 use Rattle.instance_book.specs.Views.{instances_of}
 use Rattle.instance_book.specs.Changes.{change_of, HasStateFrom}
-use Rattle.replay_spec.specs.Book.{changed}
+use Rattle.replay_spec.specs.Book.{changed, File}
 use Rattle.replay_spec.specs.Change.{with_line}
-use Rattle.shelf.specs.Files.{file_of}
-use Rattle.shelf.specs.Views.{library_in, fate_by}
+use Rattle.page_journal.specs.Records.{newest}
+use Rattle.value_bytes.specs.Laws.{AreBytes}
+use Rattle.file_notes.specs.declared.note.Note.{Note}
+use Rattle.file_notes.specs.Files.{file_in, marks_in}
+use Rattle.file_notes.specs.Notes.{is_told}
+use Rattle.shelf.proofs.Known.{told_still}
+use Rattle.shelf.specs.Views.{library_in, book_in, fate_by}
 use Rattle.shelf.specs.Events.{decision_of, TellsReply}
 use Rattle.shelf.specs.Recording.{IsBody, told_in}
 use Rattle.shelf.proofs.Tickets.{spent_keeps}
@@ -39,7 +44,7 @@ idle g c =
     let q = c.requires in
     let is = landing.idle_book view tells s q.in_order t p q.up q.out q.script q.landed q.room c.spend.new.self c.install.new.book c.spend.ensures.book c.install.ensures.book c.in_default.is in
     spent_publishes view tells g.N.Nonces.nonce s (record s { book = c.install.new.book }) t c.install.result q.in_order c.events_are_kept.ensures (g.met.D.Disk.only_now s.journal.disk) q.out is refl refl refl (no_call view tells s.journal)
-    q.in_order.sound q.in_order.whole
+    q.in_order.knows.noted (told_still s.notes) q.in_order.sound q.in_order.whole
     (λ source all. c.install.ensures.states source l.all (subst (HasStateFrom l.all (shelf_from source c.spend.new.self.shelf) (instances_of l.all c.spend.new.self.instances)) (sym c.in_default.is) tt) (c.spend.ensures.states source l.all all))
     (λ own. landing.idle_comes view tells s q.in_order t p q.up q.out q.script q.landed q.room c.install.result c.install.ensures.reply c.in_default.is (q.decided own))
 
@@ -99,7 +104,7 @@ told_body-requires-clause-spelled g c =
 -- its record was not written
 
 unwritten : (g : _) (c : In-Err g)
-    → Publishes g.D.Disk.view g.D.Disk.tells g.N.Nonces.nonce c.args.self.now (record c.args.self.now { journal = c.told_body.new.journal; book = c.spend.new.self }) c.args.ticket.now c.in-Err.reply
+    → Publishes g.D.Disk.view g.D.Disk.tells g.N.Nonces.nonce c.args.self.now (record c.args.self.now { journal = c.told_body.new.journal; book = c.spend.new.self; notes = c.told_body.new.notes }) c.args.ticket.now c.in-Err.reply
 unwritten g c =
     let view = g.D.Disk.view in
     let tells = g.D.Disk.tells in
@@ -109,9 +114,12 @@ unwritten g c =
     let p = c.args.prepared in
     let q = c.requires in
     let told = c.told_body.ensures in
-    let is = landing.spent_book view tells s q.in_order t p q.up q.out q.script q.landed q.room c.spend.new.self (length_of c.told_body.new.journal) c.spend.ensures.book told.len in
-    spent_publishes view tells g.N.Nonces.nonce s (record s { journal = c.told_body.new.journal; book = c.spend.new.self }) t c.in-Err.reply q.in_order c.events_are_kept.ensures (g.met.D.Disk.only_now s.journal.disk) q.out is refl refl refl
-    (record { settled = λ tells settled. told.settled tells; seen = told.seen; images = told.images; time = told.time }) told.sound (λ none. told.whole ∙ q.in_order.whole none) (λ source. c.spend.ensures.states source l.all)
+    let u = record s { journal = c.told_body.new.journal; book = c.spend.new.self; notes = c.told_body.new.notes } in
+    let is =
+    ap (λ (f : File). record (book_in view u) { file = f }) told.told.file
+    ∙ landing.spent_book view tells s q.in_order t p q.up q.out q.script q.landed q.room c.spend.new.self (length_of c.told_body.new.journal) c.spend.ensures.book told.len in
+    spent_publishes view tells g.N.Nonces.nonce s u t c.in-Err.reply q.in_order c.events_are_kept.ensures (g.met.D.Disk.only_now s.journal.disk) q.out is refl refl refl
+    (record { settled = λ tells settled. told.settled tells; format = told.format; seen = told.seen; images = told.images; time = told.time }) told.noted told.told told.sound (λ none. told.whole ∙ q.in_order.whole none) (λ source. c.spend.ensures.states source l.all)
     (λ own. landing.unwritten_comes view tells s q.in_order t p q.up q.out q.script q.landed q.room c.in-Some.change c.in-Some.is own.fits (q.decided own) c.in-Err.reply c.in-Err.ensures.written)
 
 pub returns-in-Err-clause-event : goal.returns-in-Err-clause-event
@@ -170,7 +178,7 @@ added-requires-clause-short g c =
 -- it was added
 
 landed : (g : _) (c : After-install-in-Ok-added g)
-    → Publishes g.D.Disk.view g.D.Disk.tells g.N.Nonces.nonce c.args.self.now (record c.args.self.now { journal = c.added.new.journal; book = c.install-in-Ok-added.new.book; file = c.visit.new.self }) c.args.ticket.now c.install-in-Ok-added.result
+    → Publishes g.D.Disk.view g.D.Disk.tells g.N.Nonces.nonce c.args.self.now (record c.args.self.now { journal = c.added.new.journal; book = c.install-in-Ok-added.new.book; notes = c.visit.new.self }) c.args.ticket.now c.install-in-Ok-added.result
 landed g c =
     let view = g.D.Disk.view in
     let tells = g.D.Disk.tells in
@@ -181,8 +189,9 @@ landed g c =
     let new = c.added.new.journal in
     let body = c.in-Ok.body in
     let long : length_of new ≡ length_of s.journal + 5 + length body = omega (arith, c.in-Ok-added.ensures.len, told.len, ap (λ (x : List ℕ). length x) c.as_slice.ensures) in
-    let filed : file_of view c.visit.new.self ≡ with_line (changed (change_of c.in-Some.change) (length body)) (file_of view s.file) =
-    c.visit.ensures ∙ ap (λ (n : ℕ). with_line (changed (change_of c.in-Some.change) n) (file_of view s.file)) c.len.ensures in
+    let filed : file_in c.visit.new.self ≡ with_line (changed (change_of c.in-Some.change) (length body)) (file_in s.notes) =
+    c.visit.ensures.file ∙ (ap (λ (n : ℕ). with_line (changed (change_of c.in-Some.change) n) (file_in c.told_body.new.notes)) c.len.ensures ∙ ap (with_line (changed (change_of c.in-Some.change) (length body))) told.told.file) in
+    let marks : marks_in c.visit.new.self ≡ marks_in s.notes ++ true ∷ [] = c.visit.ensures.marks ∙ ap (λ (ns : List Note). map is_told ns ++ true ∷ []) told.told.notes in
     let goes = (spent_keeps view s q.in_order.orderly c.spend.new.self c.spend.ensures.states c.args.ticket.now.number q.out c.spend.ensures.book c.args.ticket.now q.goes).goes in
     let on = landing.goes_there_on view g.D.Disk.tells s q.in_order c.args.ticket.now c.args.prepared q.up q.out q.script q.landed q.room c.in-Some.change c.in-Some.is c.spend.new.self c.spend.ensures.book goes in
     let whole = landing.whole_spent view g.D.Disk.tells s q.in_order c.args.ticket.now c.args.prepared q.up q.out q.script q.landed q.room c.in-Some.change c.in-Some.is c.spend.new.self c.spend.ensures.book goes q.runs in
@@ -195,10 +204,10 @@ landed g c =
       exact = c.records_are_exact.ensures;
     })
     c.in-Some.change c.in-Some.is c.spend.new.self c.spend.ensures.book c.spend.ensures.instances c.spend.ensures.states whole c.in-Ok.ensures.spelled on c.in-Ok.ensures.binds body c.in-Ok.ensures.written mid new
-    (record { settled = λ tells settled. told.settled tells; seen = told.seen; images = told.images; time = told.time })
-    (λ tells. subst (λ (x : List ℕ). LeavesOnly (view mid.disk) (view new.disk) (MayHold (bodies_in view mid) x)) c.as_slice.ensures (c.added.ensures.any_moment tells)) c.added.ensures.sound
-    (record { only_now = g.met.D.Disk.only_now s.journal.disk; counts_now = g.met.D.Disk.counts_now new.disk; reads = λ tells. g.met.D.Disk.reads_image s.journal.disk tells })
-    c.visit.new.self filed c.install-in-Ok-added.new.book c.install-in-Ok-added.ensures.book c.install-in-Ok-added.ensures.states c.install-in-Ok-added.result c.install-in-Ok-added.ensures.reply long c.in-Ok-added.ensures.whole
+    (record { settled = λ tells settled. told.settled tells; format = told.format; seen = told.seen; images = told.images; time = told.time })
+    (λ tells. subst (λ (x : List ℕ). LeavesOnly (view mid.disk) (view new.disk) (MayHold newest (bodies_in view mid) x)) c.as_slice.ensures (c.added.ensures.any_moment tells)) c.added.ensures.sound
+    (record { only_now = g.met.D.Disk.only_now s.journal.disk; counts_now = g.met.D.Disk.counts_now new.disk; reads = λ tells. g.met.D.Disk.reads_image s.journal.disk tells; now = c.added.ensures.newest })
+    c.visit.new.self filed c.visit.ensures.noted marks (subst AreBytes c.as_slice.ensures c.added.ensures.bytes) c.install-in-Ok-added.new.book c.install-in-Ok-added.ensures.book c.install-in-Ok-added.ensures.states c.install-in-Ok-added.result c.install-in-Ok-added.ensures.reply long c.in-Ok-added.ensures.whole
     (λ tells. let both = c.in-Ok-added.ensures.ok tells in (both.0, subst (λ (x : List ℕ). bodies_in view new ≡ bodies_in view mid ++ x ∷ []) c.as_slice.ensures both.1))
 
 pub returns-in-Ok-added-clause-event : goal.returns-in-Ok-added-clause-event
@@ -234,7 +243,7 @@ returns-in-Ok-added-clause-cause g c = plain_count c.install-in-Ok-added.result 
 -- it is in doubt
 
 doubted : (g : _) (c : After-of_visit g)
-    → Publishes g.D.Disk.view g.D.Disk.tells g.N.Nonces.nonce c.args.self.now (record c.args.self.now { journal = c.added.new.journal; book = c.spend.new.self; down = c.of_visit.result }) c.args.ticket.now (reply.DiskFault c.in-Err-added.count)
+    → Publishes g.D.Disk.view g.D.Disk.tells g.N.Nonces.nonce c.args.self.now (record c.args.self.now { journal = c.added.new.journal; book = c.spend.new.self; down = c.of_visit.result; notes = c.told_body.new.notes }) c.args.ticket.now (reply.DiskFault c.in-Err-added.count)
 doubted g c =
     let view = g.D.Disk.view in
     let tells = g.D.Disk.tells in
@@ -255,10 +264,10 @@ doubted g c =
       exact = c.records_are_exact.ensures;
     })
     c.in-Some.change c.in-Some.is c.spend.new.self c.spend.ensures.book c.spend.ensures.instances c.spend.ensures.states whole c.in-Ok.ensures.spelled on c.in-Ok.ensures.binds c.in-Ok.body c.in-Ok.ensures.written
-    mid new (record { settled = λ tells settled. told.settled tells; seen = told.seen; images = told.images; time = told.time })
-    (λ tells. subst (λ (x : List ℕ). LeavesOnly (view mid.disk) (view new.disk) (MayHold (bodies_in view mid) x)) c.as_slice.ensures (c.added.ensures.any_moment tells)) c.added.ensures.sound
-    (record { only_now = g.met.D.Disk.only_now s.journal.disk; counts_now = g.met.D.Disk.counts_now new.disk; reads = λ tells. g.met.D.Disk.reads_image s.journal.disk tells })
-    c.in-Err-added.count c.of_visit.result c.of_visit.ensures (c.in-Err-added.ensures.same_len ∙ told.len)
+    mid new (record { settled = λ tells settled. told.settled tells; format = told.format; seen = told.seen; images = told.images; time = told.time })
+    (λ tells. subst (λ (x : List ℕ). LeavesOnly (view mid.disk) (view new.disk) (MayHold newest (bodies_in view mid) x)) c.as_slice.ensures (c.added.ensures.any_moment tells)) c.added.ensures.sound
+    (record { only_now = g.met.D.Disk.only_now s.journal.disk; counts_now = g.met.D.Disk.counts_now new.disk; reads = λ tells. g.met.D.Disk.reads_image s.journal.disk tells; now = c.added.ensures.newest })
+    c.in-Err-added.count c.of_visit.result c.of_visit.ensures (c.in-Err-added.ensures.same_len ∙ told.len) c.told_body.new.notes told.noted told.told
 
 pub returns-clause-event : goal.returns-clause-event
 returns-clause-event g c = (doubted g (goal.at.returns-clause-event g c).After-of_visit).event

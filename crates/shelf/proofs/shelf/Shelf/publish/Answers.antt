@@ -22,6 +22,7 @@ use Rattle.shelf.proofs.Leaving.{Publishes, spent_publishes, visit_anew, publish
 use Rattle.shelf.proofs.Now.{if_none}
 use Rattle.shelf.proofs.Tickets.{anew_keeps}
 use Rattle.shelf.proofs.Quiet.{untouched, alone}
+use Rattle.shelf.proofs.Known.{told_still}
 use Rattle.shelf.proofs.shelf.Shelf.publish.Goals as goal
 use Rattle.shelf.proofs.shelf.Shelf.publish.Goals.{After-spend, After-prepared, After-land, After-spend-in-Err}
 
@@ -41,7 +42,7 @@ turned g c =
     let order = c.requires.in_order in
     let answer = replied s.rules (book_in g.D.Disk.view s) (ticket_of t) (step.down c.in-Some.doubt.count) (down_publish s.rules (book_in g.D.Disk.view s) (ticket_of t) (doubt_of c.in-Some.doubt) (down g c)) in
     spent_publishes view tells g.N.Nonces.nonce s (record s { book = c.spend.new.self }) t (reply.Down c.in-Some.doubt.count) order c.events_are_kept.ensures (g.met.D.Disk.only_now s.journal.disk) c.requires.out
-    (c.spend.ensures.book l (beside_of view s)) refl refl refl (no_call view tells s.journal) order.sound order.whole (λ source. c.spend.ensures.states source l.all) (λ own. answer)
+    (c.spend.ensures.book l (beside_of view s)) refl refl refl (no_call view tells s.journal) order.knows.noted (told_still s.notes) order.sound order.whole (λ source. c.spend.ensures.states source l.all) (λ own. answer)
 
 pub returns-in-Some-clause-event : goal.returns-in-Some-clause-event
 returns-in-Some-clause-event g c = (turned g (goal.at.returns-in-Some-clause-event g c).After-spend).event
@@ -106,7 +107,7 @@ pub land-requires-clause-in_order : goal.land-requires-clause-in_order
 land-requires-clause-in_order g c =
     let l = library_in c.args.self.now in
     let s = c.args.self.now in
-    same_order g.D.Disk.view g.D.Disk.tells s (record s { book = c.prepared.new.book }) c.requires.in_order (same_book g (goal.at.land-requires-clause-in_order g c).After-prepared) (some_kept l.all s.book c.prepared.new.book c.prepared.ensures.states c.requires.in_order.kept) (kept_told l.all s.book c.prepared.new.book c.prepared.ensures.states) refl refl refl refl
+    same_order g.D.Disk.view g.D.Disk.tells s (record s { book = c.prepared.new.book }) c.requires.in_order (same_book g (goal.at.land-requires-clause-in_order g c).After-prepared) (some_kept l.all s.book c.prepared.new.book c.prepared.ensures.states c.requires.in_order.kept) (kept_told l.all s.book c.prepared.new.book c.prepared.ensures.states) refl refl refl refl refl
 
 pub land-requires-clause-out : goal.land-requires-clause-out
 land-requires-clause-out g c = subst (λ (y : Book). Contains y.out c.args.ticket.number) (sym (same_book g (goal.at.land-requires-clause-out g c).After-prepared)) c.requires.out
@@ -233,7 +234,7 @@ refused g c =
     let up = ap (λ (o : Option doubt_type.Doubt). option_map doubt_of o) c.in_default.is in
     let order = c.requires.in_order in
     spent_publishes view tells g.N.Nonces.nonce s (record s { book = c.spend-in-Err.new.self }) t c.in-Err.reply order c.events_are_kept.ensures (g.met.D.Disk.only_now s.journal.disk) c.requires.out
-    (c.spend-in-Err.ensures.book l here ∙ ap (spend t.number) (c.prepared.ensures.book l here)) refl refl refl (no_call view tells s.journal) order.sound order.whole
+    (c.spend-in-Err.ensures.book l here ∙ ap (spend t.number) (c.prepared.ensures.book l here)) refl refl refl (no_call view tells s.journal) order.knows.noted (told_still s.notes) order.sound order.whole
     (λ source all. c.spend-in-Err.ensures.states source l.all (c.prepared.ensures.states source l.all all))
     (λ own.
     let decided = c.in-Err.ensures.decided (fits_at l here no_journal s.book t (target_of t.target) own.fits) here up in

@@ -1,4 +1,4 @@
-use Rattle.std.proofs.Common.{◌≡◌, ◌∙◌, ap, subst, refl, ℕ, ◌+◌, ◌++◌, ◌∷◌, [], nat_le, true, false, arith, length, List, Option, Some, None, option_map}
+use Rattle.std.proofs.Common.{◌≡◌, ◌∙◌, ap, subst, refl, ℕ, ◌+◌, ◌++◌, ◌∷◌, [], nat_le, true, false, arith, length, map, List, Option, Some, None, option_map}
 use Rattle.std.proofs.lemmas.Bool.Decides.{nat_tests}
 use Rattle.web_disk.specs.View.{LeavesOnly}
 use Rattle.page_journal.specs.Holding.{MayHold}
@@ -9,7 +9,12 @@ use Rattle.replay_spec.specs.Step as step
 use Rattle.book_visits.specs.Views.{reply_of}
 use Rattle.shelf.specs.declared.doubt.Doubt as doubt_type
 use Rattle.shelf.specs.declared.doubt.Work.TheVariants.{Sweeps as DoubtedSweeps}
-use Rattle.shelf.specs.Files.{file_of}
+use Rattle.page_journal.specs.Records.{newest}
+use Rattle.value_bytes.specs.Laws.{AreBytes}
+use Rattle.file_notes.specs.declared.note.Note.{Note}
+use Rattle.file_notes.specs.Files.{file_in, marks_in}
+use Rattle.file_notes.specs.Notes.{is_told}
+use Rattle.shelf.proofs.Known.{told_still}
 use Rattle.shelf.specs.Views.{book_in, doubt_of}
 use Rattle.shelf.proofs.Steps.{early, down_sweep}
 use Rattle.shelf.proofs.Standing.{no_call}
@@ -27,7 +32,7 @@ early_tick : (g : _) (c : Then-tick-clock g) → Sweeps g.D.Disk.view g.D.Disk.t
 early_tick g c =
     let s = c.args.self.now in
     let before : nat_le c.args.tick s.book.clock ≡ true = grind (arith, nat_tests, c.if-tick-clock.true, c.clock.ensures.clock) in
-    unswept g.D.Disk.view g.D.Disk.tells g.N.Nonces.nonce s c.requires.in_order c.args.tick c.requires.tick c.events_are_kept.ensures (g.met.D.Disk.only_now s.journal.disk) s.journal refl (λ sound. sound) refl (no_call g.D.Disk.view g.D.Disk.tells s.journal) (step.swept 0)
+    unswept g.D.Disk.view g.D.Disk.tells g.N.Nonces.nonce s c.requires.in_order c.args.tick c.requires.tick c.events_are_kept.ensures (g.met.D.Disk.only_now s.journal.disk) s.journal s.notes c.requires.in_order.knows.noted (told_still s.notes) refl (λ sound. sound) refl (no_call g.D.Disk.view g.D.Disk.tells s.journal) (step.swept 0)
     (λ given. refl) (early s.rules (book_in g.D.Disk.view s) c.args.tick before)
 
 pub returns-then-tick-clock-clause-event : goal.returns-then-tick-clock-clause-event
@@ -52,7 +57,7 @@ turned g c =
     let s = c.args.self.now in
     let late : nat_le c.args.tick s.book.clock ≡ false = grind (arith, nat_tests, c.if-tick-clock.false, c.clock.ensures.clock) in
     let down = ap (λ (o : Option doubt_type.Doubt). option_map doubt_of o) c.in-Some.is in
-    unswept g.D.Disk.view g.D.Disk.tells g.N.Nonces.nonce s c.requires.in_order c.args.tick c.requires.tick c.events_are_kept.ensures (g.met.D.Disk.only_now s.journal.disk) s.journal refl (λ sound. sound) refl (no_call g.D.Disk.view g.D.Disk.tells s.journal)
+    unswept g.D.Disk.view g.D.Disk.tells g.N.Nonces.nonce s c.requires.in_order c.args.tick c.requires.tick c.events_are_kept.ensures (g.met.D.Disk.only_now s.journal.disk) s.journal s.notes c.requires.in_order.knows.noted (told_still s.notes) refl (λ sound. sound) refl (no_call g.D.Disk.view g.D.Disk.tells s.journal)
     (step.down c.in-Some.doubt.count) (λ given. refl) (down_sweep s.rules (book_in g.D.Disk.view s) c.args.tick late (doubt_of c.in-Some.doubt) down)
 
 pub returns-in-Some-clause-event : goal.returns-in-Some-clause-event
@@ -72,14 +77,14 @@ returns-in-Some-clause-quiet g c = untouched (g.D.Disk.view c.args.self.now.jour
 
 -- its record was not written
 
-unwritten : (g : _) (c : In-Err g) → Sweeps g.D.Disk.view g.D.Disk.tells g.N.Nonces.nonce c.args.self.now (record c.args.self.now { journal = c.written.new.journal }) c.args.tick (reply_of c.in-Err.reply)
+unwritten : (g : _) (c : In-Err g) → Sweeps g.D.Disk.view g.D.Disk.tells g.N.Nonces.nonce c.args.self.now (record c.args.self.now { journal = c.written.new.journal; notes = c.written.new.notes }) c.args.tick (reply_of c.in-Err.reply)
 unwritten g c =
     let s = c.args.self.now in
     let done = c.written.ensures in
     let late : nat_le c.args.tick s.book.clock ≡ false = grind (arith, nat_tests, c.if-tick-clock.false, c.clock.ensures.clock) in
     let up = ap (λ (o : Option doubt_type.Doubt). option_map doubt_of o) c.in_default.is in
-    unswept g.D.Disk.view g.D.Disk.tells g.N.Nonces.nonce s c.requires.in_order c.args.tick c.requires.tick c.events_are_kept.ensures (g.met.D.Disk.only_now s.journal.disk) c.written.new.journal done.len (λ before. done.sound) done.whole
-    (record { settled = λ told settled. done.settled told; seen = done.seen; images = done.images; time = done.time }) (reply_of c.in-Err.reply) (λ given. quiet c.in-Err.reply given)
+    unswept g.D.Disk.view g.D.Disk.tells g.N.Nonces.nonce s c.requires.in_order c.args.tick c.requires.tick c.events_are_kept.ensures (g.met.D.Disk.only_now s.journal.disk) c.written.new.journal c.written.new.notes done.noted done.told done.len (λ before. done.sound) done.whole
+    (record { settled = λ told settled. done.settled told; format = done.format; seen = done.seen; images = done.images; time = done.time }) (reply_of c.in-Err.reply) (λ given. quiet c.in-Err.reply given)
     (unwritten_sweep s.rules (book_in g.D.Disk.view s) c.args.tick late up c.in-Err.reply c.in-Err.ensures.written)
 
 pub returns-in-Err-clause-event : goal.returns-in-Err-clause-event
@@ -111,7 +116,7 @@ returns-in-Err-clause-quiet g c =
 -- it was added
 
 landed : (g : _) (c : After-free_expired g)
-    → Sweeps g.D.Disk.view g.D.Disk.tells g.N.Nonces.nonce c.args.self.now (record c.args.self.now { journal = c.added.new.journal; book = c.free_expired.new.self; file = c.sweep.new.self }) c.args.tick (step.swept c.free_expired.result)
+    → Sweeps g.D.Disk.view g.D.Disk.tells g.N.Nonces.nonce c.args.self.now (record c.args.self.now { journal = c.added.new.journal; book = c.free_expired.new.self; notes = c.sweep.new.self }) c.args.tick (step.swept c.free_expired.result)
 landed g c =
     let view = g.D.Disk.view in
     let s = c.args.self.now in
@@ -120,14 +125,15 @@ landed g c =
     let new = c.added.new.journal in
     let body = c.in-Ok.body in
     let late : nat_le c.args.tick s.book.clock ≡ false = grind (arith, nat_tests, c.if-tick-clock.false, c.clock.ensures.clock) in
-    let filed : file_of view c.sweep.new.self ≡ with_line (changed (sweeps c.args.tick) (length body)) (file_of view s.file) =
-    c.sweep.ensures ∙ ap (λ (n : ℕ). with_line (changed (sweeps c.args.tick) n) (file_of view s.file)) c.len.ensures in
+    let filed : file_in c.sweep.new.self ≡ with_line (changed (sweeps c.args.tick) (length body)) (file_in s.notes) =
+    c.sweep.ensures.file ∙ (ap (λ (n : ℕ). with_line (changed (sweeps c.args.tick) n) (file_in c.written.new.notes)) c.len.ensures ∙ ap (with_line (changed (sweeps c.args.tick) (length body))) done.told.file) in
+    let marks : marks_in c.sweep.new.self ≡ marks_in s.notes ++ true ∷ [] = c.sweep.ensures.marks ∙ ap (λ (ns : List Note). map is_told ns ++ true ∷ []) done.told.notes in
     let long : length_of new ≡ length_of s.journal + 5 + length body = omega (arith, c.in-Ok-added.ensures.len, done.len, ap (λ (x : List ℕ). length x) c.as_slice.ensures) in
     landed_sweeps view g.D.Disk.tells g.N.Nonces.nonce s c.requires.in_order c.args.tick c.requires.tick late c.in_default.is c.events_are_kept.ensures c.events_stand_between.ensures c.records_are_exact.ensures body c.in-Ok.ensures.written mid new
-    (record { settled = λ told settled. done.settled told; seen = done.seen; images = done.images; time = done.time })
-    (λ told. subst (λ (x : List ℕ). LeavesOnly (view mid.disk) (view new.disk) (MayHold (bodies_in view mid) x)) c.as_slice.ensures (c.added.ensures.any_moment told)) c.added.ensures.sound
-    (record { only_now = g.met.D.Disk.only_now s.journal.disk; counts_now = g.met.D.Disk.counts_now new.disk; reads = λ told. g.met.D.Disk.reads_image s.journal.disk told })
-    c.sweep.new.self filed c.free_expired.new.self c.free_expired.ensures.book c.free_expired.result c.free_expired.ensures.count c.free_expired.ensures.states long c.in-Ok-added.ensures.whole
+    (record { settled = λ told settled. done.settled told; format = done.format; seen = done.seen; images = done.images; time = done.time })
+    (λ told. subst (λ (x : List ℕ). LeavesOnly (view mid.disk) (view new.disk) (MayHold newest (bodies_in view mid) x)) c.as_slice.ensures (c.added.ensures.any_moment told)) c.added.ensures.sound
+    (record { only_now = g.met.D.Disk.only_now s.journal.disk; counts_now = g.met.D.Disk.counts_now new.disk; reads = λ told. g.met.D.Disk.reads_image s.journal.disk told; now = c.added.ensures.newest })
+    c.sweep.new.self filed c.sweep.ensures.noted marks (subst AreBytes c.as_slice.ensures c.added.ensures.bytes) c.free_expired.new.self c.free_expired.ensures.book c.free_expired.result c.free_expired.ensures.count c.free_expired.ensures.states long c.in-Ok-added.ensures.whole
     (λ told. let both = c.in-Ok-added.ensures.ok told in (both.0, subst (λ (x : List ℕ). bodies_in view new ≡ bodies_in view mid ++ x ∷ []) c.as_slice.ensures both.1))
 
 pub returns-in-Ok-added-clause-event : goal.returns-in-Ok-added-clause-event
@@ -151,7 +157,7 @@ returns-in-Ok-added-clause-own_moments g c = (landed g (goal.at.returns-in-Ok-ad
 -- it is in doubt
 
 doubted : (g : _) (c : In-Err-added g)
-    → Sweeps g.D.Disk.view g.D.Disk.tells g.N.Nonces.nonce c.args.self.now (record c.args.self.now { journal = c.added.new.journal; down = Some (record { count = c.in-Err-added.count; work = DoubtedSweeps c.args.tick }) }) c.args.tick
+    → Sweeps g.D.Disk.view g.D.Disk.tells g.N.Nonces.nonce c.args.self.now (record c.args.self.now { journal = c.added.new.journal; notes = c.written.new.notes; down = Some (record { count = c.in-Err-added.count; work = DoubtedSweeps c.args.tick }) }) c.args.tick
     (step.disk_failed c.in-Err-added.count)
 doubted g c =
     let view = g.D.Disk.view in
@@ -161,10 +167,10 @@ doubted g c =
     let new = c.added.new.journal in
     let late : nat_le c.args.tick s.book.clock ≡ false = grind (arith, nat_tests, c.if-tick-clock.false, c.clock.ensures.clock) in
     doubted_sweeps view g.D.Disk.tells g.N.Nonces.nonce s c.requires.in_order c.args.tick c.requires.tick late c.in_default.is c.events_are_kept.ensures c.events_stand_between.ensures c.records_are_exact.ensures c.in-Ok.body c.in-Ok.ensures.written mid new
-    (record { settled = λ told settled. done.settled told; seen = done.seen; images = done.images; time = done.time })
-    (λ told. subst (λ (x : List ℕ). LeavesOnly (view mid.disk) (view new.disk) (MayHold (bodies_in view mid) x)) c.as_slice.ensures (c.added.ensures.any_moment told)) c.added.ensures.sound
-    (record { only_now = g.met.D.Disk.only_now s.journal.disk; counts_now = g.met.D.Disk.counts_now new.disk; reads = λ told. g.met.D.Disk.reads_image s.journal.disk told })
-    c.in-Err-added.count (c.in-Err-added.ensures.same_len ∙ done.len)
+    (record { settled = λ told settled. done.settled told; format = done.format; seen = done.seen; images = done.images; time = done.time })
+    (λ told. subst (λ (x : List ℕ). LeavesOnly (view mid.disk) (view new.disk) (MayHold newest (bodies_in view mid) x)) c.as_slice.ensures (c.added.ensures.any_moment told)) c.added.ensures.sound
+    (record { only_now = g.met.D.Disk.only_now s.journal.disk; counts_now = g.met.D.Disk.counts_now new.disk; reads = λ told. g.met.D.Disk.reads_image s.journal.disk told; now = c.added.ensures.newest })
+    c.in-Err-added.count (c.in-Err-added.ensures.same_len ∙ done.len) c.written.new.notes done.noted done.told
 
 pub returns-clause-event : goal.returns-clause-event
 returns-clause-event g c = (doubted g (goal.at.returns-clause-event g c).In-Err-added).event
