@@ -1,12 +1,13 @@
 -- Shelves that are opened one after another, and handed back.
-use Rattle.std.proofs.Common.{◌≡◌, ◌≢◌, inl, inr, ℕ, zero, suc, ◌≤◌, ◌<◌, ◌+◌, ◌-◌, Bool, List, [], ◌∷◌, ◌++◌, length, length-append, map, reverse, Some, slice_get, IsTrue, refl, ap, sym, ◌∙◌, subst, arith}
+use Rattle.std.proofs.Common.{◌≡◌, ◌≢◌, inl, inr, ℕ, zero, suc, ◌≤◌, ◌<◌, ◌+◌, ◌-◌, Bool, false, List, [], ◌∷◌, ◌++◌, length, length-append, map, reverse, Some, slice_get, IsTrue, refl, ap, sym, ◌∙◌, subst, arith}
 use Rattle.std.specs.Prelude.{option_map}
 use Rattle.std.specs.List.{AllZip}
-use Rattle.std.proofs.lemmas.List.{append-nil, reverse-reverse}
+use Rattle.std.proofs.lemmas.List.{append-nil, reverse-append, reverse-reverse}
 use Rattle.std.proofs.lemmas.Option.{slice_get_within}
 use Rattle.web_disk.specs.View.{View}
+use Rattle.web_disk.specs.declared.disk.Disk.{Ghosts}
+use Rattle.disk_trio.specs.declared.trio.Disks.{Disks}
 use Rattle.web_disk.proofs.Moments.{started}
-use Rattle.journal_spec.specs.Standing.{HeldOpened}
 use Rattle.script_nodes.specs.Setup.{Named}
 use Rattle.script_nodes.specs.Views.{library_of}
 use Rattle.web_outside.specs.Causes.{Rose}
@@ -27,7 +28,7 @@ use Rattle.site.specs.declared.kept.KeptShelf.{KeptShelf}
 use Rattle.site.specs.declared.opening.Opening.{Opening}
 use Rattle.site.specs.declared.site.Site.{Site}
 use Rattle.site.specs.Passes.{Spots}
-use Rattle.site.specs.Beginnings.{AreCopies, LosesNothing, rules_for, IsOpenedOn, IsBegun, IsFreshOn, AreFreshOn, IsReturned, IsUnopened, AreUnopened, IsUnder, IsWhole, IsFirstPass, given_out, most_passes}
+use Rattle.site.specs.Beginnings.{AreNew, AreCopies, LosesNothing, rules_for, IsOpenedOn, IsBegun, IsFreshOn, AreFreshOn, IsReturned, IsUnopened, AreUnopened, IsUnder, IsWhole, IsFirstPass, given_out, most_passes}
 
 module _ {A : Type 0} where
   pub at_here : (xs : List A) (x : A) (rest : List A) → slice_get (xs ++ x ∷ rest) (length xs) ≡ Some x
@@ -73,19 +74,16 @@ module _ {D : Type 0} (view : D → View) (tells : Bool) (scripts : List Named) 
   -- a disk that nothing was done to
   pub returned_same : OnlyNow → (k : ℕ) (d : D) → IsReturned view tells scripts k d d
   returned_same only_now k d = record {
-    any_moment = λ told before after between hold. record {
-      moments = started (view d) (HeldOpened between scripts) (λ image left. inl (hold image (only_now d image left)));
-      stands = inl hold;
-    };
+    any_moment = λ told before after between hold. started (view d) _ (λ image left. inl (inl (hold image (only_now d image left))));
     own_moments = λ told own. started (view d) (HoldsOwnRecords k) (λ image left. (own.0, own.1 image (only_now d image left)));
     later = omega arith;
   }
 
-  bare_same : (d : D) → KeepsRecords [] (view d) (view d)
-  bare_same d = inl (refl, (refl, λ image left. left))
+  bare_same : (k : ℕ) (d : D) → KeepsRecords k [] (view d) (view d)
+  bare_same k d = inl (refl, (refl, λ image left. left))
 
   kept_same : (k : ℕ) (d : D) → LosesNothing scripts k (view d) (view d)
-  kept_same k d = inl (bare_same d)
+  kept_same k d = inl (bare_same k d)
 
   -- so disks that nothing was done to are handed back
   pub unopened_none : OnlyNow → (disks : List D) → 0 < length disks → AreUnopened view tells scripts disks disks 0 Memory
@@ -236,7 +234,7 @@ module _ {D N : Type 0} (view : D → View) (tells : Bool) (coming : N → ℕ �
           earlier = λ told k x lt x_is.
               let s = get_there ks k (omega arith) in
               let f = fresh_at k x s.0 x_is s.1 in
-              (book_in view s.0.shelf, (f.1.shelf.book told, f.1.shelf.in_order.sound));
+              (book_in view s.0.shelf, (f.1.shelf.book told, f.1.shelf.in_order.sound, f.1.shelf.fits told));
           why = λ told x x_is. subst (λ (z : D). IsFaultOf scripts number (view z) fault) (one_of (sym here ∙ x_is)) (unopened.why told);
           cause = λ was x y x_is y_is.
               subst (λ (z : D). Rose (view z).faults (view y).faults) (one_of (sym here ∙ x_is))
@@ -248,11 +246,11 @@ module _ {D N : Type 0} (view : D → View) (tells : Bool) (coming : N → ℕ �
               (λ n a sound. kept_same view tells scripts n a) k x y
               (ap (λ l. slice_get l k) (sym is) ∙ x_is) y_is;
           bare = λ told no k x y low x_is y_is.
-              pairs_of (λ (n : ℕ) (a b : D). number ≤ n → (n ≡ number → fault ≢ DiskFault) → KeepsRecords [] (view a) (view b)) front (map disk_in ks) rest d e
+              pairs_of (λ (n : ℕ) (a b : D). number ≤ n → (n ≡ number → fault ≢ DiskFault) → KeepsRecords n [] (view a) (view b)) front (map disk_in ks) rest d e
               (len ∙ sym (mapped ∙ many))
               (λ n a b a_is b_is high. absurd (let within = slice_get_within front n a a_is in omega (arith, within, high, len)))
-              (λ high sound. unopened.keeps told (sound len))
-              (λ n a high sound. bare_same view tells scripts a) k x y
+              (λ high sound. subst (λ (n : ℕ). KeepsRecords n [] (view d) (view e)) (sym len) (unopened.keeps told (sound len)))
+              (λ n a high sound. bare_same view tells scripts n a) k x y
               (ap (λ l. slice_get l k) (sym is) ∙ x_is) y_is low;
         }
 
@@ -323,3 +321,21 @@ module _ {D N : Type 0} where
 -- one pass more was dealt
 pub given_next : {O : Type 0} (row : Homes O) (n : ℕ) → one_dealt (given_out n row) ≡ given_out (n + 1) row
 given_next row n = let same : most_passes - n - 1 ≡ most_passes - (n + 1) = omega arith in λ i. record { homes = row.homes; seats = n + 1; left = same i }
+
+-- ---- disks that were not opened
+
+pub new_front : {D : Type 0} {G : Ghosts D} (front : List (Disks D G)) (last : Disks D G) → AreNew (front ++ last ∷ []) → AreNew front
+new_front [] last all = tt
+new_front (d ∷ front) last all = (all.0, new_front front last all.1)
+
+pub new_last : {D : Type 0} {G : Ghosts D} (front : List (Disks D G)) (last : Disks D G) → AreNew (front ++ last ∷ []) → last.known ≡ false
+new_last [] last all = all.0
+new_last (d ∷ front) last all = new_last front last all.1
+
+new_join : {D : Type 0} {G : Ghosts D} (front : List (Disks D G)) (last : Disks D G) → AreNew front → last.known ≡ false → AreNew (front ++ last ∷ [])
+new_join [] last all new = (new, tt)
+new_join (d ∷ front) last all new = (all.0, new_join front last all.1 new)
+
+pub new_turned : {D : Type 0} {G : Ghosts D} (disks : List (Disks D G)) → AreNew disks → AreNew (reverse disks)
+new_turned [] all = tt
+new_turned (d ∷ disks) all = subst AreNew (sym (reverse-append (d ∷ []) disks)) (new_join (reverse disks) d (new_turned disks all.1) all.0)

@@ -9,7 +9,7 @@ use Rattle.journal_spec.specs.Laws.{ImagesMakeBooks}
 use Rattle.replay_spec.specs.Step as step
 use Rattle.shelf.specs.Visits.{Ticket, ticket_of, reply_of}
 use Rattle.shelf.specs.declared.shelf.Shelf.{Shelf}
-use Rattle.shelf.specs.Views.{IsInOrder, IsOwnShelf, IsOwnVisit, IsEvent, swept_of}
+use Rattle.shelf.specs.Views.{IsInOrder, IsOwnShelf, IsOwnVisit, IsEvent, swept_of, compacted_of}
 use Rattle.shelf.specs.Events.{SpendsNumber, TellsCount, HasMoments, HasOwnMoments}
 use Rattle.shelf.specs.Going.{TicketsGoOnToFit}
 use Rattle.shelf.proofs.Order.{quiet}
@@ -19,7 +19,7 @@ use Rattle.site.specs.declared.opening.Opening.{Opening}
 use Rattle.site.specs.Entries.{entry}
 use Rattle.site.specs.Openings.{IsOwnOpening, source_of, count_of}
 use Rattle.site.specs.Sound.{IsSound, HasItsHistory, Holds}
-use Rattle.site.proofs.Outs.{spent_out, drawn_take, drawn_publish, drawn_sweep}
+use Rattle.site.proofs.Outs.{spent_out, drawn_take, drawn_publish, drawn_sweep, drawn_compact}
 use Rattle.site.proofs.Sounds.{out_push, nonces_push, nonces_stay, some_push, some_same, take_told, kept_push, ever_push, ever_same, sound_push}
 use Rattle.site.proofs.Holding.{fits_now}
 
@@ -86,6 +86,27 @@ module _ {D N : Type 0} (view : D → View) (tells : Bool) (coming : N → ℕ �
       let r = swept_of result in
       let e = entry caller x r in
       let drawn = drawn_sweep es caller tick result in
+      sound_push view tells coming o s t es p e order (out_push view tells coming o s t es p caller x r tt tt does)
+      (nonces_push view tells coming o s t es p caller x r drawn (does.nonces (source_of coming o) (length (tickets_taken es)) p.nonces))
+      rules library later (λ told. some_push view tells coming o s t es p images (moments told) told)
+      (λ own.
+      let h = p.history own in
+      let kept = kept_push view tells coming o s t es p h caller x r tt does later cause drawn in
+      record {
+        own = keeps h.own;
+        kept = kept;
+        ever = λ told. ever_push view tells coming o s t es p h images e (own_moments told h.own) (ap (λ z. z.book) kept.shelf) told;
+      })
+
+  pub compact_sound : (caller : ℕ) (result : Result ℕ answers.Reply) → ImagesMakeBooks → IsEvent view coming s t step.compact (compacted_of result) → IsInOrder view tells t
+      → (IsOwnShelf view tells s → IsOwnShelf view tells t) → (IsTrue tells → HasMoments view s t) → (IsTrue tells → IsOwnShelf view tells s → HasOwnMoments view s t)
+      → TellsCount (count_of view s) (count_of view t) (compacted_of result) → count_of view s ≤ count_of view t → t.rules ≡ s.rules → t.library ≡ s.library
+      → IsSound view tells coming o t (es ++ entry caller step.compact (compacted_of result) ∷ [])
+  compact_sound caller result images does order keeps moments own_moments cause later rules library =
+      let x = step.compact in
+      let r = compacted_of result in
+      let e = entry caller x r in
+      let drawn = drawn_compact es caller result in
       sound_push view tells coming o s t es p e order (out_push view tells coming o s t es p caller x r tt tt does)
       (nonces_push view tells coming o s t es p caller x r drawn (does.nonces (source_of coming o) (length (tickets_taken es)) p.nonces))
       rules library later (λ told. some_push view tells coming o s t es p images (moments told) told)

@@ -1,7 +1,7 @@
 -- Which of the parts of a site may go to another thread.
 use denote.RattleType.{RattleType}
 use denote.Struct.Declared.{fields, shape}
-use denote.Param.Send.{AllSend, AllSync, IsSend, IsSync, sendable, struct_send, struct_sync, part_keyless}
+use denote.Param.Send.{AllSend, AllSync, IsSend, IsSync, recorded_send, recorded_sync, sendable, struct_send, struct_sync, part_keyless}
 use Rattle.std.proofs.Crossing.{crosses}
 use Rattle.std.proofs.MapsCrossing as maps
 use Rattle.script_value.proofs.value.Items.TheLaws.TheKnot as knot
@@ -28,7 +28,11 @@ use Rattle.page_journal.proofs.journal.Journal.TheSendSync as journals
 use Rattle.shelf.proofs.rules.Rules.TheSendSync as rules
 use Rattle.shelf.specs.contracts.doubt.Work as Work
 use Rattle.shelf.specs.contracts.doubt.Doubt as Doubt
-use Rattle.shelf.specs.contracts.file.FilePast as FilePast
+use Rattle.disk_trio.specs.contracts.trio.Disks as Disks
+use Rattle.disk_trio.proofs.side.Side.TheSendSync as sides
+use Rattle.file_notes.specs.contracts.note.Note as Note
+use Rattle.file_notes.specs.contracts.past.FilePast as FilePast
+use Rattle.file_notes.specs.contracts.notes.FileNotes as FileNotes
 use Rattle.shelf_lock.proofs.pass.Pass.TheSendSync as passes
 use Rattle.shelf_lock.proofs.lock.ShelfLock.TheSendSync as locks
 use Rattle.shelf_lock.specs.declared.kept.Kept.{Ghosts}
@@ -128,8 +132,14 @@ work = search (sendable, change) depth 40 fits 100000
 doubt : IsSend Doubt.the_field.row
 doubt = search (sendable, work) depth 40 fits 100000
 
-file : (D : RattleType) → IsSend (FilePast.the_field D).row
-file D = search (sendable, crosses) depth 40 fits 100000
+note : IsSend Note.the_field.row
+note = search (sendable, crosses) depth 40 fits 100000
+
+file_past : IsSend FilePast.the_field.row
+file_past = search (sendable, crosses) depth 40 fits 100000
+
+file : IsSend FileNotes.the_field.row
+file = search (sendable, crosses, note, file_past) depth 40 fits 100000
 
 node : IsSend Node.the_field.row
 node = search (sendable, crosses, knot.crosses, op.the_field_send, kinds.the_field_send) depth 60 fits 100000
@@ -232,8 +242,14 @@ work_sync = search (sendable, change_sync) depth 40 fits 100000
 doubt_sync : IsSync Doubt.the_field.row
 doubt_sync = search (sendable, work_sync) depth 40 fits 100000
 
-file_sync : (D : RattleType) → IsSync (FilePast.the_field D).row
-file_sync D = search (sendable, crosses) depth 40 fits 100000
+note_sync : IsSync Note.the_field.row
+note_sync = search (sendable, crosses) depth 40 fits 100000
+
+file_past_sync : IsSync FilePast.the_field.row
+file_past_sync = search (sendable, crosses) depth 40 fits 100000
+
+file_sync : IsSync FileNotes.the_field.row
+file_sync = search (sendable, crosses, note_sync, file_past_sync) depth 40 fits 100000
 
 node_sync : IsSync Node.the_field.row
 node_sync = search (sendable, crosses, knot.crosses, op.the_field_sync, kinds.the_field_sync) depth 60 fits 100000
@@ -290,3 +306,17 @@ row_sync T T' T'' g t y = search (sendable, crosses, lock, row_pass_sync) depth 
 
 pub site_sync : (D N : RattleType) (d : disk.Ghosts D.Denot) (n : nonces.Ghosts N.Denot) → IsSend D → IsSend N → IsSync D → IsSync N → IsSync (Site.the_field D N d n).row
 site_sync D N d n ds ns dy ny = search (sendable, crosses, row_sync, library_sync, kept, kept_sync) depth 40 fits 100000
+
+-- ---- the disks of a shelf
+
+trio : (D : RattleType) (d : disk.Ghosts D.Denot) → IsSend D → IsSend (Disks.the_field D d).row
+trio D d send = search (sendable, crosses, sides.the_field_send) depth 40 fits 100000
+
+trio_sync : (D : RattleType) (d : disk.Ghosts D.Denot) → IsSync D → IsSync (Disks.the_field D d).row
+trio_sync D d sync = search (sendable, crosses, sides.the_field_sync) depth 40 fits 100000
+
+pub disks : (D : RattleType) (d : disk.Ghosts D.Denot) → IsSend D → IsSend (Disks.the_row D d)
+disks D d send = recorded_send (Disks.the_field D d).row _ _ (Disks.the_type D d).to_one (trio D d send)
+
+pub disks_sync : (D : RattleType) (d : disk.Ghosts D.Denot) → IsSync D → IsSync (Disks.the_row D d)
+disks_sync D d sync = recorded_sync (Disks.the_field D d).row _ _ (Disks.the_type D d).to_one (trio_sync D d sync)

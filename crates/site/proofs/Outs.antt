@@ -9,14 +9,14 @@ use Rattle.page_names.specs.Names.{Destination}
 use Rattle.replay_spec.specs.Book.{Book}
 use Rattle.replay_spec.specs.Rules.{Rules}
 use Rattle.replay_spec.specs.Next.{Ticket}
-use Rattle.replay_spec.specs.Step.{Event, take, publish, sweep, swept, Fate, Reply, step}
+use Rattle.replay_spec.specs.Step.{Event, take, publish, sweep, compact, swept, compacted, Fate, Reply, step}
 use Rattle.replay_spec.specs.Runs.{drawn_by}
 use Rattle.replay_spec.specs.Invariant.{IsOrderly}
 use Rattle.replay_spec.specs.Laws.{IsLawful, Moment, tickets_by}
 use Rattle.replay_spec.proofs.Numbers.{numbers, numbers_spent, tickets_out}
 use Rattle.replay_spec.proofs.Stand.{among_of}
 use Rattle.shelf.specs.Visits.{reply_of}
-use Rattle.shelf.specs.Views.{swept_of}
+use Rattle.shelf.specs.Views.{swept_of, compacted_of}
 use Rattle.shelf.proofs.Order.{quiet}
 use Rattle.history_spec.specs.Histories.{Entry, MayCome, Owes, own_of, owed_by, tickets_left}
 use Rattle.history_spec.specs.Laws.{take_of, given_by, tickets_taken}
@@ -108,3 +108,8 @@ pub drawn_sweep : (es : List Entry) (caller tick : ℕ) (result : Result ℕ ans
     → drawn_by (swept_of result) (length (tickets_taken es)) ≡ length (tickets_taken (es ++ entry caller (sweep tick) (swept_of result) ∷ []))
 drawn_sweep es caller tick (Ok n) = drawn_then es caller (sweep tick) (swept n) (let z : length (tickets_taken es) ≡ length (tickets_taken es) + 0 = omega arith in z)
 drawn_sweep es caller tick (Err r) = drawn_then es caller (sweep tick) (reply_of r) (none_drawn r (length (tickets_taken es)))
+
+pub drawn_compact : (es : List Entry) (caller : ℕ) (result : Result ℕ answers.Reply)
+    → drawn_by (compacted_of result) (length (tickets_taken es)) ≡ length (tickets_taken (es ++ entry caller compact (compacted_of result) ∷ []))
+drawn_compact es caller (Ok n) = drawn_then es caller compact (compacted n) (let z : length (tickets_taken es) ≡ length (tickets_taken es) + 0 = omega arith in z)
+drawn_compact es caller (Err r) = drawn_then es caller compact (reply_of r) (none_drawn r (length (tickets_taken es)))

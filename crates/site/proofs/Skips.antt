@@ -1,5 +1,5 @@
 -- A tick that was swept has nothing to do when it comes again.
-use Rattle.std.proofs.Common.{◌≡◌, ◌⊎◌, ◌≤◌, ℕ, Bool, List, [], ◌∷◌, ◌++◌, inl, inr, map, length, length-append, length-set, Some, None, Option, slice_get, set, refl, ap, sym, ◌∙◌, subst, arith, append_assoc}
+use Rattle.std.proofs.Common.{◌≡◌, ◌⊎◌, ◌≤◌, ℕ, Bool, true, false, List, [], ◌∷◌, ◌++◌, inl, inr, map, length, length-append, length-set, Some, None, Option, slice_get, set, refl, ap, sym, ◌∙◌, subst, arith, append_assoc}
 use Rattle.std.specs.Prelude.{Result, Ok, Err, IfOk, Vec, zero, suc}
 use Rattle.std.specs.declared.alloc.Global.{Global}
 use Rattle.std.specs.declared.alloc.AllocError.{AllocError}
@@ -24,7 +24,7 @@ use Rattle.site.specs.declared.entry.KeptEntry.{KeptEntry}
 use Rattle.site.specs.declared.opening.Opening.{Opening}
 use Rattle.site.specs.Entries.{entry}
 use Rattle.site.specs.Openings.{IsOwnOpening, start_of, source_of, count_of}
-use Rattle.site.specs.Passes.{Spots, Known, seen_by, GoesFrom, Took, Published, HasReached, Swept}
+use Rattle.site.specs.Passes.{Spots, Known, seen_by, has_freed, GoesFrom, Took, Published, HasReached, Swept, Compacted, Follows, Ticked}
 use Rattle.site.specs.declared.site.Site.{Site}
 use Rattle.site.specs.Sites.{IsOwn, TakesOn, VisitsAt, Ticks, AnswersTick, shelf_for}
 
@@ -68,10 +68,6 @@ risen source opened now s caller seen added es is goes =
     subst (λ l. (book_behind source s seen).clock ≤ (book_behind source s l).clock) (sym all)
     (never_back source opened now s seen more is (subst (IsLegal source opened now s) all goes.legal)).0
 
--- no list is longer by an element than itself
-no_longer : (xs : List Entry) (e : Entry) → xs ≡ xs ++ e ∷ [] → ⊥
-no_longer xs e is = let long = ap length is ∙ length-append xs (e ∷ []) in absurd (omega arith)
-
 module _ {D N : Type 0} (view : D → View) (tells : Bool) (coming : N → ℕ → ℕ) where
   -- what was seen was seen
   stays : (v w : Known D N) (added : List Entry) → GoesFrom view tells coming v added w → GoesFrom view tells coming w [] w
@@ -99,16 +95,57 @@ module _ {D N : Type 0} (view : D → View) (tells : Bool) (coming : N → ℕ �
       let low = h o before mine in
       omega (arith, up, low)
 
-  -- what a sweep that did nothing was answered, if not a refusal, another is answered after whatever its caller did
-  same_answer : (v w : Known D N) (added : List Entry) (tick n : ℕ) → GoesFrom view tells coming v added w
-      → Swept view tells coming v tick (Ok n) v → Swept view tells coming w tick (Ok n) w
-  same_answer v w added tick n g (inl one, h) = absurd (no_longer (own_of v.caller (seen_by v)) (entry v.caller (step.sweep tick) (step.swept n)) one.grows.own)
-  same_answer v w added tick n g (inr none, h) = (inr (none.0, stays v w added g), reached v w added tick g h)
+  compacted_goes : (v w : Known D N) → Compacted view tells coming v w → (added : List Entry) × GoesFrom view tells coming v added w
+  compacted_goes v w (Compacted.compacted told goes long) = (_, goes)
+  compacted_goes v w (Compacted.short goes short) = (_, goes)
+  compacted_goes v w (Compacted.worn goes full) = (_, goes)
 
-  -- after a sweep that was answered another one does nothing
-  again : (v w : Known D N) (tick n : ℕ) → Swept view tells coming v tick (Ok n) w → Swept view tells coming w tick (Ok 0) w
-  again v w tick n (inl one, h) = (inr (refl, stays v w (entry v.caller (step.sweep tick) (step.swept n) ∷ []) one), h)
-  again v w tick n (inr none, h) = (inr (refl, stays v w [] none.1), h)
+  -- what follows a sweep makes entries, or none
+  follows_goes : (freed : Bool) (v w : Known D N) (before : List Entry) (u : Known D N) → GoesFrom view tells coming u before v → Follows view tells coming freed v w
+      → (added : List Entry) × GoesFrom view tells coming v added w
+  follows_goes true v w before u g follows = compacted_goes v w follows
+  follows_goes false v w before u g same = ([], subst (GoesFrom view tells coming v []) (sym same) (stays u v before g))
+
+  swept_goes : (v w : Known D N) (tick n : ℕ) → Swept view tells coming v tick (Ok n) w → (added : List Entry) × GoesFrom view tells coming v added w
+  swept_goes v w tick n (inl one, h) = (_, one)
+  swept_goes v w tick n (inr none, h) = (_, none.1)
+
+  -- a tick that does nothing
+  idle : (v : Known D N) (tick : ℕ) → GoesFrom view tells coming v [] v → HasReached view tells coming v tick → Ticked view tells coming v tick (Ok 0) v
+  idle v tick g h = record { middle = v; swept = (inr (refl, g), h); follows = refl }
+
+  -- what a tick that did nothing was answered is that nothing was freed
+  none_freed : (v m : Known D N) (added : List Entry) (tick n : ℕ) → Swept view tells coming v tick (Ok n) m → GoesFrom view tells coming m added v → n ≡ 0
+  none_freed v m added tick n (inr none, h) g = none.0
+  none_freed v m added tick n (inl one, h) g =
+      let e : Entry = entry v.caller (step.sweep tick) (step.swept n) in
+      let same : m.caller ≡ v.caller = ap (λ (u : Known D N). u.caller) one.is in
+      let first = ap length one.grows.own ∙ length-append (own_of v.caller (seen_by v)) (e ∷ []) in
+      let more : own_of v.caller (seen_by v) ≡ own_of v.caller (seen_by m) ++ added = subst (λ c. own_of c (seen_by v) ≡ own_of c (seen_by m) ++ added) same g.grows.own in
+      let second = ap length more ∙ length-append (own_of v.caller (seen_by m)) added in
+      absurd (omega (arith, first, second))
+
+  -- behind a tick another one at the same time does nothing, whatever its caller did since
+  again : (v w u : Known D N) (added : List Entry) (tick n : ℕ) → Ticked view tells coming v tick (Ok n) w → GoesFrom view tells coming w added u → Ticked view tells coming u tick (Ok 0) u
+  again v w u added tick n t g =
+      let one = swept_goes v t.middle tick n t.swept in
+      let two = follows_goes (has_freed (Ok n)) t.middle w one.0 v one.1 t.follows in
+      idle u tick (stays w u added g) (reached w u added tick g (reached t.middle w two.0 tick two.1 t.swept.1))
+
+  ticked_goes : (v w : Known D N) (tick n : ℕ) → Ticked view tells coming v tick (Ok n) w → GoesFrom view tells coming w [] w
+  ticked_goes v w tick n t =
+      let one = swept_goes v t.middle tick n t.swept in
+      let two = follows_goes (has_freed (Ok n)) t.middle w one.0 v one.1 t.follows in
+      stays t.middle w two.0 two.1
+
+  -- what a tick that did nothing was answered, if not a refusal, another is answered after whatever its caller did
+  same_answer : (v w : Known D N) (added : List Entry) (tick n : ℕ) → GoesFrom view tells coming v added w
+      → Ticked view tells coming v tick (Ok n) v → Ticked view tells coming w tick (Ok n) w
+  same_answer v w added tick n g t =
+      let one = swept_goes v t.middle tick n t.swept in
+      let two = follows_goes (has_freed (Ok n)) t.middle v one.0 v one.1 t.follows in
+      let none : n ≡ 0 = none_freed v t.middle two.0 tick n t.swept two.1 in
+      subst (λ (k : ℕ). Ticked view tells coming w tick (Ok k) w) (sym none) (again v v w added tick n t g)
 
   -- a tick at this time may be left out
   abbrev pub Skips : Spots D N → ℕ → Type 0
@@ -122,18 +159,19 @@ module _ {D N : Type 0} (view : D → View) (tells : Bool) (coming : N → ℕ �
     record {
       all = map_length (λ (r : Result ℕ Reply). Ok 0) answers ∙ (ticks.all ∙ sym long);
       so = record {
-        swept = λ k r e a is.
+        ticked = λ k r e a is.
             let u = nothing_at answers k r e in
             let within = slice_get_within answers k u.0 u.1 in
             let before = get_there old k (omega (arith, within, ticks.all)) in
-            let did = ticks.so.swept k u.0 u.1 before.0 before.1 in
+            let did = ticks.so.ticked k u.0 u.1 before.0 before.1 in
             let n = swept_at answers k u.0 all u.1 in
             let same : a ≡ spot before.0.table did.0 = one_of (sym is ∙ did.1) in
-            let now = again before.0.known did.0 tick n.0 (subst (λ (x : Result ℕ Reply). Swept view tells coming before.0.known tick x did.0) n.1 did.2) in (
+            let answered = subst (λ (x : Result ℕ Reply). Ticked view tells coming before.0.known tick x did.0) n.1 did.2 in
+            let now = again before.0.known did.0 did.0 [] tick n.0 answered (ticked_goes before.0.known did.0 tick n.0 answered) in (
               a.known,
               is,
-              subst (λ (x : Result ℕ Reply). Swept view tells coming a.known tick x a.known) (sym u.2)
-                  (subst (λ (z : Spot (Opening D N) KeptEntry). Swept view tells coming z.known tick (Ok 0) z.known) (sym same) now),
+              subst (λ (x : Result ℕ Reply). Ticked view tells coming a.known tick x a.known) (sym u.2)
+                  (subst (λ (z : Spot (Opening D N) KeptEntry). Ticked view tells coming z.known tick (Ok 0) z.known) (sym same) now),
             );
         others = λ k le. refl;
       };
@@ -152,21 +190,21 @@ module _ {D N : Type 0} (view : D → View) (tells : Bool) (coming : N → ℕ �
   -- what may be left out on one shelf may be after a call there, and on another one as before
   one_place : (k : ℕ) (old new : Spots D N) (tick : ℕ) (answers : List (Result ℕ Reply)) (s : Spot (Opening D N) KeptEntry) (w : Known D N) → AreSwept answers
       → Ticks view tells coming old tick answers old → slice_get old k ≡ Some s
-      → ((n : ℕ) → Swept view tells coming s.known tick (Ok n) s.known → Swept view tells coming w tick (Ok n) w)
+      → ((n : ℕ) → Ticked view tells coming s.known tick (Ok n) s.known → Ticked view tells coming w tick (Ok n) w)
       → (j : ℕ) (r : Result ℕ Reply) (a : Spot (Opening D N) KeptEntry) → slice_get answers j ≡ Some r → ((j ≡ k) × (spot s.table w ≡ a)) ⊎ (slice_get old j ≡ Some a)
-      → Swept view tells coming a.known tick r a.known
+      → Ticked view tells coming a.known tick r a.known
   one_place k old new tick answers s w all ticks at goes j r a e (inl here) =
       let n = swept_at answers j r all e in
-      let did = ticks.so.swept j r e s (ap (slice_get old) here.0 ∙ at) in
+      let did = ticks.so.ticked j r e s (ap (slice_get old) here.0 ∙ at) in
       let same : s ≡ spot s.table did.0 = one_of (sym (ap (slice_get old) here.0 ∙ at) ∙ did.1) in
-      let before = subst (λ (z : Known D N). Swept view tells coming s.known tick r z) (sym (ap (λ (z : Spot (Opening D N) KeptEntry). z.known) same)) did.2 in
-      let then = goes n.0 (subst (λ (u : Result ℕ Reply). Swept view tells coming s.known tick u s.known) n.1 before) in
-      subst (λ (z : Spot (Opening D N) KeptEntry). Swept view tells coming z.known tick r z.known) here.1
-      (subst (λ (u : Result ℕ Reply). Swept view tells coming w tick u w) (sym n.1) then)
+      let before = subst (λ (z : Known D N). Ticked view tells coming s.known tick r z) (sym (ap (λ (z : Spot (Opening D N) KeptEntry). z.known) same)) did.2 in
+      let then = goes n.0 (subst (λ (u : Result ℕ Reply). Ticked view tells coming s.known tick u s.known) n.1 before) in
+      subst (λ (z : Spot (Opening D N) KeptEntry). Ticked view tells coming z.known tick r z.known) here.1
+      (subst (λ (u : Result ℕ Reply). Ticked view tells coming w tick u w) (sym n.1) then)
   one_place k old new tick answers s w all ticks at goes j r a e (inr apart) =
-      let did = ticks.so.swept j r e a apart in
+      let did = ticks.so.ticked j r e a apart in
       let same : a ≡ spot a.table did.0 = one_of (sym apart ∙ did.1) in
-      subst (λ (z : Known D N). Swept view tells coming a.known tick r z) (sym (ap (λ (z : Spot (Opening D N) KeptEntry). z.known) same)) did.2
+      subst (λ (z : Known D N). Ticked view tells coming a.known tick r z) (sym (ap (λ (z : Spot (Opening D N) KeptEntry). z.known) same)) did.2
 
   -- a call on one shelf keeps what may be left out
   skips_at : (k : ℕ) (R : Known D N → Known D N → Type 0) (old new : Spots D N) (tick : ℕ) → ((v w : Known D N) → R v w → (added : List Entry) × GoesFrom view tells coming v added w)
@@ -179,7 +217,7 @@ module _ {D N : Type 0} (view : D → View) (tells : Bool) (coming : N → ℕ �
         record {
           all = s.2.all ∙ (sym (length-set old k put) ∙ ap length (sym at.3));
           so = record {
-            swept = λ j r e a is. (
+            ticked = λ j r e a is. (
               a.known,
               is,
               one_place k old new tick s.0 at.0 at.1 s.1 s.2 at.2 (λ n before. same_answer at.0.known at.1 g.0 tick n g.1 before) j r a e

@@ -25,6 +25,7 @@ use Rattle.shelf_lock.proofs.Prefixes.{prefix_self}
 use Rattle.shelf.proofs.Owned.{leaves_as}
 use Rattle.shelf.specs.declared.rules.Rules as limits_of
 use Rattle.shelf.specs.declared.shelf.Shelf.{Shelf}
+use Rattle.shelf.specs.Files.{LeavesNewest}
 use Rattle.shelf.specs.Owning.{HoldsOwnRecords, StandsOwn}
 use Rattle.shelf.specs.Views as views
 use Rattle.shelf.specs.Views.{IsInOrder, IsEvent, HasGiven, book_in, shelf_of, rules_of}
@@ -253,6 +254,7 @@ module _ {D N : Type 0} (view : D → View) (tells : Bool) (coming : N → ℕ �
                 (subst (λ (r : limits_of.Rules). Stands setup_of_texts r.number (view s.journal.disk) (book_in view s)) p.rules (p.in_order.fit told).stands),
           );
           ever = λ told. subst (λ d. LeavesOnly v0 (view d) (MakesSome view tells coming o)) (sym disk_is) (p.ever told);
+          newest = λ told. subst (λ d. LeavesNewest (view d)) (sym disk_is) (p.in_order.knows.images told);
           history = λ own.
               let h = p.history own in
               record {

@@ -1,5 +1,5 @@
 -- What a turn at one lock tells its pass.
-use Rattle.std.proofs.Common.{arith, ◌+◌, ◌≡◌, ◌==◌, ◌≤◌, inl, inr, ℕ, Bool, true, false, cond, List, [], ◌∷◌, ◌++◌, map, refl, sym, ◌∙◌, ap, subst}
+use Rattle.std.proofs.Common.{arith, ◌+◌, ◌≡◌, ◌==◌, ◌≤◌, ◌<◌, inl, inr, ℕ, Bool, true, false, cond, List, [], ◌∷◌, ◌++◌, map, refl, sym, ◌∙◌, ap, subst}
 use Rattle.std.specs.Prelude.{length, Result, Ok, Err, IfOk, MatchResult}
 use Rattle.std.proofs.lemmas.List.{append-nil, length-map}
 use Rattle.std.proofs.lemmas.List.Elements.{Contains-push}
@@ -9,6 +9,7 @@ use mathlib.Core.List.{IsPrefix}
 use Rattle.web_disk.specs.View.{View}
 use Rattle.shelf_lock.specs.declared.view.Role.TheVariants.{Outside}
 use Rattle.shelf_lock.specs.Order.{posed, made_by, Adds, entry_limit}
+use Rattle.lock_row.proofs.Ends.{same_fronts}
 use Rattle.lock_row.proofs.Places.{map_snoc}
 use Rattle.script_value.specs.Val.{Val}
 use Rattle.script_value.specs.declared.outcome.Reply as answers
@@ -17,7 +18,7 @@ use Rattle.page_names.specs.Names.{Destination}
 use Rattle.replay_spec.specs.Step as step
 use Rattle.replay_spec.specs.Step.{Event}
 use Rattle.shelf.specs.Visits.{Ticket, ticket_of, reply_of}
-use Rattle.shelf.specs.Views.{book_in, taken_of, swept_of}
+use Rattle.shelf.specs.Views.{book_in, taken_of, swept_of, compacted_of}
 use Rattle.history_spec.specs.Histories.{Entry, own_of, IsLegal}
 use Rattle.history_spec.specs.Passes.{IsSeenBy, Goes}
 use Rattle.history_spec.proofs.Going.{go_on}
@@ -28,17 +29,18 @@ use Rattle.site.specs.declared.entry.Did.TheVariants as did
 use Rattle.site.specs.declared.entry.KeptEntry.{KeptEntry}
 use Rattle.site.specs.declared.kept.KeptShelf.{KeptShelf}
 use Rattle.site.specs.declared.opening.Opening.{Opening}
-use Rattle.site.specs.Entries.{entry, done_by, entry_of, entries_of, IsGivenIn, Comes, Sweeps}
+use Rattle.site.specs.Entries.{compacted_from, entry, done_by, entry_of, entries_of, IsGivenIn, Comes, Compacts, Sweeps}
 use Rattle.site.specs.Openings.{IsOwnOpening, start_of, source_of, count_of, book_then}
 use Rattle.site.proofs.Outs.{own_more}
 use Rattle.site.specs.Sound.{IsSound, Holds, Gives}
-use Rattle.site.specs.Passes.{Known, seen_by, Grows, GoesFrom, HoldsTicket, IsWorn, Took, Published, HasReached, Swept}
+use Rattle.site.specs.Passes.{Known, seen_by, Grows, GoesFrom, HoldsTicket, IsWorn, Took, Published, HasReached, Swept, Compacted}
 
 -- an entry is its caller's
 caller_done : (caller : ℕ) (d : Did) → (done_by caller d).caller ≡ caller
 caller_done caller (did.Take target answer told) = refl
 caller_done caller (did.Publish ticket told) = refl
 caller_done caller (did.Sweep tick told) = refl
+caller_done caller (did.Compact told) = refl
 
 map_cond : (b : Bool) (e : KeptEntry) (l : List KeptEntry) → cond b (entry_of e ∷ entries_of l) (entries_of l) ≡ entries_of (cond b (e ∷ l) l)
 map_cond true e l = refl
@@ -71,6 +73,10 @@ adds_one by who event r old new is c = inr (c.entry_made, c.caller_is ∙ sym is
 pub adds_swept : (by who tick : ℕ) (result : Result ℕ answers.Reply) (clock : ℕ) (old new : List KeptEntry) → who ≡ by → Sweeps by tick result clock old new → Adds (λ (e : KeptEntry). e.caller) who old new
 adds_swept by who tick result clock old new is (inl over) = inl over.1
 adds_swept by who tick result clock old new is (inr more) = adds_one by who (step.sweep tick) (swept_of result) old new is more.1
+
+pub adds_compacted : (by who length : ℕ) (old new : List KeptEntry) → who ≡ by → Compacts by length old new → Adds (λ (e : KeptEntry). e.caller) who old new
+adds_compacted by who length old new is (inl short) = inl short.1
+adds_compacted by who length old new is (inr (long, told, comes)) = adds_one by who step.compact (compacted_of told) old new is comes
 
 -- what a pass has then seen: nothing more of its own, or one entry
 grows_none : (caller : ℕ) (seen es : List Entry) → IsSeenBy caller seen es → Grows caller seen [] es
@@ -207,6 +213,31 @@ module _ {D N : Type 0} (view : D → View) (tells : Bool) (coming : N → ℕ �
         )
     swept by tick (Err r) is sound (inl over) = absurd (let no : ⊥ = cc over.2 in no)
     swept by tick (Err r) is sound (inr more) = inl (goes_one by (step.sweep tick) (reply_of r) is more.1)
+
+    -- what the turn found is measured as the history before it tells
+    measured : (P : ℕ → Type 0) → IsSound view tells coming x.opened x.shelf (entries_of x.history) → P (book_in view x.shelf).length
+        → (o : Opening D N) → w.opening ≡ o ∷ [] → IsOwnOpening view tells o → P (book_then view coming o (entries_of x.history)).length
+    measured P sound holds o is own =
+        let same : x.opened ≡ o = cc (sym t.opening_is ∙ (sym (ap (λ (u : Known D N). u.opening) t.seen_is) ∙ is)) in
+        let mine = subst (IsOwnOpening view tells) (sym same) own in
+        subst (λ (p : Opening D N). P (book_then view coming p (entries_of x.history)).length) same
+        (subst P (ap (λ z. z.book.length) (sound.history mine).kept.shelf) holds)
+
+    -- behind a turn that compacts a long journal
+    pub compacted : (by : ℕ) → v.caller ≡ by → IsSound view tells coming x.opened x.shelf (entries_of x.history)
+        → Compacts by (book_in view x.shelf).length x.history y.history → Compacted view tells coming v w
+    compacted by is sound (inl (short, same)) =
+        Compacted.short (goes_none same)
+        (λ o opening own.
+        subst (λ (l : List Entry). (book_then view coming o l).length < compacted_from) (ap entries_of (sym same) ∙ seen_now)
+        (measured (λ n. n < compacted_from) sound short o opening own))
+    compacted by is sound (inr (long, told, comes)) =
+        Compacted.compacted told (goes_one by step.compact (compacted_of told) is comes)
+        (λ front last ends o opening own.
+        let grown : entries_of y.history ≡ entries_of x.history ++ entry_of comes.entry_made ∷ [] = ap entries_of comes.is ∙ map_snoc entry_of x.history comes.entry_made in
+        let before : entries_of x.history ≡ front = same_fronts (entries_of x.history) front (entry_of comes.entry_made) last (sym grown ∙ (seen_now ∙ ends)) in
+        subst (λ (l : List Entry). compacted_from ≤ (book_then view coming o l).length) before
+        (measured (λ n. compacted_from ≤ n) sound long o opening own))
 
 pub match_ok : {A B : Type 0} (P : A → Type 0) (Q : B → Type 0) (r : Result A B) (a : A) → MatchResult r P Q → r ≡ Ok a → P a
 match_ok P Q (Ok b) a m e = subst P (let z : b ≡ a = cc e in z) m

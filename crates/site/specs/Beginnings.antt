@@ -1,6 +1,9 @@
 -- What a site begins with, and what it hands back where it does not begin.
-use Rattle.std.specs.Prelude.{◌≡◌, ◌≢◌, ◌⊎◌, ◌≤◌, ◌<◌, ◌-◌, ◌^◌, ℕ, Bool, IsTrue, List, [], ◌∷◌, ◌+◌, length, map, reverse, Some, slice_get, vec_len, vec_capacity}
+use Rattle.std.specs.Prelude.{◌≡◌, ◌≢◌, ◌⊎◌, ◌≤◌, ◌<◌, ◌-◌, ◌^◌, ℕ, Bool, false, IsTrue, List, [], ◌∷◌, ◌+◌, length, map, reverse, Some, slice_get, vec_len, vec_capacity}
 use Rattle.std.specs.Global.{Vec}
+use Rattle.std.specs.List.{AllByRecursion}
+use Rattle.web_disk.specs.declared.disk.Disk.{Ghosts}
+use Rattle.disk_trio.specs.declared.trio.Disks.{Disks}
 use Rattle.web_outside.specs.Causes.{Rose}
 use Rattle.web_disk.specs.View.{View}
 use Rattle.script_nodes.specs.Setup.{Named, Library}
@@ -9,12 +12,12 @@ use Rattle.script_nodes.specs.declared.library.Library as kept
 use Rattle.setup_reader.specs.Texts.{setup_of_texts}
 use Rattle.replay_spec.specs.Book.{Book}
 use Rattle.journal_records.specs.Records.{IsInGrammar, begin_of}
-use Rattle.journal_spec.specs.Standing.{OpensThroughout, IsOneOf}
+use Rattle.journal_spec.specs.Standing.{IsOneOf}
 use Rattle.shelf.specs.declared.begin.BeginFault.{BeginFault}
 use Rattle.shelf.specs.declared.begin.BeginFault.TheVariants.{DiskFault, Memory}
 use Rattle.shelf.specs.declared.rules.Rules.{Rules}
 use Rattle.shelf.specs.declared.shelf.Shelf.{Shelf}
-use Rattle.shelf.specs.Opening.{MakesBook, IsFaultOf, IsOpenedAnew, KeepsRecords, making_on, opening_bodies}
+use Rattle.shelf.specs.Opening.{HasRoomFor, MakesBook, IsFaultOf, IsOfNow, IsOpenedAnew, KeepsRecords, OpensOrMigrates, making_after, opening_bodies}
 use Rattle.shelf.specs.Owning.{IsOwnImage, HasOwnImages, StaysOwnThroughout}
 use Rattle.shelf.specs.Views.{IsInOrder, IsOwnShelf, book_in, library_in}
 use Rattle.lock_row.specs.Spots.{Home, Homes}
@@ -42,25 +45,31 @@ rules_for rules k = record rules { number = k }
 abbrev pub CanBegin : List Named → (shelves : ℕ) → Type 0
 CanBegin scripts shelves = (k : ℕ) → k < shelves → IsInGrammar (begin_of k scripts)
 
+-- the disks were not opened yet
+abbrev pub AreNew : {D : Type 0} {G : Ghosts D} → List (Disks D G) → Type 0
+AreNew disks = AllByRecursion (λ d. d.known ≡ false) disks
+
 module _ {D N : Type 0} (view : D → View) (tells : Bool) (scripts : List Named) where
   -- A shelf that was opened with this setup on this disk under these limits: its book is the one that a shelf goes on with on what the
   -- disk's bytes make, as after a crash. A crash at any moment of the opening left the disk between the books that it stood between, or
-  -- these with this setup; and nothing was lost on it, and nothing added but what the opening tells there. Where the records that are
-  -- read are own ones, it is an own shelf; on a disk that tells no bytes it is one where its book has no instance.
+  -- these with this setup, or with a file of the newest format; and nothing was lost on it, and nothing added but what the opening tells
+  -- there, for which a journal has room. Where the records that are read are own ones, it is an own shelf; on a disk that tells no bytes it
+  -- is one where its book has no instance.
   pub record IsOpenedOn (rules : Rules) (disk : D) (nonces : N) (s : Shelf D N) : Type 0 where
     pub rules_are : s.rules ≡ rules
     pub nonces_are : s.nonces ≡ nonces
     pub in_order : IsInOrder view tells s
     pub opened : IsOpenedAnew view scripts s
     pub book : IsTrue tells → MakesBook scripts rules.number (view disk) (book_in view s)
-    pub one_of : IsTrue tells → IsOneOf setup_of_texts rules.number scripts (view disk) (book_in view s)
+    pub one_of : IsTrue tells → IsOfNow (view disk) → IsOneOf setup_of_texts rules.number scripts (view disk) (book_in view s)
     pub own : IsTrue tells → IsOwnImage rules.number (view disk).seen → IsOwnShelf view tells s
     pub own_if_empty : (IsTrue tells → ⊥) → (book_in view s).instances ≡ [] → IsOwnShelf view tells s
-    pub any_moment : IsTrue tells → OpensThroughout setup_of_texts rules.number scripts (view disk) (view s.journal.disk)
+    pub any_moment : IsTrue tells → OpensOrMigrates rules.number scripts (view disk) (view s.journal.disk)
     pub own_moments : IsTrue tells → HasOwnImages rules.number (view disk)
         → StaysOwnThroughout rules.number (view disk) (view s.journal.disk)
     pub keeps : IsTrue tells
-        → KeepsRecords (opening_bodies scripts rules.number (making_on rules.number (view disk))) (view disk) (view s.journal.disk)
+        → KeepsRecords rules.number (opening_bodies scripts rules.number (making_after rules.number (view disk))) (view disk) (view s.journal.disk)
+    pub fits : IsTrue tells → HasRoomFor rules.number (view disk).seen
     pub later : (view disk).faults ≤ (view s.journal.disk).faults
 
 module _ {D N : Type 0} (view : D → View) (tells : Bool) (coming : N → ℕ → ℕ) (scripts : List Named) where
@@ -84,13 +93,13 @@ module _ {D N : Type 0} (view : D → View) (tells : Bool) (coming : N → ℕ �
 -- nothing was lost on a disk: it has the records that it had, with what the opening with this setup tells behind them or without it
 abbrev pub LosesNothing : List Named → (shelf : ℕ) → (old new : View) → Type 0
 LosesNothing scripts shelf old new =
-    KeepsRecords [] old new ⊎ KeepsRecords (opening_bodies scripts shelf (making_on shelf old)) old new
+    KeepsRecords shelf [] old new ⊎ KeepsRecords shelf (opening_bodies scripts shelf (making_after shelf old)) old new
 
 module _ {D : Type 0} (view : D → View) (tells : Bool) (scripts : List Named) where
   -- A disk that is handed back as the shelf's of this number: a crash at any moment left it between the books that it stood
   -- between, or these with this setup, and own where it was own; and its count has not fallen.
   pub record IsReturned (k : ℕ) (disk back : D) : Type 0 where
-    pub any_moment : IsTrue tells → OpensThroughout setup_of_texts k scripts (view disk) (view back)
+    pub any_moment : IsTrue tells → OpensOrMigrates k scripts (view disk) (view back)
     pub own_moments : IsTrue tells → HasOwnImages k (view disk) → StaysOwnThroughout k (view disk) (view back)
     pub later : (view disk).faults ≤ (view back).faults
 
@@ -99,7 +108,7 @@ module _ {D : Type 0} (view : D → View) (tells : Bool) (scripts : List Named) 
     pub returned : IsReturned k disk back
     pub why : IsTrue tells → IsFaultOf scripts k (view disk) fault
     pub cause : fault ≡ DiskFault → Rose (view disk).faults (view back).faults
-    pub keeps : IsTrue tells → fault ≢ DiskFault → KeepsRecords [] (view disk) (view back)
+    pub keeps : IsTrue tells → fault ≢ DiskFault → KeepsRecords k [] (view disk) (view back)
 
   -- disks are handed back, each in its place
   pub record AreReturned (disks back : List D) : Type 0 where
@@ -113,14 +122,14 @@ module _ {D : Type 0} (view : D → View) (tells : Bool) (scripts : List Named) 
     pub returned : AreReturned disks back
     pub within : shelf < length disks
     pub earlier : IsTrue tells → (k : ℕ) (d : D) → k < shelf → slice_get disks k ≡ Some d
-        → (b : Book) × (MakesBook scripts k (view d) b × (b.length ≤ 2 ^ 30))
+        → (b : Book) × (MakesBook scripts k (view d) b × (b.length ≤ 2 ^ 30) × HasRoomFor k (view d).seen)
     pub why : IsTrue tells → (d : D) → slice_get disks shelf ≡ Some d → IsFaultOf scripts shelf (view d) fault
     pub cause : fault ≡ DiskFault → (d e : D) → slice_get disks shelf ≡ Some d → slice_get back shelf ≡ Some e
         → Rose (view d).faults (view e).faults
     pub keep : IsTrue tells → (k : ℕ) (d e : D) → slice_get disks k ≡ Some d → slice_get back k ≡ Some e
         → (k ≡ shelf → fault ≢ DiskFault) → LosesNothing scripts k (view d) (view e)
     pub bare : IsTrue tells → fault ≢ Memory → (k : ℕ) (d e : D) → shelf ≤ k → slice_get disks k ≡ Some d → slice_get back k ≡ Some e
-        → (k ≡ shelf → fault ≢ DiskFault) → KeepsRecords [] (view d) (view e)
+        → (k ≡ shelf → fault ≢ DiskFault) → KeepsRecords k [] (view d) (view e)
 
   -- the shelf of this number was not opened, and this is why; its disk is handed back, with a source
   abbrev pub IsNotOpened : {N : Type 0} → ℕ → D → BeginFault × D × N → Type 0

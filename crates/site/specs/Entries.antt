@@ -1,16 +1,16 @@
 -- What the entries of a history stand for.
-use Rattle.std.specs.Prelude.{◌≡◌, ℕ, List, [], ◌∷◌, ◌++◌, map, ◌⊎◌, ◌≤◌, ◌<◌, Result, Ok, Contains}
+use Rattle.std.specs.Prelude.{◌≡◌, ℕ, List, [], ◌∷◌, ◌++◌, map, ◌⊎◌, ◌≤◌, ◌<◌, ◌^◌, Result, Ok, Contains}
 use Rattle.script_value.specs.declared.outcome.Reply.{Reply}
 use Rattle.script_value.specs.Views.{meaning}
 use Rattle.page_names.specs.Views.{target_of}
 use Rattle.replay_spec.specs.Step as step
 use Rattle.replay_spec.specs.Step.{Event}
 use Rattle.shelf.specs.Visits.{Ticket, ticket_of, reply_of}
-use Rattle.shelf.specs.Views.{taken_of, swept_of}
+use Rattle.shelf.specs.Views.{taken_of, swept_of, compacted_of}
 use Rattle.history_spec.specs.Histories.{Entry}
 use Rattle.site.specs.declared.entry.KeptEntry.{KeptEntry}
 use Rattle.site.specs.declared.entry.Did.{Did}
-use Rattle.site.specs.declared.entry.Did.TheVariants.{Take, Publish, Sweep}
+use Rattle.site.specs.declared.entry.Did.TheVariants.{Take, Publish, Sweep, Compact}
 
 abbrev pub entry : (caller : ℕ) → Event → step.Reply → Entry
 entry caller event reply = record { caller = caller; event = event; reply = reply }
@@ -21,6 +21,7 @@ done_by caller (Take target answer told) =
     entry caller (step.take (target_of target.value) (meaning answer.value)) (taken_of told.value)
 done_by caller (Publish ticket told) = entry caller (step.publish (ticket_of ticket.value)) (reply_of told.value)
 done_by caller (Sweep tick told) = entry caller (step.sweep tick) (swept_of told.value)
+done_by caller (Compact told) = entry caller step.compact (compacted_of told.value)
 
 abbrev pub entry_of : KeptEntry → Entry
 entry_of e = done_by e.caller e.did
@@ -48,3 +49,13 @@ pub record Comes (caller : ℕ) (event : Event) (reply : step.Reply) (old new : 
 abbrev pub Sweeps : (caller tick : ℕ) → Result ℕ Reply → (clock : ℕ) → (old new : List KeptEntry) → Type 0
 Sweeps caller tick result clock old new =
     ((tick ≤ clock) × (new ≡ old) × (result ≡ Ok 0)) ⊎ ((clock < tick) × Comes caller (step.sweep tick) (swept_of result) old new)
+
+-- how long a journal is, at least, that a tick compacts
+abbrev pub compacted_from : ℕ
+compacted_from = 2 ^ 29
+
+-- a journal that is shorter is left as it is; the compaction of a long one is the next entry
+abbrev pub Compacts : (caller length : ℕ) → (old new : List KeptEntry) → Type 0
+Compacts caller length old new =
+    ((length < compacted_from) × (new ≡ old))
+    ⊎ ((compacted_from ≤ length) × (told : Result ℕ Reply) × Comes caller step.compact (compacted_of told) old new)

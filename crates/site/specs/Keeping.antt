@@ -11,10 +11,10 @@ use Rattle.web_disk.specs.View.{View}
 use Rattle.replay_spec.specs.Step as step
 use Rattle.shelf.specs.Visits.{Ticket, ticket_of, reply_of}
 use Rattle.machine_states.specs.declared.segment.Segment.{Segment}
-use Rattle.shelf.specs.Views.{IsRunIfAny, book_in, library_in, taken_of}
+use Rattle.shelf.specs.Views.{IsRunIfAny, book_in, library_in, taken_of, compacted_of}
 use Rattle.shelf.specs.Tickets.{GoesOnFromItsPage}
 use Rattle.site.specs.declared.kept.KeptShelf.{KeptShelf}
-use Rattle.site.specs.Entries.{Comes, Sweeps, IsGivenIn, entries_of}
+use Rattle.site.specs.Entries.{Comes, Compacts, Sweeps, IsGivenIn, entries_of}
 use Rattle.site.specs.Openings.{opened_library}
 use Rattle.site.specs.Sound.{IsSound, Holds, Gives}
 
@@ -52,7 +52,15 @@ module _ {D N : Type 0} where
   abbrev pub NotesPublish : (caller : ℕ) → Ticket → Reply → (old new : KeptShelf D N) → Type 0
   NotesPublish caller t told old new = Comes caller (step.publish (ticket_of t)) (reply_of told) old.history new.history
 
+  -- the compaction is the next entry of the history
+  abbrev pub NotesCompaction : (caller : ℕ) → Result ℕ Reply → (old new : KeptShelf D N) → Type 0
+  NotesCompaction caller told old new = Comes caller step.compact (compacted_of told) old.history new.history
+
   -- the sweep is the next entry of the history, where its tick is later than the clock; else there is none
   abbrev pub NotesSweep : (D → View) → (caller tick : ℕ) → Result ℕ Reply → (old new : KeptShelf D N) → Type 0
   NotesSweep view caller tick told old new =
       Sweeps caller tick told (book_in view old.shelf).clock old.history new.history
+
+  -- the compaction is the next entry of the history, where the journal is long; else there is none
+  abbrev pub NotesCompactionIfLong : (D → View) → (caller : ℕ) → (old new : KeptShelf D N) → Type 0
+  NotesCompactionIfLong view caller old new = Compacts caller (book_in view old.shelf).length old.history new.history

@@ -9,6 +9,7 @@ use Rattle.history_spec.specs.Laws.{moment_of}
 use Rattle.site.specs.declared.opening.Opening.{Opening}
 use Rattle.setup_reader.specs.Texts.{setup_of_texts}
 use Rattle.journal_spec.specs.Standing.{IsOneOf}
+use Rattle.shelf.specs.Opening.{IsOfNow}
 use Rattle.site.specs.Openings.{scripts_in, IsOwnOpening, start_of, source_of, book_then}
 use Rattle.site.specs.Sound.{StandsFor}
 
@@ -32,4 +33,5 @@ abbrev pub WhatASiteLeftIsSound : {D N : Type 0} → (D → View) → Bool → (
 WhatASiteLeftIsSound {D} {N} view tells coming =
     (o p : Opening D N) (disk : D) (nonces : N) (es : List Entry) → IsTrue tells → StandsFor view tells coming o disk nonces es
     → IsOwnOpening view tells o → invariant.IsSound (start_of view o).book
-    → IsOneOf setup_of_texts o.shelf.value.rules.number (scripts_in p) (view disk) (start_of view p).book → invariant.IsSound (start_of view p).book
+    → (IsOfNow (view disk) → IsOneOf setup_of_texts o.shelf.value.rules.number (scripts_in p) (view disk) (start_of view p).book)
+    → invariant.IsSound (start_of view p).book

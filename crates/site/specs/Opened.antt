@@ -7,6 +7,7 @@ use Rattle.journal_spec.specs.Standing.{MakesIn, Stands}
 use Rattle.replay_spec.specs.Book.{Book}
 use Rattle.replay_spec.specs.Runs.{Shelf}
 use Rattle.replay_spec.specs.Step.{kept, recovered}
+use Rattle.shelf.specs.Files.{LeavesNewest}
 use Rattle.shelf.specs.Owning.{HoldsOwnRecords, StandsOwn}
 use Rattle.history_spec.specs.Histories.{Entry, IsLegal, IsOpened, book_behind}
 
@@ -52,10 +53,11 @@ pub record StandsForBook (told : Type 0) (o : Opened) (disk : View) (es : List E
   pub ever : told → LeavesOnly o.disk disk (IsLeft o es)
 
 -- What is left of a shelf after this history. The disk stands for a book, and a crash at any moment since the opening left what makes
--- one; its count of faults has not fallen. Of a shelf that was opened as an own one this is the book of the history, which is legal.
+-- one; whatever a crash leaves of it is of the newest format; its count of faults has not fallen. Of a shelf that was opened as an own one this is the book of the history, which is legal.
 pub record HasEnded (told : Type 0) (o : Opened) (disk : View) (es : List Entry) : Type 0 where
   pub opened : IsOpened o.start.book
   pub stands : told → (b : Book) × Stands setup_of_texts o.number disk b
   pub ever : told → LeavesOnly o.disk disk (MakesSome o)
+  pub newest : told → LeavesNewest disk
   pub history : o.IsOwn → StandsForBook told o disk es
   pub later : o.disk.faults ≤ disk.faults

@@ -1,5 +1,5 @@
 -- What a pass has seen of a shelf, and what a call of it does there.
-use Rattle.std.specs.Prelude.{◌≡◌, ◌⊎◌, ◌≤◌, ℕ, Bool, List, [], ◌∷◌, ◌++◌, length, Option, Some, Result, Ok, Err}
+use Rattle.std.specs.Prelude.{◌≡◌, ◌⊎◌, ◌≤◌, ◌<◌, ℕ, Bool, true, false, List, [], ◌∷◌, ◌++◌, length, nat_lt, Option, Some, Result, Ok, Err}
 use Rattle.script_value.specs.Val.{Val}
 use Rattle.script_value.specs.declared.outcome.Reply.{Reply}
 use Rattle.script_value.specs.declared.outcome.Reply.TheVariants.{Worn}
@@ -12,12 +12,13 @@ use Rattle.shelf_lock.specs.Order.{posed, entry_limit}
 use Rattle.lock_row.specs.Spots.{Spot}
 use Rattle.replay_spec.specs.Step as step
 use Rattle.shelf.specs.Visits.{Ticket, ticket_of, reply_of}
+use Rattle.shelf.specs.Views.{compacted_of}
 use Rattle.history_spec.specs.Histories.{Entry, own_of, IsOpened}
 use Rattle.history_spec.specs.Laws.{take_of}
 use Rattle.history_spec.specs.Passes.{Goes, publish_of}
 use Rattle.site.specs.declared.entry.KeptEntry.{KeptEntry}
 use Rattle.site.specs.declared.opening.Opening.{Opening}
-use Rattle.site.specs.Entries.{entry, entries_of, IsGivenIn}
+use Rattle.site.specs.Entries.{compacted_from, entry, entries_of, IsGivenIn}
 use Rattle.site.specs.Openings.{opened_library, IsOwnOpening, start_of, source_of, count_of, book_then}
 use Rattle.site.specs.Sound.{Holds, IsNoTicket}
 
@@ -47,6 +48,11 @@ pub record Grows (caller : ℕ) (seen added es : List Entry) : Type 0 where
   pub between : List Entry
   pub is : es ≡ (seen ++ between) ++ added
   pub own : own_of caller es ≡ own_of caller seen ++ added
+
+-- a sweep freed an instance
+abbrev pub has_freed : Result ℕ Reply → Bool
+has_freed (Ok freed) = nat_lt 0 freed
+has_freed (Err r) = false
 
 module _ {D N : Type 0} (view : D → View) (tells : Bool) (coming : N → ℕ → ℕ) where
   -- A call that ends with these entries: the pass has then seen a history of the shelf since its opening, with a book as it may be
@@ -100,3 +106,32 @@ module _ {D N : Type 0} (view : D → View) (tells : Bool) (coming : N → ℕ �
   Swept v tick (Ok n) w =
       (GoesFrom v (entry v.caller (step.sweep tick) (step.swept n) ∷ []) w ⊎ ((n ≡ 0) × GoesFrom v [] w)) × HasReached w tick
   Swept v tick (Err r) w = GoesFrom v (entry v.caller (step.sweep tick) (reply_of r) ∷ []) w ⊎ IsWorn v r w
+
+  -- on a shelf that was opened as an own one, the journal is long when these entries are made
+  abbrev pub IsLongBehind : Known D N → List Entry → Type 0
+  IsLongBehind w es =
+      (o : Opening D N) → w.opening ≡ o ∷ [] → IsOwnOpening view tells o → compacted_from ≤ (book_then view coming o es).length
+
+  -- on a shelf that was opened as an own one, the journal is not long when these entries are made
+  abbrev pub IsShortBehind : Known D N → List Entry → Type 0
+  IsShortBehind w es =
+      (o : Opening D N) → w.opening ≡ o ∷ [] → IsOwnOpening view tells o → (book_then view coming o es).length < compacted_from
+
+  -- What a turn does behind a sweep that freed an instance. It compacts a journal that it finds long: that is one entry of the caller, with
+  -- its answer. A shorter one is left as it is. Where the history is as long as it may be, nothing is compacted, and no entry is made.
+  pub data Compacted (v w : Known D N) : Type 0 where
+    compacted : (told : Result ℕ Reply) → GoesFrom v (entry v.caller step.compact (compacted_of told) ∷ []) w
+        → ((front : List Entry) (last : Entry) → seen_by w ≡ front ++ last ∷ [] → IsLongBehind w front) → Compacted v w
+    short : GoesFrom v [] w → IsShortBehind w (seen_by w) → Compacted v w
+    worn : GoesFrom v [] w → length (seen_by w) ≡ entry_limit → Compacted v w
+
+  -- where a sweep freed an instance, the turn behind it may compact; else nothing more is done
+  abbrev pub Follows : (freed : Bool) → (v w : Known D N) → Type 0
+  Follows true v w = Compacted v w
+  Follows false v w = w ≡ v
+
+  -- a tick of a shelf: its sweep, which is answered, and what follows it
+  pub record Ticked (v : Known D N) (tick : ℕ) (result : Result ℕ Reply) (w : Known D N) : Type 0 where
+    pub middle : Known D N
+    pub swept : Swept v tick result middle
+    pub follows : Follows (has_freed result) middle w

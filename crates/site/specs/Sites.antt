@@ -21,7 +21,7 @@ use Rattle.site.specs.declared.site.Site.{Site}
 use Rattle.machine_states.specs.declared.segment.Segment.{Segment}
 use Rattle.shelf.specs.Views.{IsRunIfAny}
 use Rattle.site.specs.Openings.{opened_library}
-use Rattle.site.specs.Passes.{Spots, IsSeat, HoldsTicket, Took, Published, Swept, Known}
+use Rattle.site.specs.Passes.{Spots, IsSeat, HoldsTicket, Took, Published, Swept, Compacted, Ticked, Known}
 
 -- The shelf that a target is on, among so many: a page is on the one that it names, and a start on the one that its worker
 -- starts on. A page of a shelf that is not there is on none.
@@ -77,6 +77,14 @@ module _ {D N : Type 0} (view : D → View) (tells : Bool) (coming : N → ℕ �
   abbrev pub SweptAt : ℕ → (tick : ℕ) → Result ℕ Reply → (old new : Spots D N) → Type 0
   SweptAt k tick result old new = At k (λ v w. Swept view tells coming v tick result w) old new
 
+  -- the turn behind a sweep of the shelf at this place that freed an instance
+  abbrev pub CompactedAt : ℕ → (old new : Spots D N) → Type 0
+  CompactedAt k old new = At k (λ v w. Compacted view tells coming v w) old new
+
+  -- a tick of the shelf at this place
+  abbrev pub TickedAt : ℕ → (tick : ℕ) → Result ℕ Reply → (old new : Spots D N) → Type 0
+  TickedAt k tick result old new = At k (λ v w. Ticked view tells coming v tick result w) old new
+
   -- the pass holds the ticket at this shelf
   pub record HoldsAt (pass : Spots D N) (t : Ticket) : Type 0 where
     pub shelf : ℕ
@@ -106,10 +114,11 @@ module _ {D N : Type 0} (view : D → View) (tells : Bool) (coming : N → ℕ �
   abbrev pub VisitsFor : Target → Value → Reply → (old new : Spots D N) → Type 0
   VisitsFor target answer reply old new = VisitsAt old (target_of target) (meaning answer) reply new
 
-  -- a tick so far: each shelf that answered was swept, and the others are as they were
+  -- A tick so far: each shelf that answered was swept, and one where that freed an instance may be compacted; the others are as they
+  -- were.
   pub record TicksSoFar (old : Spots D N) (tick : ℕ) (answers : List (Result ℕ Reply)) (new : Spots D N) : Type 0 where
-    pub swept : (k : ℕ) (r : Result ℕ Reply) → slice_get answers k ≡ Some r → (a : Spot (Opening D N) KeptEntry) → slice_get old k ≡ Some a
-        → (w : Known D N) × (slice_get new k ≡ Some (spot a.table w)) × Swept view tells coming a.known tick r w
+    pub ticked : (k : ℕ) (r : Result ℕ Reply) → slice_get answers k ≡ Some r → (a : Spot (Opening D N) KeptEntry) → slice_get old k ≡ Some a
+        → (w : Known D N) × (slice_get new k ≡ Some (spot a.table w)) × Ticked view tells coming a.known tick r w
     pub others : (k : ℕ) → length answers ≤ k → slice_get new k ≡ slice_get old k
 
   -- a tick that is over: each shelf was swept, and answered in its place

@@ -1,17 +1,19 @@
 //! Opening the shelves of a site, and handing them back.
-ghost use Rattle.std.specs.Prelude.{◌≡◌, ◌≤◌, ◌++◌, [], ℕ, Some, length, IfOk, IfErr, OnOk, OnErr, reverse, slice_get, vec_len};
+ghost use Rattle.std.specs.Prelude.{◌≡◌, ◌≤◌, ◌++◌, [], false, ℕ, Some, length, IfOk, IfErr, OnOk, OnErr, reverse, slice_get, vec_len};
 ghost use Rattle.script_nodes.specs.Views.{scripts_of};
 ghost use Rattle.setup_reader.specs.Texts.{IsReadSetup};
 ghost use Rattle.journal_records.specs.Records.{IsInGrammar, begin_of};
 ghost use Rattle.shelf.specs.Ranges.{AreInRange};
+ghost use Rattle.disk_trio.specs.Trio.{trio_view};
 ghost use Rattle.site.specs.Keeping.{IsSoundShelf};
-ghost use Rattle.site.specs.Beginnings.{rules_for, CanBegin, IsFreshOn, AreOpened, IsNotOpened, AreNotOpened, AreCopies, AreLocked, HaveRoom, KeepRoom, AreGone, HasMany, disks_of, nonces_of, shelves_of, site_of};
+ghost use Rattle.site.specs.Beginnings.{rules_for, AreNew, CanBegin, IsFreshOn, AreOpened, IsNotOpened, AreNotOpened, AreCopies, AreLocked, HaveRoom, KeepRoom, AreGone, HasMany, disks_of, nonces_of, shelves_of, site_of};
 
 use crate::entry::KeptEntry;
 use crate::fault::SiteFault;
 use crate::kept::KeptShelf;
 use crate::pass::SitePass;
 use crate::site::Site;
+use disk_trio::Disks;
 use ghost_history::History;
 use lock_row::LockRow;
 use script_nodes::{Library, Setup};
@@ -24,12 +26,10 @@ use web_outside::Nonces;
 /// How many passes a site gives, at most.
 pub const MOST_PASSES: u32 = 16;
 
-impl<D: Disk, N: Nonces + Drop> Site<D, N> {
-    ghost use Rattle.site.specs.Sites.{IsOwn};
-    ghost use Rattle.site.specs.Ends.{AreBack, AllAreSeen};
-    ghost use Rattle.site.specs.Beginnings.{IsBegun, IsNotBegun, IsReady, IsWhole, AreFirstPasses, GivesOut, most_passes};
+impl<F: Disk, N: Nonces + Drop> Site<Disks<F>, N> {
+    ghost use Rattle.site.specs.Beginnings.{IsBegun, IsNotBegun, IsReady};
 
-    /// Opens the shelves, each on the disk of its place, with the source of nonces of its place and under the limits with its
+    /// Opens the shelves, each on the disks of its place, with the source of nonces of its place and under the limits with its
     /// place for their number, and puts them behind locks. Where a shelf is not opened, or memory ends, all disks and sources
     /// are handed back, in their order.
     ///
@@ -41,18 +41,19 @@ impl<D: Disk, N: Nonces + Drop> Site<D, N> {
         rt: &R,
         alloc: Global,
         setup: Setup,
-        disks: Vec<D>,
+        disks: Vec<Disks<F>>,
         nonces: Vec<N>,
         rules: Rules,
-    ) -> Result<Site<D, N>, SiteFault<D, N>>
+    ) -> Result<Site<Disks<F>, N>, SiteFault<Disks<F>, N>>
         requires range { AreInRange (rules_for rules 0) }
         requires disks { length disks.items ≡ rules.shelves }
+        requires fresh { AreNew disks.items }
         requires nonces { length nonces.items ≡ rules.shelves }
         requires read { IsReadSetup (scripts_of setup) }
         requires begins { CanBegin (scripts_of setup) rules.shelves }
-        ensures begun { IfOk result (IsBegun D.view D.tells (scripts_of setup) rules disks.items nonces.items) }
+        ensures begun { IfOk result (IsBegun trio_view F.tells (scripts_of setup) rules disks.items nonces.items) }
         ensures ready { IfOk result IsReady }
-        ensures fault { IfErr result (IsNotBegun D.view D.tells (scripts_of setup) disks.items nonces.items) }
+        ensures fault { IfErr result (IsNotBegun trio_view F.tells (scripts_of setup) disks.items nonces.items) }
     {
         let mut disks = disks;
         let mut nonces = nonces;
@@ -79,6 +80,12 @@ impl<D: Disk, N: Nonces + Drop> Site<D, N> {
             }
         }
     }
+}
+
+impl<D: Disk, N: Nonces + Drop> Site<D, N> {
+    ghost use Rattle.site.specs.Sites.{IsOwn};
+    ghost use Rattle.site.specs.Ends.{AreBack, AllAreSeen};
+    ghost use Rattle.site.specs.Beginnings.{IsReady, IsWhole, AreFirstPasses, GivesOut, most_passes};
 
     /// The passes of so many workers, 1 to `MOST_PASSES`: that of place k is for worker k, and has seen nothing. Want of memory changes
     /// nothing; else the site gives no others.
@@ -154,18 +161,19 @@ fn rules_with(rules: Rules, number: u32) -> Rules
 }
 
 // Opens one shelf.
-fn open_one<D: Disk, N: Nonces + Drop>(
+fn open_one<F: Disk, N: Nonces + Drop>(
     alloc: Global,
     setup: &Setup,
     rules: Rules,
-    disk: D,
+    disk: Disks<F>,
     source: N,
-) -> Result<KeptShelf<D, N>, (BeginFault, D, N)>
+) -> Result<KeptShelf<Disks<F>, N>, (BeginFault, Disks<F>, N)>
+    requires fresh { disk.known ≡ false }
     requires range { AreInRange rules }
     requires read { IsReadSetup (scripts_of setup.now) }
     requires begins { IsInGrammar (begin_of rules.number (scripts_of setup.now)) }
-    ensures opened { IfOk result (IsFreshOn D.view D.tells N.nonce (scripts_of setup.now) rules disk source) }
-    ensures unopened { IfErr result (IsNotOpened D.view D.tells (scripts_of setup.now) rules.number disk) }
+    ensures opened { IfOk result (IsFreshOn trio_view F.tells N.nonce (scripts_of setup.now) rules disk source) }
+    ensures unopened { IfErr result (IsNotOpened trio_view F.tells (scripts_of setup.now) rules.number disk) }
     ensures source { IfErr result (λ e. e.2 ≡ source) }
 {
     match Shelf::begin(alloc, disk, source, setup, rules) {
@@ -176,24 +184,25 @@ fn open_one<D: Disk, N: Nonces + Drop>(
 
 // Opens the shelves on their disks, of which that of the first shelf is the last. Where one is not opened, all disks and sources
 // are there again.
-fn open_all<D: Disk, N: Nonces + Drop>(
+fn open_all<F: Disk, N: Nonces + Drop>(
     alloc: Global,
     setup: &Setup,
     rules: Rules,
-    disks: &mut Vec<D>,
+    disks: &mut Vec<Disks<F>>,
     nonces: &mut Vec<N>,
-) -> Result<Vec<KeptShelf<D, N>>, (u32, BeginFault)>
+) -> Result<Vec<KeptShelf<Disks<F>, N>>, (u32, BeginFault)>
     requires range { AreInRange (rules_for rules 0) }
+    requires fresh { AreNew disks.old.items }
     requires disks { length disks.old.items ≡ rules.shelves }
     requires nonces { length nonces.old.items ≡ rules.shelves }
     requires read { IsReadSetup (scripts_of setup.now) }
     requires begins { CanBegin (scripts_of setup.now) rules.shelves }
     ensures opened { IfOk result
-        (AreOpened D.view D.tells N.nonce (scripts_of setup.now) rules disks.old nonces.old) }
+        (AreOpened trio_view F.tells N.nonce (scripts_of setup.now) rules disks.old nonces.old) }
     ensures many { IfOk result (HasMany rules.shelves) }
     ensures gone { OnOk result (AreGone disks.new nonces.new) }
     ensures room { KeepRoom disks.old nonces.old disks.new nonces.new }
-    ensures unopened { IfErr result (AreNotOpened D.view D.tells (scripts_of setup.now) disks.old disks.new) }
+    ensures unopened { IfErr result (AreNotOpened trio_view F.tells (scripts_of setup.now) disks.old disks.new) }
     ensures sources { OnErr result (reverse nonces.new.items ≡ reverse nonces.old.items) }
 {
     let Ok(mut shelves) = Vec::with_capacity(alloc, disks.len()) else {

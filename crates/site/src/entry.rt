@@ -19,6 +19,9 @@ pub enum Did {
         tick: u64,
         told: Snapshot<Result<u32, Reply>>,
     },
+    Compact {
+        told: Snapshot<Result<u64, Reply>>,
+    },
 }
 
 /// An entry of a history: what a caller did, and what it was answered.

@@ -1,6 +1,7 @@
 //! What lies behind the lock of a shelf.
 use crate::entry::{Did, KeptEntry};
 use crate::opening::Opening;
+use disk_trio::Disks;
 use ghost_history::History;
 use journal_spec::images_make_books;
 use page_names::Target;
@@ -13,6 +14,9 @@ use std::alloc::{AllocError, Global};
 use std::snapshot::Snapshot;
 use web_disk::Disk;
 use web_outside::Nonces;
+
+// How long a journal is, at least, that is compacted: half of what a journal may be.
+const COMPACTED_FROM: u64 = 1 << 29;
 
 /// A shelf, as what it was opened, and its history since. Only the shelf and a count have bytes.
 #[derive(Drop)]
@@ -152,6 +156,45 @@ impl<D: Disk, N: Nonces + Drop> KeptShelf<D, N> {
         } = self;
         let (disk, nonces) = shelf.close();
         (disk, nonces, history)
+    }
+}
+
+impl<F: Disk, N: Nonces + Drop> KeptShelf<Disks<F>, N> {
+    ghost use Rattle.std.specs.Prelude.{◌≡◌, ◌<◌, ◌^◌, length};
+    ghost use Rattle.disk_trio.specs.Trio.{trio_view};
+    ghost use Rattle.site.specs.Keeping.{IsSoundShelf, NotesCompaction, NotesCompactionIfLong};
+
+    /// Puts a compacted file in the place of the journal's: one entry of the caller.
+    pub fn compact(&mut self, alloc: Global, by: u64) -> Result<u64, Reply>
+        requires room { length self.old.history < 2 ^ 62 }
+        requires sound { IsSoundShelf trio_view F.tells N.nonce self.old }
+        ensures sound { IsSoundShelf trio_view F.tells N.nonce self.new }
+        ensures opened { self.new.opened ≡ self.old.opened }
+        ensures entry { NotesCompaction by result self.old self.new }
+    {
+        images_make_books();
+        let told = self.shelf.compact(alloc);
+        self.history.push(KeptEntry {
+            caller: by,
+            did: Did::Compact {
+                told: Snapshot::of(&told),
+            },
+        });
+        told
+    }
+
+    /// Compacts a journal that is long, of 2^29 bytes or more: one entry of the caller. A shorter one it leaves as it is.
+    pub fn compact_if_long(&mut self, alloc: Global, by: u64)
+        requires room { length self.old.history < 2 ^ 62 }
+        requires sound { IsSoundShelf trio_view F.tells N.nonce self.old }
+        ensures sound { IsSoundShelf trio_view F.tells N.nonce self.new }
+        ensures opened { self.new.opened ≡ self.old.opened }
+        ensures compacted { NotesCompactionIfLong trio_view by self.old self.new }
+    {
+        if self.shelf.length() < COMPACTED_FROM {
+            return;
+        }
+        drop(self.compact(alloc, by));
     }
 }
 

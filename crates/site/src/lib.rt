@@ -11,6 +11,7 @@ mod opening;
 mod pass;
 mod running;
 mod site;
+mod tick;
 
 pub use begin::MOST_PASSES;
 pub use entry::{Did, KeptEntry};

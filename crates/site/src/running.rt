@@ -1,5 +1,6 @@
 use crate::pass::SitePass;
 use crate::site::Site;
+use disk_trio::Disks;
 use http_forms::Answering;
 use page_names::Target;
 use script_value::{Reply, Value};
@@ -15,17 +16,18 @@ pub struct Running<'a, R, D: Disk, N: Nonces + Drop> {
     pub site: &'a Site<D, N>,
 }
 
-impl<R: Wait, D: Disk, N: Nonces + Drop> Answering for Running<'_, R, D, N> {
+impl<R: Wait, F: Disk, N: Nonces + Drop> Answering for Running<'_, R, Disks<F>, N> {
+    ghost use Rattle.disk_trio.specs.Trio.{trio_view};
     ghost use Rattle.site.specs.Rules.{site_rules};
 
-    type Pass = SitePass<D, N>;
+    type Pass = SitePass<Disks<F>, N>;
 
-    ghost rules = { λ a. site_rules D.view D.tells N.nonce a.site.now };
+    ghost rules = { λ a. site_rules trio_view F.tells N.nonce a.site.now };
 
     fn visit<G: Gate>(
         &self,
         alloc: Global,
-        pass: &mut SitePass<D, N>,
+        pass: &mut SitePass<Disks<F>, N>,
         target: &Target,
         answer: Value,
         gate: &G,
@@ -36,7 +38,7 @@ impl<R: Wait, D: Disk, N: Nonces + Drop> Answering for Running<'_, R, D, N> {
     fn tick(
         &self,
         alloc: Global,
-        pass: &mut SitePass<D, N>,
+        pass: &mut SitePass<Disks<F>, N>,
         tick: u64,
     ) -> Result<Vec<Result<u32, Reply>>, AllocError> {
         self.site.tick(self.rt, alloc, pass, tick)

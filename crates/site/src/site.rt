@@ -40,7 +40,7 @@ impl<D: Disk, N: Nonces + Drop> Site<D, N> {
     ghost use Rattle.lock_row.specs.Rows.{IsNoteOf, ZipsAll};
     ghost use Rattle.page_names.specs.Views.{target_of};
     ghost use Rattle.lock_row.specs.Spots.{IsNoteIn};
-    ghost use Rattle.site.specs.Sites.{IsOwn, HoldsThere, HoldsAt, IsRunThere, IsRunAt, shelf_for, TakesFor, TookAt, PublishesAt, PublishedAt, VisitsFor, SweptAt, AnswersTick};
+    ghost use Rattle.site.specs.Sites.{IsOwn, HoldsThere, HoldsAt, IsRunThere, IsRunAt, shelf_for, TakesFor, TookAt, PublishesAt, PublishedAt, VisitsFor};
 
     /// How many shelves there are.
     pub fn shelves(&self) -> usize
@@ -127,33 +127,6 @@ impl<D: Disk, N: Nonces + Drop> Site<D, N> {
         }
     }
 
-    fn sweep_at<R: Wait>(
-        &self,
-        rt: &R,
-        alloc: Global,
-        pass: &mut SitePass<D, N>,
-        shelf: usize,
-        tick: u64,
-    ) -> Result<u32, Reply>
-        requires own { IsOwn self.now pass.old }
-        requires shelf { shelf < length self.now.row.homes }
-        requires tick { tick < 2 ^ 62 }
-        ensures own { IsOwn self.now pass.new }
-        ensures swept { SweptAt D.view D.tells N.nonce shelf tick result pass.old pass.new }
-    {
-        let by = pass.caller();
-        let told = self.row.turn(
-            rt,
-            pass,
-            shelf,
-            |kept: &mut KeptShelf<D, N>| kept.sweep(alloc, by, tick),
-        );
-        match told {
-            Ok(told) => told,
-            Err(Worn) => Err(Reply::Worn),
-        }
-    }
-
     /// Takes the next number of the target's shelf for a visit. A target on no shelf makes no entry.
     pub fn take<R: Wait>(
         &self,
@@ -232,29 +205,6 @@ impl<D: Disk, N: Nonces + Drop> Site<D, N> {
             unreachable!()
         };
         segment_of(alloc, library, ticket, self.fuel)
-    }
-
-    /// Sweeps each shelf whose clock is lower than the tick, in seconds: how many instances it freed, or the reply that says
-    /// why none, in the order of the shelves. An error is want of memory for their list, and changes nothing.
-    pub fn tick<R: Wait>(
-        &self,
-        rt: &R,
-        alloc: Global,
-        pass: &mut SitePass<D, N>,
-        tick: u64,
-    ) -> Result<Vec<Result<u32, Reply>>, AllocError>
-        requires own { IsOwn self.now pass.old }
-        requires tick { tick < 2 ^ 62 }
-        ensures own { IsOwn self.now pass.new }
-        ensures swept { IfOk result (AnswersTick D.view D.tells N.nonce tick pass.old pass.new) }
-        ensures memory { OnErr result (pass.new ≡ pass.old) }
-    {
-        let shelves = self.shelves();
-        let mut answers = Vec::with_capacity(alloc, shelves)?;
-        for shelf in 0..shelves {
-            answers.push_reserved(self.sweep_at(rt, alloc, pass, shelf, tick));
-        }
-        Ok(answers)
     }
 
     /// A note of what the pass has seen. It makes no entry; want of memory changes nothing.

@@ -1,6 +1,5 @@
 -- The pages that a worker counts are the publishes of its caller that were answered with a page.
-use Rattle.std.proofs.Common.{◌≡◌, ◌⊎◌, ℕ, zero, suc, ◌+◌, ◌≤◌, List, [], ◌∷◌, ◌++◌, length, Option, Some, None, slice_get, set, Result, Ok, Err, refl, ap, sym, ◌∙◌, subst, inl, inr, arith}
-use Rattle.std.specs.Prelude.{Bool}
+use Rattle.std.proofs.Common.{◌≡◌, ◌⊎◌, ℕ, zero, suc, ◌+◌, ◌≤◌, Bool, true, false, List, [], ◌∷◌, ◌++◌, length, Option, Some, None, slice_get, set, Result, Ok, Err, refl, ap, sym, ◌∙◌, subst, inl, inr, arith}
 use Rattle.std.proofs.lemmas.Option.{slice_get_within}
 use Rattle.web_disk.specs.View.{View}
 use Rattle.web_outside.specs.View.{LinkView}
@@ -10,7 +9,7 @@ use Rattle.script_value.specs.declared.outcome.Reply.TheVariants as replies
 use Rattle.script_value.specs.declared.outcome.Refusal.TheVariants as refusals
 use Rattle.page_names.specs.Names.{Destination}
 use Rattle.replay_spec.specs.Step as step
-use Rattle.site.specs.Shelves.{Ticket, ticket_of, reply_of}
+use Rattle.site.specs.Shelves.{Ticket, ticket_of, reply_of, compacted_of}
 use Rattle.history_spec.specs.Histories.{Entry, own_of}
 use Rattle.history_spec.specs.Laws.{take_of}
 use Rattle.history_spec.specs.Passes.{publish_of}
@@ -29,7 +28,7 @@ use Rattle.site.specs.declared.opening.Opening.{Opening}
 use Rattle.site.specs.declared.site.Site.{Site}
 use Rattle.site.specs.Entries.{entry}
 use Rattle.site.specs.Sound.{IsNoTicket}
-use Rattle.site.specs.Passes.{Known, Spots, seen_by, GoesFrom, Took, Published, Swept}
+use Rattle.site.specs.Passes.{Known, Spots, seen_by, has_freed, GoesFrom, Took, Published, Swept, Compacted, Follows, Ticked}
 use Rattle.site.specs.Sites.{shelf_for, TakesOn, VisitsAt, Ticks}
 use Rattle.site.specs.Rules.{TicksAs, site_rules}
 use Rattle.site_serving.specs.Pages.{page_count, pages_in}
@@ -166,6 +165,21 @@ module _ {D N : Type 0} (view : D → View) (tells : Bool) (coming : N → ℕ �
   swept_adds v w tick (Err r) (inl g) = goes_adds v w (entry v.caller (step.sweep tick) (reply_of r) ∷ []) g
   swept_adds v w tick (Err r) (inr worn) = goes_adds v w [] worn.2
 
+  compacted_adds : (v w : Known D N) → Compacted view tells coming v w → AddsAt 0 v w
+  compacted_adds v w (Compacted.compacted told g long) = goes_adds v w (entry v.caller step.compact (compacted_of told) ∷ []) g
+  compacted_adds v w (Compacted.short g short) = goes_adds v w [] g
+  compacted_adds v w (Compacted.worn g full) = goes_adds v w [] g
+
+  follows_adds : (freed : Bool) (v w : Known D N) → Follows view tells coming freed v w → AddsAt 0 v w
+  follows_adds true v w follows = compacted_adds v w follows
+  follows_adds false v w same = record { pages = (let e = ap pages_at same in omega arith); caller = ap (λ (u : Known D N). u.caller) same }
+
+  ticked_adds : (v w : Known D N) (tick : ℕ) (r : Result ℕ Reply) → Ticked view tells coming v tick r w → AddsAt 0 v w
+  ticked_adds v w tick r t =
+      let one = swept_adds v t.middle tick r t.swept in
+      let two = follows_adds (has_freed r) t.middle w t.follows in
+      record { pages = (let x = one.pages in let y = two.pages in omega arith); caller = two.caller ∙ one.caller }
+
   takes_adds : (place : Option ℕ) (old new : Spots D N) (target : Destination) (answer : Val) (r : Result Ticket Reply)
       → TakesOn view tells coming place old target answer r new → Adds old new 0
   takes_adds None old new target answer r t = adds_none old new t.1
@@ -193,8 +207,8 @@ module _ {D N : Type 0} (view : D → View) (tells : Bool) (coming : N → ℕ �
   ticks_adds : (old new : Spots D N) (tick : ℕ) (answers : List (Result ℕ Reply)) → Ticks view tells coming old tick answers new → Adds old new 0
   ticks_adds old new tick answers t = each_adds old new (λ k a here.
       let r = get_there answers k (let within = slice_get_within old k a here in let all = t.all in omega arith) in
-      let s = t.so.swept k r.0 r.1 a here in
-      (s.0, s.1, swept_adds a.known s.0 tick r.0 s.2))
+      let s = t.so.ticked k r.0 r.1 a here in
+      (s.0, s.1, ticked_adds a.known s.0 tick r.0 s.2))
       (λ k le. t.so.others k (let all = t.all in omega (arith, le)))
 
   as_adds : (old new : Spots D N) (tick : ℕ) (swept : passes.Swept) → TicksAs view tells coming old tick swept new → Adds old new 0

@@ -1,5 +1,5 @@
 -- What a pass of a site knows, and what a worker has seen: the one stands for the other.
-use Rattle.std.proofs.Common.{◌≡◌, ◌⊎◌, inl, inr, ◌∙◌, ◌≤◌, ◌==◌, ◌+◌, ℕ, zero, suc, Bool, true, cond, List, [], ◌∷◌, ◌++◌, map, length, Option, Some, None, Result, Ok, Err, slice_get, set, length-append, refl, ap, sym, subst, arith}
+use Rattle.std.proofs.Common.{◌≡◌, ◌⊎◌, inl, inr, ◌∙◌, ◌≤◌, ◌<◌, ◌==◌, ℕ, zero, suc, Bool, true, false, cond, List, [], ◌∷◌, ◌++◌, map, length, Option, Some, None, Result, Ok, Err, slice_get, set, length-append, refl, ap, sym, subst, arith}
 use Rattle.std.specs.Prelude.{⊤}
 use Rattle.std.proofs.lemmas.Bool.Decides.{nat_tests}
 use Rattle.std.proofs.lemmas.List.Elements.{filter-append}
@@ -13,7 +13,7 @@ use Rattle.script_value.specs.declared.outcome.Reply.TheVariants as replies
 use Rattle.script_value.specs.declared.outcome.Refusal.TheVariants as refusals
 use Rattle.page_names.specs.Names.{Destination, page, start}
 use Rattle.replay_spec.specs.Step as step
-use Rattle.site.specs.Shelves.{Ticket, ticket_of, reply_of}
+use Rattle.site.specs.Shelves.{Ticket, ticket_of, reply_of, compacted_of}
 use Rattle.http_forms.specs.Passes as passes
 use Rattle.lock_row.specs.Spots.{Spot, spot, home_of, At, caller_at}
 use Rattle.lock_row.specs.Rows.{IsNewPass}
@@ -26,15 +26,15 @@ use Rattle.history_spec.proofs.Going.{go_on}
 use Rattle.site.specs.declared.entry.KeptEntry.{KeptEntry}
 use Rattle.site.specs.declared.opening.Opening.{Opening}
 use Rattle.site.specs.declared.site.Site.{Site}
-use Rattle.site.specs.Entries.{entry, entries_of}
+use Rattle.site.specs.Entries.{compacted_from, entry, entries_of}
 use Rattle.site.specs.Opened.{Opened}
 use Rattle.site.specs.Openings.{IsOwnOpening, book_then, count_of, opened_of, source_of, start_of}
-use Rattle.site.specs.Passes.{GoesFrom, Known, Published, Spots, Swept, Took, seen_by}
+use Rattle.site.specs.Passes.{Compacted, Follows, GoesFrom, Known, Published, Spots, Swept, Ticked, Took, has_freed, seen_by}
 use Rattle.site.specs.Rules.{TicksAs, site_rules}
 use Rattle.site.specs.Sites.{PublishesAt, TakesOn, VisitsAt, shelf_for}
 use Rattle.site_serving.specs.Serving.{AreSeenBy, opened_as, openings_of}
 use Rattle.site_serving.proofs.Moving.{worked}
-use Rattle.site_serving.specs.Visits.{AreSwept, HappensAt, IsSwept, IsVisited, IsWorn, Makes, Seen, SweepsOn, VisitsOn, history_rules, nothing_seen, unseen}
+use Rattle.site_serving.specs.Visits.{AreSwept, HappensAt, IsCompacted, IsFollowed, IsSwept, IsTicked, IsVisited, IsWorn, Makes, Seen, SweepsOn, VisitsOn, history_rules, nothing_seen, unseen}
 
 own_append : (c : ℕ) (es more : List Entry) → own_of c (es ++ more) ≡ own_of c es ++ own_of c more
 own_append c es more = filter-append (λ (e : Entry). e.caller == c) es more
@@ -193,6 +193,34 @@ module _ {D N : Type 0} (view : D → View) (tells : Bool) (coming : N → ℕ �
   swept o v w s tick (Err reply) k (inr worn) =
       let m = makes_none o v w s k worn.2 in (m.0, m.1, inr (worn.0, ap length m.1.front ∙ worn.1, m.2))
 
+  compacted : (o : Opening D N) (v w : Known D N) (s : Seen) → Knows o v s → Compacted view tells coming v w → (u : Seen) × Knows o w u × IsCompacted (words o) worker s u
+  compacted o v w s k (Compacted.compacted told g long) =
+      let m = makes_one o v w s step.compact (compacted_of told) k g in (
+        m.0,
+        m.1,
+        IsCompacted.compacted told m.2
+            (λ own. long (s.front ++ m.2.others) (entry worker step.compact (compacted_of told)) (sym m.1.front ∙ ap (λ (x : Seen). x.front) m.2.is) o m.1.opening own),
+      )
+  compacted o v w s k (Compacted.short g short) =
+      let m = makes_none o v w s k g in (
+        m.0,
+        m.1,
+        IsCompacted.short m.2 (λ own. subst (λ (l : List Entry). (book_then view coming o l).length < compacted_from) (sym m.1.front) (short o m.1.opening own)),
+      )
+  compacted o v w s k (Compacted.worn g full) = let m = makes_none o v w s k g in (m.0, m.1, IsCompacted.worn m.2 (ap length m.1.front ∙ full))
+
+  followed : (freed : Bool) (o : Opening D N) (v w : Known D N) (s : Seen) → Knows o v s → Follows view tells coming freed v w
+      → (u : Seen) × Knows o w u × IsFollowed (words o) worker freed s u
+  followed true o v w s k follows = compacted o v w s k follows
+  followed false o v w s k same = (s, subst (λ x. Knows o x s) (sym same) k, refl)
+
+  ticked : (o : Opening D N) (v w : Known D N) (s : Seen) (tick : ℕ) (r : Result ℕ Reply) → Knows o v s → Ticked view tells coming v tick r w
+      → (u : Seen) × Knows o w u × IsTicked (words o) worker tick r s u
+  ticked o v w s tick r k t =
+      let one = swept o v t.middle s tick r k t.swept in
+      let two = followed (has_freed r) o t.middle w one.0 one.1 t.follows in
+      (two.0, two.1, record { middle = one.0; swept = one.2; followed = two.2 })
+
   -- ---- all shelves
 
   -- what a pass knows of each shelf is what its worker has seen of it
@@ -323,7 +351,7 @@ module _ {D N : Type 0} (view : D → View) (tells : Bool) (coming : N → ℕ �
   all_swept : (tick : ℕ) (openings : List (Opening D N)) (old new : Spots D N) (seen : List Seen) (answers : List (Result ℕ Reply)) → KnowsAll openings old seen
       → length answers ≡ length old
       → ((k : ℕ) (r : Result ℕ Reply) → slice_get answers k ≡ Some r → (a : Spot (Opening D N) KeptEntry) → slice_get old k ≡ Some a
-      → (w : Known D N) × (slice_get new k ≡ Some (spot a.table w)) × Swept view tells coming a.known tick r w)
+      → (w : Known D N) × (slice_get new k ≡ Some (spot a.table w)) × Ticked view tells coming a.known tick r w)
       → ((k : ℕ) → length answers ≤ k → slice_get new k ≡ slice_get old k)
       → (then : List Seen) × KnowsAll openings new then × AreSwept (opened_as view tells coming openings) worker tick answers seen then
   all_swept tick [] [] [] [] [] all len each past = ([], tt, tt)
@@ -338,7 +366,7 @@ module _ {D N : Type 0} (view : D → View) (tells : Bool) (coming : N → ℕ �
       absurd (let e = (each 0 r refl a refl).1 in let no : ⊥ = cc e in no)
   all_swept tick (o ∷ openings) (a ∷ old) (y ∷ new) (s ∷ seen) (r ∷ answers) all len each past =
       let first = each 0 r refl a refl in
-      let u = swept o a.known first.0 s tick r all.0 first.2 in
+      let u = ticked o a.known first.0 s tick r all.0 first.2 in
       let known : first.0 ≡ y.known = ap (λ (x : Spot (Opening D N) KeptEntry). x.known) (sym (one_of first.1)) in
       let rest = all_swept tick openings old new seen answers all.1 (omega (arith, len)) (λ k x x_is b b_is. each (suc k) x x_is b b_is)
       (λ k le. past (suc k) (omega (arith, le))) in
@@ -347,7 +375,7 @@ module _ {D N : Type 0} (view : D → View) (tells : Bool) (coming : N → ℕ �
   module _ (openings : List (Opening D N)) where
     ticks : (p p' : Spots D N) (q : List Seen) (tick : ℕ) (answers : passes.Swept) → KnowsAll openings p q → TicksAs view tells coming p tick answers p'
         → (q' : List Seen) × KnowsAll openings p' q' × SweepsOn (opened_as view tells coming openings) worker tick answers q q'
-    ticks p p' q tick (Ok answers) all t = all_swept tick openings p p' q answers all t.all t.so.swept t.so.others
+    ticks p p' q tick (Ok answers) all t = all_swept tick openings p p' q answers all t.all t.so.ticked t.so.others
     ticks p p' q tick (Err e) all same = (q, subst (λ x. KnowsAll openings x q) (sym same) all, refl)
 
     -- What a worker did by the rules of a site, it did by those of histories.

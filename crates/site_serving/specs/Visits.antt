@@ -1,19 +1,20 @@
 -- What a worker does at the shelves, by the entries of their histories.
-use Rattle.std.specs.Prelude.{⊤, ◌≡◌, ◌⊎◌, ◌≤◌, ◌^◌, ◌++◌, ◌∷◌, [], ℕ, zero, suc, List, length, Option, Some, None, Result, Ok, Err}
+use Rattle.std.specs.Prelude.{⊤, ◌≡◌, ◌⊎◌, ◌≤◌, ◌<◌, ◌^◌, ◌++◌, ◌∷◌, [], ℕ, zero, suc, Bool, true, false, List, length, Option, Some, None, Result, Ok, Err}
 use Rattle.script_value.specs.Val.{Val}
 use Rattle.script_value.specs.declared.outcome.Reply.{Reply}
 use Rattle.script_value.specs.declared.outcome.Reply.TheVariants.{Refused, Worn}
 use Rattle.script_value.specs.declared.outcome.Refusal.TheVariants.{Unknown}
 use Rattle.page_names.specs.Names.{Destination}
 use Rattle.replay_spec.specs.Next.{Ticket}
-use Rattle.replay_spec.specs.Step.{take, sweep, swept}
-use Rattle.site.specs.Shelves.{reply_of}
+use Rattle.replay_spec.specs.Step.{take, sweep, compact, swept}
+use Rattle.site.specs.Shelves.{reply_of, compacted_of}
 use Rattle.http_forms.specs.Passes.{PassRules, Swept}
 use Rattle.history_spec.specs.Histories.{Entry, own_of}
 use Rattle.history_spec.specs.Laws.{take_of}
 use Rattle.history_spec.specs.Passes.{publish_of}
-use Rattle.site.specs.Entries.{entry}
+use Rattle.site.specs.Entries.{compacted_from, entry}
 use Rattle.site.specs.Opened.{Opened, book_then}
+use Rattle.site.specs.Passes.{has_freed}
 use Rattle.site.specs.Sites.{shelf_for}
 use Rattle.site.specs.Sound.{IsNoTicket}
 
@@ -71,6 +72,25 @@ module _ (o : Opened) (worker : ℕ) where
   IsSwept tick (Ok freed) a b = IsAnswered tick freed a b
   IsSwept tick (Err reply) a b = Makes (entry worker (sweep tick) (reply_of reply) ∷ []) a b ⊎ IsWorn reply a b
 
+  -- What follows a sweep that freed an instance. A journal that is long then is compacted: that is the worker's next entry, with its answer.
+  -- A shorter one is left as it is. Where the history is as long as it may be, nothing is compacted.
+  pub data IsCompacted (a b : Seen) : Type 0 where
+    compacted : (told : Result ℕ Reply) → (made : Makes (entry worker compact (compacted_of told) ∷ []) a b)
+        → (o.IsOwn → compacted_from ≤ (book_then o (a.front ++ made.others)).length) → IsCompacted a b
+    short : Makes [] a b → (o.IsOwn → (book_then o b.front).length < compacted_from) → IsCompacted a b
+    worn : Makes [] a b → length b.front ≡ most_entries → IsCompacted a b
+
+  -- where a sweep freed an instance, a compaction may follow; else nothing more is seen
+  abbrev pub IsFollowed : (freed : Bool) → (a b : Seen) → Type 0
+  IsFollowed true a b = IsCompacted a b
+  IsFollowed false a b = b ≡ a
+
+  -- a tick: a sweep, which is answered, and what follows it
+  pub record IsTicked (tick : ℕ) (result : Result ℕ Reply) (a b : Seen) : Type 0 where
+    pub middle : Seen
+    pub swept : IsSwept tick result a middle
+    pub followed : IsFollowed (has_freed result) middle b
+
 -- this became of the shelf at this place, and of the others nothing more was seen
 abbrev pub HappensAt : (Opened → Seen → Seen → Type 0) → (place : ℕ) → List Opened → (old new : List Seen) → Type 0
 HappensAt happens zero (o ∷ openings) (a ∷ old) (b ∷ new) = happens o a b × (new ≡ old)
@@ -83,11 +103,11 @@ VisitsOn None openings worker target answer reply old new = (reply ≡ Refused U
 VisitsOn (Some place) openings worker target answer reply old new =
     HappensAt (λ o a b. IsVisited o worker target answer reply a b) place openings old new
 
--- each shelf was swept at the tick, and answered in its place
+-- each shelf was swept at the tick, and answered in its place; behind a sweep that freed an instance it may be compacted
 abbrev pub AreSwept : List Opened → (worker tick : ℕ) → List (Result ℕ Reply) → (old new : List Seen) → Type 0
 AreSwept [] worker tick [] [] [] = ⊤
 AreSwept (o ∷ openings) worker tick (r ∷ answers) (a ∷ old) (b ∷ new) =
-    IsSwept o worker tick r a b × AreSwept openings worker tick answers old new
+    IsTicked o worker tick r a b × AreSwept openings worker tick answers old new
 AreSwept openings worker tick answers old new = ⊥
 
 -- the shelves were swept, or there was no memory for their answers, and nothing was done

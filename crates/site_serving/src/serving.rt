@@ -1,11 +1,13 @@
 //! Links of a door, served from the shelves of a site.
 ghost use Rattle.std.specs.Prelude.{◌≡◌, ◌≤◌, ℕ, Some, length, slice_get, vec_len, IfOk, IsErrOf, IsTrue, OnErr};
+ghost use Rattle.disk_trio.specs.Trio.{trio_view};
 ghost use Rattle.site_serving.specs.Workers.{IsRoomFor};
 ghost use Rattle.site.specs.Beginnings.{IsFirstPass, IsReady, IsWhole, most_passes};
 ghost use Rattle.site_serving.specs.Serving.{AreUntouched, ComesTo, EndsAs, HasFailed, IsManned, fault_of, most_requests, openings_in, pasts_of, views};
 
 use crate::keeping::Past;
 use crate::{Room, serve_all, total};
+use disk_trio::Disks;
 use request_workers::{Tally, WorkEnd};
 use site::{Running, Site, SitePass};
 use std::alloc::{AllocError, Global};
@@ -99,7 +101,7 @@ fn give_up<R: Wait, D: Disk, N: Nonces + Drop>(
 // The workers serve their porches; then the door closes, and what is left of the site is kept.
 fn serve_porches<
     R: Threads + Wait + Sync,
-    D: Disk + Send + Sync,
+    F: Disk + Send + Sync,
     N: Nonces + Drop + Send + Sync,
     A: Door,
     C: Clock + Sync,
@@ -108,16 +110,16 @@ fn serve_porches<
 >(
     rt: &R,
     alloc: Global,
-    site: Site<D, N>,
-    passes: Vec<SitePass<D, N>>,
+    site: Site<Disks<F>, N>,
+    passes: Vec<SitePass<Disks<F>, N>>,
     porches: Vec<A::Porch>,
-    room: Room<SitePass<D, N>, A::Porch>,
+    room: Room<SitePass<Disks<F>, N>, A::Porch>,
     requests: u32,
     door: &mut A,
     clock: &C,
     gate: &G,
     past: &mut P,
-) -> (Vec<D>, Tally)
+) -> (Vec<Disks<F>>, Tally)
 where
     A::Porch: Send,
     <A::Porch as Porch>::Link: Send,
@@ -131,8 +133,8 @@ where
     requires requests { (1 ≤ requests) × (requests ≤ most_requests) }
     ensures disks { length result.0.items ≡ length site.row.homes }
     ensures ends { EndsAs
-        (views D.view D.tells A.Porch.Link.view A.Porch.view N.nonce (C.shows clock.now))
-        (openings_in D.view D.tells N.nonce site) requests porches.items (A.view door.new)
+        (views trio_view F.tells A.Porch.Link.view A.Porch.view N.nonce (C.shows clock.now))
+        (openings_in trio_view F.tells N.nonce site) requests porches.items (A.view door.new)
         (pasts_of (P.told past.old) (P.told past.new)) (vec_len passes) result.0.items result.1 }
     ensures failed { result.1.end ≡ WorkEnd.Failed → HasFailed (A.view door.old) (A.view door.new) }
     ensures later { (A.view door.old).faults ≤ (A.view door.new).faults }
@@ -167,7 +169,7 @@ where
 /// the door or of a porch, or want of memory before any link came.
 pub fn serve_site<
     R: Threads + Wait + Sync,
-    D: Disk + Send + Sync,
+    F: Disk + Send + Sync,
     N: Nonces + Drop + Send + Sync,
     A: Door,
     C: Clock + Sync,
@@ -176,13 +178,13 @@ pub fn serve_site<
 >(
     rt: &R,
     alloc: Global,
-    site: Site<D, N>,
+    site: Site<Disks<F>, N>,
     watch: &Watch,
     door: &mut A,
     clock: &C,
     gate: &G,
     past: &mut P,
-) -> (Vec<D>, Result<Tally, ServingFault>)
+) -> (Vec<Disks<F>>, Result<Tally, ServingFault>)
 where
     A::Porch: Send,
     <A::Porch as Porch>::Link: Send,
@@ -194,8 +196,8 @@ where
     requires requests { (1 ≤ watch.now.requests) × (watch.now.requests ≤ most_requests) }
     ensures disks { length result.0.items ≡ length site.row.homes }
     ensures comes { ComesTo
-        (views D.view D.tells A.Porch.Link.view A.Porch.view N.nonce (C.shows clock.now))
-        (openings_in D.view D.tells N.nonce site) (A.view door.old) (A.view door.new)
+        (views trio_view F.tells A.Porch.Link.view A.Porch.view N.nonce (C.shows clock.now))
+        (openings_in trio_view F.tells N.nonce site) (A.view door.old) (A.view door.new)
         (pasts_of (P.told past.old) (P.told past.new)) watch.now result.0.items result.1 }
     ensures door { IsErrOf result.1 ServingFault.Door
         → HasFailed (A.view door.old) (A.view door.new) }

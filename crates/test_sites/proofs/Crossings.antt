@@ -12,12 +12,14 @@ use Rattle.std.specs.contracts.alloc.Global as Global
 use Rattle.shelf_lock.specs.declared.kept.Kept.{Ghosts}
 use Rattle.lock_row.specs.contracts.seats.RowPass as RowPass
 use Rattle.web_disk.specs.contracts.memory.MemoryDisk as MemoryDisk
-use Rattle.web_disk.specs.contracts.memory.MemoryDiskDisk.TheImpl as disks
+use Rattle.web_disk.specs.contracts.memory.MemoryDiskDisk.TheImpl as memory
+use Rattle.disk_trio.specs.contracts.trio.Disks as Disks
+use Rattle.disk_trio.specs.contracts.current.DisksDisk.TheImpl as trios
 use Rattle.web_outside.specs.contracts.nonces.Counting as Counting
 use Rattle.web_outside.specs.contracts.nonces.CountingNonces.TheImpl as nonces
 use Rattle.site.specs.contracts.kept.KeptShelf as KeptShelf
 use Rattle.site.specs.contracts.site.Site as Site
-use Rattle.site.proofs.Crossings.{kept, row_pass, site_sync}
+use Rattle.site.proofs.Crossings.{disks, disks_sync, kept, row_pass, site_sync}
 
 pub shelf : (D N : RattleType) → IsSend D → IsSend N → IsSend (KeptShelf.the_row D N)
 shelf D N d n = recorded_send (KeptShelf.the_field D N).row _ _ (KeptShelf.the_type D N).to_one (kept D N d n)
@@ -37,12 +39,16 @@ counting = search (sendable, crosses) depth 40 fits 100000
 shared_counting : IsSync Counting.the_row
 shared_counting = search (sendable, crosses) depth 40 fits 100000
 
-pub shared_site : IsSync (Site.the_row MemoryDisk.the_row Counting.the_row disks.ghosts nonces.ghosts)
+-- the disks of a shelf
+abbrev pub three : RattleType
+three = Disks.the_row MemoryDisk.the_row memory.ghosts
+
+pub shared_site : IsSync (Site.the_row three Counting.the_row (trios.ghosts MemoryDisk.the_row memory.ghosts trios.no_dict) nonces.ghosts)
 shared_site =
-    let D = MemoryDisk.the_row in
+    let d = trios.ghosts MemoryDisk.the_row memory.ghosts trios.no_dict in
     let N = Counting.the_row in
-    recorded_sync (Site.the_field D N disks.ghosts nonces.ghosts).row _ _ (Site.the_type D N disks.ghosts nonces.ghosts).to_one
-    (site_sync D N disks.ghosts nonces.ghosts disk counting shared_disk shared_counting)
+    recorded_sync (Site.the_field three N d nonces.ghosts).row _ _ (Site.the_type three N d nonces.ghosts).to_one
+    (site_sync three N d nonces.ghosts (disks MemoryDisk.the_row memory.ghosts disk) counting (disks_sync MemoryDisk.the_row memory.ghosts shared_disk) shared_counting)
 
 pub shared_memory : IsSync Global.the_row
 shared_memory = search (sendable, crosses) depth 40 fits 100000

@@ -5,14 +5,13 @@ ghost use Rattle.site.specs.Sites.{IsOwn};
 ghost use Rattle.site.specs.Beginnings.{CanBegin, IsReady, IsWhole};
 
 use crate::passes::{MemoryPass, end_of, shown, target, two_passes, visited};
-use crate::sites::{MemorySite, begun, opened, rewritten, written};
+use crate::sites::{MemoryDisks, MemorySite, begun, opened, renewed, rewritten, written};
 use page_names::Target;
 use script_nodes::Setup;
 use script_value::Reply;
 use std::alloc::Global;
 use std::sync::Wait;
 use std::test::Fail;
-use web_disk::MemoryDisk;
 use web_outside::Counting;
 
 // What a site of two passes hands back: its disks and its sources.
@@ -22,7 +21,7 @@ fn closed<R: Wait>(
     site: MemorySite,
     first: MemoryPass,
     second: MemoryPass,
-) -> Result<(Vec<MemoryDisk>, Vec<Counting>), Fail>
+) -> Result<(Vec<MemoryDisks>, Vec<Counting>), Fail>
     requires whole { IsWhole site }
     requires own { IsOwn site first × IsOwn site second }
 {
@@ -37,7 +36,7 @@ fn closed<R: Wait>(
 #[derive(Drop)]
 struct Handed {
     page: Target,
-    disks: Vec<MemoryDisk>,
+    disks: Vec<MemoryDisks>,
     sources: Vec<Counting>,
 }
 
@@ -85,10 +84,10 @@ fn gone_on<R: Wait>(
         disks,
         sources,
     } = handed;
-    if disks.len() != 2 || sources.len() != 2 {
-        return Err(Fail::from("not two shelves"));
+    if sources.len() != 2 {
+        return Err(Fail::from("not two sources"));
     }
-    match opened(rt, alloc, setup, disks, sources) {
+    match opened(rt, alloc, setup, renewed(alloc, disks)?, sources) {
         Ok(mut site) => answered(rt, alloc, &mut site, &page),
         Err(_) => Err(Fail::from("not begun again")),
     }

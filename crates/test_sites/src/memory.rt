@@ -4,7 +4,7 @@ ghost use Rattle.site.specs.Sites.{IsOwn};
 ghost use Rattle.site.specs.Beginnings.{IsReady};
 
 use crate::passes::{MemoryPass, target, two_passes, visited};
-use crate::sites::{MemoryFault, MemorySite, begun, disks, opened, sources, written};
+use crate::sites::{MemoryFault, MemorySite, begun, disks, opened, renewed, sources, written};
 use page_names::{Target, parse_target};
 use script_value::Reply;
 use shelf::BeginFault;
@@ -101,10 +101,10 @@ fn begun_again<R: Wait>(rt: &R, alloc: Global, fault: MemoryFault) -> Result<Mem
     let setup = written(alloc)?;
     let is_memory = fault.fault == BeginFault::Memory;
     let are_back = fault.nonces.as_slice() == sources(alloc)?.as_slice();
-    if !is_memory || !are_back || fault.disks.len() != 2 || fault.nonces.len() != 2 {
+    if !is_memory || !are_back || fault.nonces.len() != 2 {
         return Err(Fail::from("not handed back"));
     }
-    match opened(rt, alloc, setup, fault.disks, fault.nonces) {
+    match opened(rt, alloc, setup, renewed(alloc, fault.disks)?, fault.nonces) {
         Ok(site) => Ok(site),
         Err(_) => Err(Fail::from("not begun again")),
     }

@@ -1,10 +1,10 @@
 ghost use Rattle.std.specs.Prelude.{IfOk, true};
-ghost use Rattle.web_disk.specs.Disks.{memory_view};
+ghost use Rattle.disk_trio.specs.Trio.{trio_view};
 ghost use Rattle.web_outside.specs.Counted.{counted};
 ghost use Rattle.site.specs.Sites.{IsOwn, HoldsAt};
 ghost use Rattle.site.specs.Beginnings.{IsReady, IsWhole};
 
-use crate::sites::MemorySite;
+use crate::sites::{MemoryDisks, MemorySite};
 use http_forms::answer_of;
 use page_names::{Target, parse_target};
 use script_value::Reply;
@@ -13,11 +13,10 @@ use site::SitePass;
 use std::alloc::Global;
 use std::sync::Wait;
 use std::test::Fail;
-use web_disk::MemoryDisk;
 use web_outside::{Counting, OpenGate};
 
 /// What a worker has seen of a site on disks in memory.
-pub type MemoryPass = SitePass<MemoryDisk, Counting>;
+pub type MemoryPass = SitePass<MemoryDisks, Counting>;
 
 /// The passes of the workers 0 and 1.
 pub fn two_passes(alloc: Global, site: &mut MemorySite) -> Result<(MemoryPass, MemoryPass), Fail>
@@ -92,7 +91,7 @@ pub fn taken<R: Wait>(
 ) -> Result<Ticket, Fail>
     requires { IsOwn site.now pass.old }
     ensures own { IsOwn site.now pass.new }
-    ensures held { IfOk result (HoldsAt memory_view true counted pass.new) }
+    ensures held { IfOk result (HoldsAt trio_view true counted pass.new) }
 {
     let answer = answer_of(alloc, b"".as_slice(), b"".as_slice())?;
     match site.take(rt, alloc, pass, target, answer) {
@@ -110,7 +109,7 @@ pub fn published<R: Wait>(
     ticket: Ticket,
 ) -> Reply
     requires own { IsOwn site.now pass.old }
-    requires held { HoldsAt memory_view true counted pass.old ticket }
+    requires held { HoldsAt trio_view true counted pass.old ticket }
     ensures { IsOwn site.now pass.new }
 {
     let segment = site.run(alloc, pass, &ticket);

@@ -1,9 +1,10 @@
-ghost use Rattle.std.specs.Prelude.{◌≡◌, length, IfOk};
+ghost use Rattle.std.specs.Prelude.{◌≡◌, false, length, IfOk};
 ghost use Rattle.script_nodes.specs.Views.{scripts_of};
 ghost use Rattle.setup_reader.specs.Texts.{IsReadSetup};
-ghost use Rattle.site.specs.Beginnings.{CanBegin, IsReady};
+ghost use Rattle.site.specs.Beginnings.{AreNew, CanBegin, IsReady};
 
 use crate::setups::{EMPTY_SHOP_AND_NOTE, SHOP_AND_NOTE, setup};
+use disk_trio::Disks;
 use journal_records::can_begin;
 use script_nodes::Setup;
 use shelf::Rules;
@@ -14,11 +15,14 @@ use std::test::Fail;
 use web_disk::MemoryDisk;
 use web_outside::{Counting, Nonces};
 
+/// The three disks of a shelf, in memory.
+pub type MemoryDisks = Disks<MemoryDisk>;
+
 /// A site on disks in memory.
-pub type MemorySite = Site<MemoryDisk, Counting>;
+pub type MemorySite = Site<MemoryDisks, Counting>;
 
 /// Why one was not begun, and what it was given.
-pub type MemoryFault = SiteFault<MemoryDisk, Counting>;
+pub type MemoryFault = SiteFault<MemoryDisks, Counting>;
 
 const RULES: Rules = Rules {
     number: 0,
@@ -34,14 +38,37 @@ fn disk(alloc: Global, failing: &[u64]) -> Result<MemoryDisk, Fail> {
     Ok(MemoryDisk::new(alloc, Vec::new(alloc), failing.to_vec(alloc)?)?)
 }
 
-/// Two empty disks, of which the second fails at the calls of these numbers.
-pub fn disks(alloc: Global, failing: &[u64]) -> Result<Vec<MemoryDisk>, Fail>
-    ensures { IfOk result (λ v. length v.items ≡ 2) }
+// Three empty disks, whose root fails at the calls of these numbers.
+fn trio(alloc: Global, failing: &[u64]) -> Result<MemoryDisks, Fail>
+    ensures { IfOk result (λ d. d.known ≡ false) }
+{
+    Ok(Disks::new(disk(alloc, &[])?, disk(alloc, &[])?, disk(alloc, failing)?))
+}
+
+/// The empty disks of two shelves, of which those of the second fail at the calls of these numbers of their root.
+pub fn disks(alloc: Global, failing: &[u64]) -> Result<Vec<MemoryDisks>, Fail>
+    ensures many { IfOk result (λ v. length v.items ≡ 2) }
+    ensures fresh { IfOk result (λ v. AreNew v.items) }
 {
     let mut disks = Vec::new(alloc);
-    disks.push(disk(alloc, &[])?)?;
-    disks.push(disk(alloc, failing)?)?;
+    disks.push(trio(alloc, &[])?)?;
+    disks.push(trio(alloc, failing)?)?;
     Ok(disks)
+}
+
+/// The disks of two shelves as they were handed back, to be opened again.
+pub fn renewed(alloc: Global, disks: Vec<MemoryDisks>) -> Result<Vec<MemoryDisks>, Fail>
+    ensures many { IfOk result (λ v. length v.items ≡ 2) }
+    ensures fresh { IfOk result (λ v. AreNew v.items) }
+{
+    let mut disks = disks;
+    let (Some(second), Some(first), None) = (disks.pop(), disks.pop(), disks.pop()) else {
+        return Err(Fail::from("not two shelves"));
+    };
+    let mut fresh = Vec::new(alloc);
+    fresh.push(first.renew())?;
+    fresh.push(second.renew())?;
+    Ok(fresh)
 }
 
 /// Two sources of nonces, of which the second has given one.
@@ -91,10 +118,11 @@ pub fn opened<R: Wait>(
     rt: &R,
     alloc: Global,
     setup: Setup,
-    disks: Vec<MemoryDisk>,
+    disks: Vec<MemoryDisks>,
     sources: Vec<Counting>,
 ) -> Result<MemorySite, MemoryFault>
     requires disks { length disks.items ≡ 2 }
+    requires fresh { AreNew disks.items }
     requires sources { length sources.items ≡ 2 }
     requires read { IsReadSetup (scripts_of setup) }
     requires begins { CanBegin (scripts_of setup) 2 }

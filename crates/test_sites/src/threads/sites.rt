@@ -1,9 +1,10 @@
 ghost use Rattle.std.specs.Prelude.{◌≡◌, ◌≤◌, length, IfOk};
 ghost use Rattle.shelf.specs.Ranges.{AreInRange};
-ghost use Rattle.site.specs.Beginnings.{rules_for, IsReady};
+ghost use Rattle.site.specs.Beginnings.{AreNew, rules_for, IsReady};
 
 use crate::setups::{TALLY_AND_PATH, setup};
-use crate::sites::MemorySite;
+use crate::sites::{MemoryDisks, MemorySite};
+use disk_trio::Disks;
 use journal_records::can_begin;
 use shelf::Rules;
 use site::{Site, SiteFault};
@@ -29,16 +30,21 @@ fn rules(shelves: u32) -> Rules
     }
 }
 
-// So many empty disks, and as many sources of nonces.
-fn outside(alloc: Global, shelves: u32) -> Result<(Vec<MemoryDisk>, Vec<Counting>), Fail>
+fn empty(alloc: Global) -> Result<MemoryDisk, Fail> {
+    Ok(MemoryDisk::new(alloc, Vec::new(alloc), Vec::new(alloc))?)
+}
+
+// The empty disks of so many shelves, and as many sources of nonces.
+fn outside(alloc: Global, shelves: u32) -> Result<(Vec<MemoryDisks>, Vec<Counting>), Fail>
     ensures disks { IfOk result (λ r. length r.0.items ≡ shelves) }
     ensures sources { IfOk result (λ r. length r.1.items ≡ shelves) }
+    ensures fresh { IfOk result (λ r. AreNew r.0.items) }
 {
     let mut disks = Vec::new(alloc);
     let mut sources = Vec::new(alloc);
     for shelf in 0..shelves {
         let _ = shelf;
-        disks.push(MemoryDisk::new(alloc, Vec::new(alloc), Vec::new(alloc))?)?;
+        disks.push(Disks::new(empty(alloc)?, empty(alloc)?, empty(alloc)?))?;
         sources.push(Counting::new())?;
     }
     Ok((disks, sources))

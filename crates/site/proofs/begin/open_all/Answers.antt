@@ -4,8 +4,11 @@ use Rattle.std.proofs.lemmas.Option.{slice_get_within}
 use Rattle.script_nodes.specs.Views.{scripts_of}
 use Rattle.lock_row.proofs.Lockings.{reverse_snoc}
 use Rattle.lock_row.proofs.Places.{map_snoc, map_length}
-use Rattle.site.specs.Beginnings.{IsFreshOn, AreFreshOn, IsUnopened, AreUnopened}
-use Rattle.site.proofs.Begins.{at_here, fresh_on, unopened_none, unopened_at, disk_in, nonces_in}
+use Rattle.site.specs.Beginnings.{IsFreshOn, AreFreshOn, IsUnopened, AreUnopened, AreNew}
+use Rattle.site.proofs.Begins.{at_here, fresh_on, unopened_none, unopened_at, disk_in, nonces_in, new_front, new_last}
+use Rattle.disk_trio.specs.Trio.{trio_view}
+use Rattle.disk_trio.specs.Laws.{only_left}
+use Rattle.disk_trio.specs.declared.trio.Disks.{Disks}
 use Rattle.site.proofs.begin.open_all.Goals as goal
 
 pub returns-in_default-clause-unopened : goal.returns-in_default-clause-unopened
@@ -13,13 +16,20 @@ returns-in_default-clause-unopened g c =
     let range = c.requires.range.shelves in
     let disks = c.requires.disks in
     let turned = length-reverse c.args.disks.now.items in
-    unopened_none {D = g.row.D.Denot} g.D.Disk.view g.D.Disk.tells (scripts_of c.args.setup.now) g.met.D.Disk.only_now (reverse c.args.disks.now.items) (omega arith)
+    unopened_none {D = Disks g.row.F.Denot g.F.Disk} trio_view g.F.Disk.tells (scripts_of c.args.setup.now) (only_left g.F.Disk) (reverse c.args.disks.now.items) (omega arith)
+
+-- the disk that is opened was not
+pub open_one-requires-clause-fresh : goal.open_one-requires-clause-fresh
+open_one-requires-clause-fresh g c =
+    let items_d : c.loop-number.disks.items ≡ c.pop.new.self.items ++ c.unwrap-disk.result ∷ [] = search rules in
+    new_last c.pop.new.self.items c.unwrap-disk.result (subst AreNew items_d c.loop-number.invariant.unopened)
 
 pub loop-number-init : goal.loop-number-init
 loop-number-init g c =
     let none : c.in-Ok.shelves.items ≡ [] = search rules in
     record {
       fresh = λ k d n s d_is n_is s_is. absurd (let within = slice_get_within c.in-Ok.shelves.items k s s_is in let no = ap length none in omega arith);
+      unopened = c.requires.fresh;
       many = search (rules, arith);
       room = search (rules, arith);
       left = search (rules, arith);
@@ -48,10 +58,11 @@ loop-number-preserved g c =
     let at_n : slice_get (reverse c.args.nonces.now.items) c.loop-number.number ≡ Some n =
     ap (λ l. slice_get l c.loop-number.number) there_n
     ∙ subst (λ (k : ℕ). slice_get (map nonces_in shelves ++ n ∷ reverse left_n) k ≡ Some n) (map_length nonces_in shelves ∙ i.many.1) (at_here (map nonces_in shelves) n (reverse left_n)) in
-    let opened = subst (λ r. IsFreshOn {D = g.row.D.Denot} {N = g.row.N.Denot} g.D.Disk.view g.D.Disk.tells g.N.Nonces.nonce (scripts_of c.args.setup.now) r d n s) c.rules_with.ensures c.in-Ok-open_one.ensures.opened in
+    let opened = subst (λ r. IsFreshOn {D = Disks g.row.F.Denot g.F.Disk} {N = g.row.N.Denot} trio_view g.F.Disk.tells g.N.Nonces.nonce (scripts_of c.args.setup.now) r d n s) c.rules_with.ensures c.in-Ok-open_one.ensures.opened in
     record {
-      fresh = subst (λ l. AreFreshOn {D = g.row.D.Denot} {N = g.row.N.Denot} g.D.Disk.view g.D.Disk.tells g.N.Nonces.nonce (scripts_of c.args.setup.now) c.args.rules (reverse c.args.disks.now.items) (reverse c.args.nonces.now.items) l) (sym pushed)
-          (fresh_on {D = g.row.D.Denot} {N = g.row.N.Denot} g.D.Disk.view g.D.Disk.tells g.N.Nonces.nonce (scripts_of c.args.setup.now) c.args.rules (reverse c.args.disks.now.items) (reverse c.args.nonces.now.items) shelves c.loop-number.number d n s i.fresh i.many.1 at_d at_n opened);
+      fresh = subst (λ l. AreFreshOn {D = Disks g.row.F.Denot g.F.Disk} {N = g.row.N.Denot} trio_view g.F.Disk.tells g.N.Nonces.nonce (scripts_of c.args.setup.now) c.args.rules (reverse c.args.disks.now.items) (reverse c.args.nonces.now.items) l) (sym pushed)
+          (fresh_on {D = Disks g.row.F.Denot g.F.Disk} {N = g.row.N.Denot} trio_view g.F.Disk.tells g.N.Nonces.nonce (scripts_of c.args.setup.now) c.args.rules (reverse c.args.disks.now.items) (reverse c.args.nonces.now.items) shelves c.loop-number.number d n s i.fresh i.many.1 at_d at_n opened);
+      unopened = new_front left_d d (subst AreNew items_d i.unopened);
       many = search (rules, arith);
       room = search (rules, arith);
       left = search (rules, arith);
@@ -77,15 +88,15 @@ returns-in-Err-clause-unopened g c =
     let left_d = c.pop.new.self.items in
     let items_d : c.loop-number.disks.items ≡ c.pop.new.self.items ++ c.unwrap-disk.result ∷ [] = search rules in
     let there_d : reverse c.args.disks.now.items ≡ front ++ d ∷ reverse left_d = i.disks.1 ∙ ap (λ l. front ++ l) (ap reverse items_d ∙ reverse_snoc left_d d) in
-    let un : IsUnopened {D = g.row.D.Denot} g.D.Disk.view g.D.Disk.tells (scripts_of c.args.setup.now) c.rules_with.result.number d e c.in-Err.fault = search rules in
-    let unopened = subst (λ (k : ℕ). IsUnopened {D = g.row.D.Denot} g.D.Disk.view g.D.Disk.tells (scripts_of c.args.setup.now) k d e c.in-Err.fault) (ap (λ r. r.number) c.rules_with.ensures) un in
+    let un : IsUnopened {D = Disks g.row.F.Denot g.F.Disk} trio_view g.F.Disk.tells (scripts_of c.args.setup.now) c.rules_with.result.number d e c.in-Err.fault = search rules in
+    let unopened = subst (λ (k : ℕ). IsUnopened {D = Disks g.row.F.Denot g.F.Disk} trio_view g.F.Disk.tells (scripts_of c.args.setup.now) k d e c.in-Err.fault) (ap (λ r. r.number) c.rules_with.ensures) un in
     let back : reverse c.give_back.new.disks.items ≡ map disk_in shelves ++ e ∷ reverse left_d =
     ap reverse (c.give_back.ensures.disks ∙ ap (λ l. l ++ reverse (map disk_in shelves)) c.push_reserved-in-Err.ensures.items)
     ∙ (reverse-append (left_d ++ e ∷ []) (reverse (map disk_in shelves)) ∙ (λ j. reverse-reverse (map disk_in shelves) j ++ reverse_snoc left_d e j)) in
     let long : length (reverse c.args.nonces.now.items) ≡ length (reverse c.args.disks.now.items) =
     length-reverse c.args.nonces.now.items ∙ (c.requires.nonces ∙ (sym c.requires.disks ∙ sym (length-reverse c.args.disks.now.items))) in
-    subst (λ l. AreUnopened {D = g.row.D.Denot} g.D.Disk.view g.D.Disk.tells (scripts_of c.args.setup.now) (reverse c.args.disks.now.items) l c.loop-number.number c.in-Err.fault) (sym back)
-    (unopened_at {D = g.row.D.Denot} {N = g.row.N.Denot} g.D.Disk.view g.D.Disk.tells g.N.Nonces.nonce (scripts_of c.args.setup.now) c.args.rules (reverse c.args.disks.now.items) (reverse c.args.nonces.now.items) shelves long i.fresh g.met.D.Disk.only_now
+    subst (λ l. AreUnopened {D = Disks g.row.F.Denot g.F.Disk} trio_view g.F.Disk.tells (scripts_of c.args.setup.now) (reverse c.args.disks.now.items) l c.loop-number.number c.in-Err.fault) (sym back)
+    (unopened_at {D = Disks g.row.F.Denot g.F.Disk} {N = g.row.N.Denot} trio_view g.F.Disk.tells g.N.Nonces.nonce (scripts_of c.args.setup.now) c.args.rules (reverse c.args.disks.now.items) (reverse c.args.nonces.now.items) shelves long i.fresh (only_left g.F.Disk)
     front (reverse left_d) d e c.loop-number.number c.in-Err.fault there_d i.disks.2 i.many.1 unopened)
 
 pub returns-in-Err-clause-sources : goal.returns-in-Err-clause-sources

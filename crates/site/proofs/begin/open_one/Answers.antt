@@ -5,6 +5,8 @@ use Rattle.instance_book.specs.declared.in_order.InOrder.{InOrder}
 use Rattle.instance_book.specs.declared.instance.KeptInstance.{KeptInstance}
 use Rattle.instance_book.specs.declared.numbered.Numbered.{Numbered}
 use Rattle.instance_book.specs.Views.{instance_of, instances_of}
+use Rattle.disk_trio.specs.Trio.{trio_view}
+use Rattle.disk_trio.specs.declared.trio.Disks.{Disks}
 use Rattle.site.specs.Beginnings.{IsOpenedOn}
 use Rattle.site.proofs.begin.open_one.Goals as goal
 
@@ -20,7 +22,7 @@ pub returns-in-Ok-clause-opened : goal.returns-in-Ok-clause-opened
 returns-in-Ok-clause-opened g c =
     let b = c.in-Ok.ensures in
     let k = c.new.ensures in
-    let opened : IsOpenedOn {D = g.row.D.Denot} {N = g.row.N.Denot} g.D.Disk.view g.D.Disk.tells (scripts_of c.args.setup.now) c.args.rules c.args.disk c.args.source c.in-Ok.shelf = record {
+    let opened : IsOpenedOn {D = Disks g.row.F.Denot g.F.Disk} {N = g.row.N.Denot} trio_view g.F.Disk.tells (scripts_of c.args.setup.now) c.args.rules c.args.disk c.args.source c.in-Ok.shelf = record {
       rules_are = b.rules;
       nonces_are = b.nonces;
       in_order = b.in_order;
@@ -29,19 +31,20 @@ returns-in-Ok-clause-opened g c =
       one_of = b.one_of;
       own = b.own;
       own_if_empty = λ no none. b.own_if_empty no (no_instances (library_of c.in-Ok.shelf.library).all c.in-Ok.shelf.book.instances none);
-      any_moment = b.any_moment;
+      any_moment = b.migration;
       own_moments = b.own_moments;
       keeps = λ told. b.keeps told (λ e. let none : ⊥ = cc e in none);
+      fits = λ told. b.fits told;
       later = b.later;
     } in
     record {
       opened_is = k.opened ∙ sym k.shelf;
       history_is = k.fresh;
       sound = k.sound;
-      shelf = subst (λ (s : _). IsOpenedOn {D = g.row.D.Denot} {N = g.row.N.Denot} g.D.Disk.view g.D.Disk.tells (scripts_of c.args.setup.now) c.args.rules c.args.disk c.args.source s) (sym k.shelf) opened;
+      shelf = subst (λ (s : _). IsOpenedOn {D = Disks g.row.F.Denot g.F.Disk} {N = g.row.N.Denot} trio_view g.F.Disk.tells (scripts_of c.args.setup.now) c.args.rules c.args.disk c.args.source s) (sym k.shelf) opened;
     }
 
 pub returns-in-Err-clause-unopened : goal.returns-in-Err-clause-unopened
 returns-in-Err-clause-unopened g c =
     let b = c.in-Err.ensures in
-    record { returned = record { any_moment = b.any_moment; own_moments = b.own_moments; later = b.later }; why = b.refused; cause = λ e. b.cause (λ i. Err (e i)); keeps = λ told no. b.keeps told (λ e. no (cc e)) }
+    record { returned = record { any_moment = b.migration; own_moments = b.own_moments; later = b.later }; why = b.refused; cause = λ e. b.cause (λ i. Err (e i)); keeps = λ told no. b.keeps told (λ e. no (cc e)) }

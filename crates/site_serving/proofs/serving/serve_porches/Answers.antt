@@ -16,7 +16,10 @@ use Rattle.site.specs.contracts.kept.KeptShelf as KeptShelf
 use Rattle.site.specs.contracts.opening.Opening as Opened
 use Rattle.site.specs.contracts.entry.KeptEntry as KeptEntry
 use Rattle.site.specs.contracts.site.Site as Site
-use Rattle.site.proofs.Crossings.{kept, row_pass, site_sync}
+use Rattle.disk_trio.specs.Trio.{trio_view}
+use Rattle.disk_trio.specs.contracts.trio.Disks as Disks
+use Rattle.disk_trio.specs.contracts.current.DisksDisk.TheImpl as trios
+use Rattle.site.proofs.Crossings.{disks, disks_sync, kept, row_pass, site_sync}
 use Rattle.request_workers.specs.Tallies.{count_of, IsBelow}
 use Rattle.request_workers.specs.declared.tally.Tally.{Tally}
 use Rattle.site_serving.specs.Totals.{end_of, total}
@@ -39,25 +42,28 @@ running a R D N d n here there = search sendable depth 30
 
 pub serve_all-tallies-requires-send-A-Pass : goal.serve_all-tallies-requires-send-A-Pass
 serve_all-tallies-requires-send-A-Pass g c κs within =
-    let D = param 1 g.row.D in
+    let b = c.type_bounds in
+    let F = param 1 g.row.F in
+    let D = Disks.the_row F g.F.Disk in
     let N = param 2 g.row.N in
     let T = KeptShelf.the_row D N in
     let O = Opened.the_row D N in
     let E = KeptEntry.the_row in
-    let k = ghosts D N g.D.Disk no_dict g.N.Nonces no_dict no_dict in
-    param_send 5 _ (arg_send _ no (RowPass.the_row T O E k) (passes_send T O E k (shelf_send D N c.type_bounds.send-D c.type_bounds.send-N)))
+    let k = ghosts D N (trios.ghosts F g.F.Disk no_dict) no_dict g.N.Nonces no_dict no_dict in
+    param_send 5 _ (arg_send _ no (RowPass.the_row T O E k) (passes_send T O E k (shelf_send D N (disks F g.F.Disk b.send-F) b.send-N)))
 
 pub serve_all-tallies-requires-sync-A : goal.serve_all-tallies-requires-sync-A
 serve_all-tallies-requires-sync-A g c κs within =
     let b = c.type_bounds in
     let R = param 0 g.row.R in
-    let D = param 1 g.row.D in
+    let F = param 1 g.row.F in
+    let D = Disks.the_row F g.F.Disk in
     let N = param 2 g.row.N in
-    let d = g.D.Disk in
+    let d = trios.ghosts F g.F.Disk no_dict in
     let n = g.N.Nonces in
     let a : NamedLft = record { mir = named 6; lft = κs.1.1.1.1.1.1.0 } in
     param_sync 0 _ (arg_sync _ no (Running.the_row a R D N d n)
-    (running a R D N d n b.sync-R (site_row D N d n b.send-D b.send-N b.sync-D b.sync-N)))
+    (running a R D N d n b.sync-R (site_row D N d n (disks F g.F.Disk b.send-F) b.send-N (disks_sync F g.F.Disk b.sync-F) b.sync-N)))
 
 pub serve_all-tallies-requires-clause-own : goal.serve_all-tallies-requires-clause-own
 serve_all-tallies-requires-clause-own g c κs within = λ k p here. (c.requires.manned.first k p here).own
@@ -78,7 +84,7 @@ total-tally-requires-clause-small g c =
 
 pub returns-clause-ends : goal.returns-clause-ends
 returns-clause-ends g c =
-    let v = views g.D.Disk.view g.D.Disk.tells g.A.Porch.Link.Link.view g.A.Porch.Porch.view g.N.Nonces.nonce (g.C.Clock.shows c.args.clock.now) in
+    let v = views trio_view g.F.Disk.tells g.A.Porch.Link.Link.view g.A.Porch.Porch.view g.N.Nonces.nonce (g.C.Clock.shows c.args.clock.now) in
     let tallies = c.serve_all-tallies.result.items in
     let histories = c.close-disks.result.2.items in
     let closed = c.close-disks.ensures in
@@ -93,7 +99,7 @@ returns-clause-ends g c =
             own = c.serve_all-tallies.ensures.own;
             first = c.requires.manned.first;
             many = closed.histories;
-            opened = opened_all g.D.Disk.view g.D.Disk.tells g.N.Nonces.nonce c.args.site.row.homes c.args.site.row.seats c.close-disks.result.0.items c.close-disks.result.1.items
+            opened = opened_all trio_view g.F.Disk.tells g.N.Nonces.nonce c.args.site.row.homes c.args.site.row.seats c.close-disks.result.0.items c.close-disks.result.1.items
                 histories closed.disks closed.nonces closed.histories closed.back;
             told = closed.told;
           })

@@ -12,13 +12,14 @@ use denote.Param.Send.{IsSend, IsSync, arg_sync, param_sync, recorded_sync, send
 use Rattle.std.proofs.Crossing.{crosses}
 use Rattle.std.specs.contracts.alloc.Global as Global
 use Rattle.web_disk.specs.contracts.memory.MemoryDisk as MemoryDisk
-use Rattle.web_disk.specs.contracts.memory.MemoryDiskDisk.TheImpl as disks
+use Rattle.web_disk.specs.contracts.memory.MemoryDiskDisk.TheImpl as memory
+use Rattle.disk_trio.specs.contracts.current.DisksDisk.TheImpl as trios
 use Rattle.web_outside.specs.contracts.nonces.Counting as Counting
 use Rattle.web_outside.specs.contracts.nonces.CountingNonces.TheImpl as nonces
 use Rattle.site.specs.contracts.site.Site as Site
 use Rattle.test_sites.specs.contracts.threads.notes.Note as Note
 use Rattle.test_sites.specs.contracts.threads.visitors.Visitor as Visitor
-use Rattle.test_sites.proofs.Crossings.{pass, shared_five, shared_memory, shared_number, shared_site, shelf}
+use Rattle.test_sites.proofs.Crossings.{pass, shared_five, shared_memory, shared_number, shared_site, shelf, three}
 use Rattle.test_sites.proofs.threads.visitors.visit_all.Goals as goal
 
 note : IsSend Note.the_field.row
@@ -39,7 +40,7 @@ for_each_mut-requires-send-T g c κs within = search (sendable, visitor) depth 4
 pub for_each_mut-requires-sync-F : goal.for_each_mut-requires-sync-F
 for_each_mut-requires-sync-F g c κs within =
     let R = param 0 g.row.R in
-    let S = Site.the_row MemoryDisk.the_row Counting.the_row disks.ghosts nonces.ghosts in
+    let S = Site.the_row three Counting.the_row (trios.ghosts MemoryDisk.the_row memory.ghosts trios.no_dict) nonces.ghosts in
     let a : NamedLft = record { mir = named 6; lft = κs.1.1.1.1.1.1.0 } in
     let b : NamedLft = record { mir = named 7; lft = κs.1.1.1.1.1.1.1.0 } in
     let s : NamedLft = record { mir = named 8; lft = κs.1.1.1.1.1.1.1.1.0 } in
