@@ -58,13 +58,25 @@ impl Tally {
 fn pages_in(told: &[Report]) -> u64
     ensures { result ≡ count_by spec.tells_page told.now }
 {
-    told.iter().filter(|report| tells_page(report)).count() as u64
+    let mut count = 0u64;
+    for report in told {
+        if tells_page(report) {
+            count += 1;
+        }
+    }
+    count
 }
 
 fn refusals_in(told: &[Report]) -> u64
     ensures { result ≡ count_by spec.tells_refusal told.now }
 {
-    told.iter().filter(|report| tells_refusal(report)).count() as u64
+    let mut count = 0u64;
+    for report in told {
+        if tells_refusal(report) {
+            count += 1;
+        }
+    }
+    count
 }
 
 // Whether a worker was answered with a page.

@@ -14,6 +14,10 @@ use Rattle.shelf.specs.Visits.{Ticket}
 use Rattle.shelf.specs.declared.rules.Rules.{Rules}
 use Rattle.shelf.specs.declared.shelf.Shelf.{Shelf}
 use Rattle.shelf.specs.Views.{IsInOrder, IsOwnShelf}
+use Rattle.server_limits.specs.Limits.{most_shelves}
+use Rattle.trio_rack.specs.Numbers.{IsOneOfThree}
+use Rattle.trio_rack.specs.Trios.{shelves_of, MayBeBare}
+use Rattle.trio_rack.proofs.Bare.{bare_among, of_another, some_among}
 use Rattle.play_desk.specs.Desk.{Desk, first_desk, first_shelves}
 use Rattle.play_steps.specs.Rules.{StaysUp}
 use Rattle.play_desk.specs.Opening.{AreOpened, AllKept, AllStayKept, AreHome, CountStays, FailedFor, GivesOne, HoldImages, IsClosedBy, IsKept, IsRefusedBy, LeaveOthers, OpensNext, numbered, rules_at}
@@ -28,7 +32,7 @@ use Rattle.play_desk.proofs.Keeping.{all_kept_in}
 
 -- at first there is none
 pub opened_none : {D : Type 0} (view : D → View) (rack_tells tells : Bool) (scripts : List Named) (rules : Rules) (first : RackView)
-    → AreHome first.out → first.faults < 2 ^ 64 → AreOpened view rack_tells tells scripts rules first 0 [] first
+    → AreHome (shelves_of first).out → first.faults < 2 ^ 64 → AreOpened view rack_tells tells scripts rules first 0 [] first
 opened_none view rack_tells tells scripts rules first home few = record {
   size = refl;
   numbers = λ k n e. absurd (let no : None ≡ Some n = e in cc);
@@ -40,6 +44,7 @@ opened_none view rack_tells tells scripts rules first home few = record {
     only = λ n out. absurd (let no : true ≡ false = sym out ∙ home n in cc);
   };
   rest = λ n le image h. h;
+  disks = λ n number le below its image h. h;
   empty = λ rack_told told k lt. absurd (omega arith);
   shelves = λ rack_told told. refl;
   later = omega (arith, few);
@@ -79,44 +84,42 @@ module _ {D : Type 0} (view : D → View) (rack_tells tells : Bool) (scripts : L
   own_opened o = own_numbers xs o.numbers
 
   -- the next disk is at home
-  pub next_home : AreOpened view rack_tells tells scripts rules first count xs now → now.out count ≡ false
-  next_home o = by_out (now.out count) refl
+  pub next_home : AreOpened view rack_tells tells scripts rules first count xs now → (shelves_of now).out count ≡ false
+  next_home o = by_out ((shelves_of now).out count) refl
     where
-      by_out : (b : Bool) → now.out count ≡ b → now.out count ≡ false
+      by_out : (b : Bool) → (shelves_of now).out count ≡ b → (shelves_of now).out count ≡ false
       by_out false e = e
       by_out true e = absurd (let there = o.home.only count e in let low = below o there.0 count there.1 in omega (arith, low))
 
   -- and stays so where it was given back
-  pub still_home : (next : RackView) → AreOpened view rack_tells tells scripts rules first count xs now → GivesOne count now next → IsHome xs next.out
+  pub still_home : (next : RackView) → AreOpened view rack_tells tells scripts rules first count xs now → GivesOne count now next → IsHome xs (shelves_of next).out
   still_home next o given = record {
-    ours = λ k n e. (let low = below o k n e in given.others_out n (λ is. omega (arith, low, is)) ∙ o.home.ours k n e);
+    ours = λ k n e. (let low = below o k n e in given.leaves.others_out n (λ is. omega (arith, low, is)) ∙ o.home.ours k n e);
     only = λ n out.
-        let other : n ≢ count = λ is. (let no : true ≡ false = sym out ∙ ap next.out is ∙ given.home in let never : ⊥ = cc in never) in
-        o.home.only n (sym (given.others_out n other) ∙ out);
+        let other : n ≢ count = λ is. (let no : true ≡ false = sym out ∙ ap (shelves_of next).out is ∙ given.home in let never : ⊥ = cc in never) in
+        o.home.only n (sym (given.leaves.others_out n other) ∙ out);
   }
 
   -- why the next was not opened
   pub closed_by : (limit : ℕ) (why : OpenCause) → AreOpened view rack_tells tells scripts rules first count xs now → count < limit
-      → IsTrue rack_tells → IsTrue tells → IsRefusedBy (now.holds count) why → IsClosedBy first.holds limit count why
-  closed_by limit cause.NotEmpty o low rack_told told h = (
+      → IsTrue rack_tells → IsTrue tells → IsRefusedBy now count why → limit ≤ most_shelves → IsClosedBy first limit count why
+  closed_by limit cause.NotEmpty o low rack_told told h most = (
     low,
     record {
       before = o.empty rack_told told;
-      image = h.0;
-      held = o.rest count (omega arith) h.0 h.1;
-      some = h.2;
+      some = some_among now first count (λ number its. o.disks count number (omega arith) (omega (arith, low, most)) its) h;
     },
   )
-  closed_by limit (cause.Damaged place) o low rack_told told h = h
-  closed_by limit (cause.Other place) o low rack_told told h = h
-  closed_by limit (cause.Full len) o low rack_told told h = h
-  closed_by limit cause.Disk o low rack_told told h = (low, o.empty rack_told told)
-  closed_by limit cause.Memory o low rack_told told h = (low, o.empty rack_told told)
+  closed_by limit (cause.Damaged place) o low rack_told told h most = h
+  closed_by limit (cause.Other place) o low rack_told told h most = h
+  closed_by limit (cause.Full len) o low rack_told told h most = h
+  closed_by limit cause.Disk o low rack_told told h most = (low, o.empty rack_told told)
+  closed_by limit cause.Memory o low rack_told told h most = (low, o.empty rack_told told)
 
   -- then nothing was lost on any disk, but on the one of which a call failed
   pub kept_all : (mid next : RackView) (why : OpenCause) → AreOpened view rack_tells tells scripts rules first count xs now → IsTrue rack_tells → IsTrue tells
-      → GivesOne count now mid → (why ≢ cause.Disk → AllKept scripts count (now.holds count) [] (mid.holds count)) → HoldImages view xs next.holds
-      → LeaveOthers xs mid next → AllStayKept scripts first.holds next.holds count why
+      → GivesOne count now mid → (why ≢ cause.Disk → AllKept scripts count ((shelves_of now).holds count) [] ((shelves_of mid).holds count)) → HoldImages view xs (shelves_of next).holds
+      → LeaveOthers xs mid next → AllStayKept scripts (shelves_of first).holds (shelves_of next).holds count why
   kept_all mid next why o rack_told told given kept images others = record {
     kept = λ n but left is.
         elim (below_or_not n (length xs)) [
@@ -125,26 +128,26 @@ module _ {D : Type 0} (view : D → View) (rack_tells tells : Bool) (scripts : L
         ];
     behind = λ n above left is.
         let held = others n (λ k e. let low = below o k n e in omega (arith, low, above)) left is in
-        o.rest n (omega (arith, above)) left (given.others n (λ same. omega (arith, same, above)) left held);
+        o.rest n (omega (arith, above)) left (given.leaves.others n (λ same. omega (arith, same, above)) left held);
   }
     where
       -- the disk of a shelf that was opened
-      opened : (n : ℕ) (left : List ℕ) → next.holds n left → (x : Shelf D Counting) × (slice_get xs n ≡ Some x) → IsKept scripts n (first.holds n) [] left
+      opened : (n : ℕ) (left : List ℕ) → (shelves_of next).holds n left → (x : Shelf D Counting) × (slice_get xs n ≡ Some x) → IsKept scripts n ((shelves_of first).holds n) [] left
       opened n left is (x, at) =
           let number : x.rules.number ≡ n = o.numbers n x.rules.number (number_at xs n x at) in
-          o.keeps rack_told told n x at left (images n x at left (subst (λ m. next.holds m left) (sym number) is))
+          o.keeps rack_told told n x at left (images n x at left (subst (λ m. (shelves_of next).holds m left) (sym number) is))
 
       -- and of one that was not
-      beyond : (n : ℕ) → (why ≡ cause.Disk → n ≢ count) → (left : List ℕ) → next.holds n left → count ≤ n → IsKept scripts n (first.holds n) [] left
+      beyond : (n : ℕ) → (why ≡ cause.Disk → n ≢ count) → (left : List ℕ) → (shelves_of next).holds n left → count ≤ n → IsKept scripts n ((shelves_of first).holds n) [] left
       beyond n but left is le =
           let held = others n (λ k e. let low = below o k n e in omega (arith, low, le)) left is in
           dite (ℕ_discrete n count)
           (λ same.
-          let here : AllKept scripts count (first.holds count) [] (mid.holds count) =
-          all_kept_in scripts count (first.holds count) (now.holds count) [] (mid.holds count) (mid.holds count) (o.rest count (omega arith)) (λ image h. h)
+          let here : AllKept scripts count ((shelves_of first).holds count) [] ((shelves_of mid).holds count) =
+          all_kept_in scripts count ((shelves_of first).holds count) ((shelves_of now).holds count) [] ((shelves_of mid).holds count) ((shelves_of mid).holds count) (o.rest count (omega arith)) (λ image h. h)
           (kept (λ e. but e same)) in
-          subst (λ m. IsKept scripts m (first.holds m) [] left) (sym same) (here left (subst (λ m. mid.holds m left) same held)))
-          (λ other. inl (o.rest n le left (given.others n other left held)))
+          subst (λ m. IsKept scripts m ((shelves_of first).holds m) [] left) (sym same) (here left (subst (λ m. (shelves_of mid).holds m left) same held)))
+          (λ other. inl (o.rest n le left (given.leaves.others n other left held)))
 
   -- then the count did not fall
   pub later_closed : (mid new : ℕ) → AreOpened view rack_tells tells scripts rules first count xs now → CountStays now.faults 0 mid 0
@@ -152,17 +155,17 @@ module _ {D : Type 0} (view : D → View) (rack_tells tells : Bool) (scripts : L
   later_closed mid new o stays le = (let beside = stays (faults_in view xs) in omega (arith, o.later, beside, le))
 
   -- the count of each number stays where the next was not opened, but for its own
-  pub given_later : (mid new : RackView) → AreOpened view rack_tells tells scripts rules first count xs now → GivesOne count now mid → StaysUp mid.failed new.failed
-      → StaysUp first.failed new.failed
+  pub given_later : (mid new : RackView) → AreOpened view rack_tells tells scripts rules first count xs now → GivesOne count now mid → StaysUp (shelves_of mid).failed (shelves_of new).failed
+      → StaysUp (shelves_of first).failed (shelves_of new).failed
   given_later mid new o given later n =
       dite (ℕ_discrete n count)
-      (λ is. subst (λ m. first.failed m ≤ new.failed m) (sym is)
-      (let a = o.failed_later count in let b = given.failed in let d = later count in omega (arith, a, b, d)))
-      (λ other. let a = o.failed_later n in let b = given.others_failed n other in let d = later n in omega (arith, a, b, d))
+      (λ is. subst (λ m. (shelves_of first).failed m ≤ (shelves_of new).failed m) (sym is)
+      (let a = o.failed_later count in let b = given.leaves.failed in let d = later count in omega (arith, a, b, d)))
+      (λ other. let a = o.failed_later n in let b = given.leaves.others_failed n other in let d = later n in omega (arith, a, b, d))
 
   -- the count of its number rose where a call for it failed
   pub failed_closed : (mid new : RackView) → AreOpened view rack_tells tells scripts rules first count xs now → FailedFor count now mid
-      → CountStays now.faults 0 mid.faults 0 → total mid.faults (faults_in view xs) ≤ new.faults → StaysUp mid.failed new.failed → FailedFor count first new
+      → CountStays now.faults 0 mid.faults 0 → total mid.faults (faults_in view xs) ≤ new.faults → StaysUp (shelves_of mid).failed (shelves_of new).failed → FailedFor count first new
   failed_closed mid new o failed stays le later =
       let a = o.failed_later count in let b = failed.here in let d = later count in record {
         all = omega (arith, o.rack_later, failed.all, le);
@@ -172,8 +175,8 @@ module _ {D : Type 0} (view : D → View) (rack_tells tells : Bool) (scripts : L
   -- with the next there is one more
   pub opened_more : (ys : List (Shelf D Counting)) (next : RackView) → AreOpened view rack_tells tells scripts rules first count xs now
       → OpensNext view rack_tells tells scripts (numbered rules count) xs ys now next
-      → AreOpened view rack_tells tells scripts rules first (count + 1) ys next
-  opened_more ys next o h =
+      → count < most_shelves → AreOpened view rack_tells tells scripts rules first (count + 1) ys next
+  opened_more ys next o h low =
       subst (λ n. AreOpened view rack_tells tells scripts rules first n ys next) one
       (subst (λ (zs : List (Shelf D Counting)). AreOpened view rack_tells tells scripts rules first (suc count) zs next) (sym h.behind) more)
     where
@@ -213,23 +216,27 @@ module _ {D : Type 0} (view : D → View) (rack_tells tells : Bool) (scripts : L
       all_numbers k n e =
           dite (ℕ_discrete k count) (λ is. last_is k n e is ∙ sym is) (λ other. o.numbers k n (number_is k n e other))
 
-      taken_home : IsHome (xs ++ x ∷ []) next.out
+      taken_home : IsHome (xs ++ x ∷ []) (shelves_of next).out
       taken_home = record {
         ours = λ k n e.
-            dite (ℕ_discrete n count) (λ is. ap next.out is ∙ h.taken.out)
-            (λ other. h.taken.others_out n other ∙ o.home.ours k n (number_is k n e (λ is. other (all_numbers k n e ∙ is))));
+            dite (ℕ_discrete n count) (λ is. ap (shelves_of next).out is ∙ h.taken.out)
+            (λ other. h.taken.leaves.others_out n other ∙ o.home.ours k n (number_is k n e (λ is. other (all_numbers k n e ∙ is))));
         only = λ n out.
             dite (ℕ_discrete n count) (λ is. (count, at_end ∙ ap Some (number ∙ sym is)))
-            (λ other. (let was = o.home.only n (sym (h.taken.others_out n other) ∙ out) in (was.0, before was.0 n was.1)));
+            (λ other. (let was = o.home.only n (sym (h.taken.leaves.others_out n other) ∙ out) in (was.0, before was.0 n was.1)));
       }
 
-      untouched : (n : ℕ) → suc count ≤ n → AreAmong (next.holds n) (first.holds n)
-      untouched n le image held = o.rest n (omega arith) image (h.taken.others n (λ is. omega (arith, is, le)) image held)
+      untouched : (n : ℕ) → suc count ≤ n → AreAmong ((shelves_of next).holds n) ((shelves_of first).holds n)
+      untouched n le image held = o.rest n (omega arith) image (h.taken.leaves.others n (λ is. omega (arith, is, le)) image held)
 
-      were_empty : IsTrue rack_tells → IsTrue tells → (k : ℕ) → k < suc count → first.holds k []
+      untouched_disks : (n m : ℕ) → suc count ≤ n → n < most_shelves → IsOneOfThree n m → AreAmong (next.holds m) (first.holds m)
+      untouched_disks n m le below its image held =
+          o.disks n m (omega arith) below its image (h.taken.leaves.disks m (of_another count n m low below (λ is. omega (arith, is, le)) its) image held)
+
+      were_empty : IsTrue rack_tells → IsTrue tells → (k : ℕ) → k < suc count → MayBeBare first k
       were_empty rack_told told k lt =
           dite (ℕ_discrete k count)
-          (λ is. subst (λ n. first.holds n []) (sym is) (o.rest count (omega arith) [] (h.empty rack_told told).0))
+          (λ is. subst (MayBeBare first) (sym is) (bare_among now first count (λ m its. o.disks count m (omega arith) low its) (h.empty rack_told told).0))
           (λ other. o.empty rack_told told k (omega arith))
 
       are_first : IsTrue rack_tells → IsTrue tells → map (shelf_at view) (xs ++ x ∷ []) ≡ first_shelves (rules_at rules) scripts (suc count)
@@ -238,17 +245,17 @@ module _ {D : Type 0} (view : D → View) (rack_tells tells : Bool) (scripts : L
           ∙ ap (λ (ss : List runs.Shelf). ss ++ shelf_at view x ∷ []) (o.shelves rack_told told)
           ∙ ap (λ (s : runs.Shelf). first_shelves (rules_at rules) scripts count ++ s ∷ []) (h.empty rack_told told).1
 
-      kept : IsTrue rack_tells → IsTrue tells → AllKept scripts count (first.holds count) [] (view x.journal.disk).images
+      kept : IsTrue rack_tells → IsTrue tells → AllKept scripts count ((shelves_of first).holds count) [] (view x.journal.disk).images
       kept rack_told told =
-          all_kept_in scripts count (first.holds count) (now.holds count) [] (view x.journal.disk).images (view x.journal.disk).images
+          all_kept_in scripts count ((shelves_of first).holds count) ((shelves_of now).holds count) [] (view x.journal.disk).images (view x.journal.disk).images
           (o.rest count (omega arith)) (λ image h. h) (h.keeps rack_told told)
 
       last_kept : IsTrue rack_tells → IsTrue tells → (k : ℕ) (z : Shelf D Counting) → slice_get (xs ++ x ∷ []) k ≡ Some z → x ≡ z
-          → AllKept scripts k (first.holds k) [] (view z.journal.disk).images
+          → AllKept scripts k ((shelves_of first).holds k) [] (view z.journal.disk).images
       last_kept rack_told told k z e is =
           let at : count ≡ k = sym number ∙ (ap (λ (s : Shelf D Counting). s.rules.number) is ∙ all_numbers k z.rules.number (number_at (xs ++ x ∷ []) k z e)) in
-          subst (λ n. AllKept scripts n (first.holds n) [] (view z.journal.disk).images) at
-          (subst (λ (s : Shelf D Counting). AllKept scripts count (first.holds count) [] (view s.journal.disk).images) is (kept rack_told told))
+          subst (λ n. AllKept scripts n ((shelves_of first).holds n) [] (view z.journal.disk).images) at
+          (subst (λ (s : Shelf D Counting). AllKept scripts count ((shelves_of first).holds count) [] (view s.journal.disk).images) is (kept rack_told told))
 
       sum_is : faults_in view (xs ++ x ∷ []) ≡ faults_in view xs + (view x.journal.disk).faults
       sum_is =
@@ -257,11 +264,11 @@ module _ {D : Type 0} (view : D → View) (rack_tells tells : Bool) (scripts : L
           omega (arith, parts, last)
 
       -- no count fell
-      none_fell : StaysUp first.failed next.failed
+      none_fell : StaysUp (shelves_of first).failed (shelves_of next).failed
       none_fell n =
           dite (ℕ_discrete n count)
-          (λ is. subst (λ m. first.failed m ≤ next.failed m) (sym is) (let a = o.failed_later count in let b = h.taken.failed in omega (arith, a, b)))
-          (λ other. let a = o.failed_later n in let b = h.taken.others_failed n other in omega (arith, a, b))
+          (λ is. subst (λ m. (shelves_of first).failed m ≤ (shelves_of next).failed m) (sym is) (let a = o.failed_later count in let b = h.taken.leaves.failed in omega (arith, a, b)))
+          (λ other. let a = o.failed_later n in let b = h.taken.leaves.others_failed n other in omega (arith, a, b))
 
       all_later : first.faults ≤ total next.faults (faults_in view (xs ++ x ∷ []))
       all_later = (let beside = h.later (faults_in view xs) in omega (arith, o.later, beside, sum_is))
@@ -277,6 +284,7 @@ module _ {D : Type 0} (view : D → View) (rack_tells tells : Bool) (scripts : L
             ⊎_elim (λ was. o.keeps rack_told told k z was) (λ is. last_kept rack_told told k z e is) (in_push xs x k z e);
         home = taken_home;
         rest = untouched;
+        disks = untouched_disks;
         empty = were_empty;
         shelves = are_first;
         later = all_later;

@@ -7,6 +7,7 @@ use mathlib.Core.List.{IsPrefix}
 use native.Mathlib.Decide.{ℕ_discrete}
 use Rattle.web_outside.specs.declared.nonces.Counting.{Counting}
 use Rattle.web_disk.specs.View.{View, RackView, AreAmong}
+use Rattle.trio_rack.specs.Trios.{shelves_of}
 use Rattle.script_nodes.specs.Setup.{Named}
 use Rattle.replay_spec.specs.Runs as runs
 use Rattle.replay_spec.specs.Book.{Book}
@@ -56,11 +57,11 @@ own_front {D = D} xs all p own j k n a b = own j k n (there j a) (there k b)
         subst (λ (ys : List (Shelf D Counting)). slice_get (numbers_in ys) i ≡ Some n) p.1
         (subst (λ (ns : List ℕ). slice_get ns i ≡ Some n) (sym (map-append (λ s. s.rules.number) xs p.0)) (in_front (numbers_in xs) (numbers_in p.0) i n e))
 
--- its disk went home, and those of the others are out
+-- its disks went home, and those of the others are out
 pub home_last : {D : Type 0} (xs all : List (Shelf D Counting)) (x : Shelf D Counting) (old new : RackView) → IsPrefix (xs ++ x ∷ []) all
-    → HaveOwnNumbers all → IsHome (xs ++ x ∷ []) old.out → GivesOne x.rules.number old new → IsHome xs new.out
+    → HaveOwnNumbers all → IsHome (xs ++ x ∷ []) (shelves_of old).out → GivesOne x.rules.number old new → IsHome xs (shelves_of new).out
 home_last {D = D} xs all x old new p own home given =
-    subst (λ (ys : List (Shelf D Counting)). IsHome ys new.out) (out_last xs x)
+    subst (λ (ys : List (Shelf D Counting)). IsHome ys (shelves_of new).out) (out_last xs x)
     (home_out (xs ++ x ∷ []) (length xs) x old new (at_last xs x) (own_front (xs ++ x ∷ []) all p own) home given)
 
 -- the counts of the others stand beside it
@@ -70,28 +71,28 @@ stays_last {D = D} view xs x rack now stays =
     subst (λ (ys : List (Shelf D Counting)). total rack (faults_in view (xs ++ x ∷ [])) ≤ total now (faults_in view ys)) (out_last xs x)
     (stays_out view (xs ++ x ∷ []) (length xs) x rack now (at_last xs x) stays)
 
--- its disk and those that went home before hold what they held
+-- its disks and those that went home before hold what they held
 pub images_last : {D : Type 0} (view : D → View) (xs all : List (Shelf D Counting)) (x : Shelf D Counting) (old new : RackView)
     → IsPrefix (xs ++ x ∷ []) all → HaveOwnNumbers all → GivesOne x.rules.number old new
-    → AreAmong (new.holds x.rules.number) (view x.journal.disk).images
-    → ((k : ℕ) (s : Shelf D Counting) → suc (length xs) ≤ k → slice_get all k ≡ Some s → AreAmong (old.holds s.rules.number) (view s.journal.disk).images)
-    → (k : ℕ) (s : Shelf D Counting) → length xs ≤ k → slice_get all k ≡ Some s → AreAmong (new.holds s.rules.number) (view s.journal.disk).images
+    → AreAmong ((shelves_of new).holds x.rules.number) (view x.journal.disk).images
+    → ((k : ℕ) (s : Shelf D Counting) → suc (length xs) ≤ k → slice_get all k ≡ Some s → AreAmong ((shelves_of old).holds s.rules.number) (view s.journal.disk).images)
+    → (k : ℕ) (s : Shelf D Counting) → length xs ≤ k → slice_get all k ≡ Some s → AreAmong ((shelves_of new).holds s.rules.number) (view s.journal.disk).images
 images_last {D = D} view xs all x old new p own given held others k s le e =
     let here = at_front xs all x p in
     dite (ℕ_discrete k (length xs))
-    (λ same. subst (λ (z : Shelf D Counting). AreAmong (new.holds z.rules.number) (view z.journal.disk).images)
+    (λ same. subst (λ (z : Shelf D Counting). AreAmong ((shelves_of new).holds z.rules.number) (view z.journal.disk).images)
     (same_Some x s (sym here ∙ ap (slice_get all) (sym same) ∙ e)) held)
     (λ other.
     let apart : s.rules.number ≢ x.rules.number = λ is.
     other (own k (length xs) x.rules.number (number_at all k s e ∙ ap Some is) (number_at all (length xs) x here)) in
-    λ image h. others k s (omega arith) e image (given.others s.rules.number apart image h))
+    λ image h. others k s (omega arith) e image (given.leaves.others s.rules.number apart image h))
 
--- no count fell where one disk more went home
-pub fell_with : (first old new : RackView) (number : ℕ) → StaysUp first.failed old.failed → GivesOne number old new → StaysUp first.failed new.failed
+-- no count fell where the disks of one shelf more went home
+pub fell_with : (first old new : RackView) (number : ℕ) → StaysUp (shelves_of first).failed (shelves_of old).failed → GivesOne number old new → StaysUp (shelves_of first).failed (shelves_of new).failed
 fell_with first old new number before given n =
     dite (ℕ_discrete n number)
-    (λ is. subst (λ m. first.failed m ≤ new.failed m) (sym is) (let a = before number in let b = given.failed in omega (arith, a, b)))
-    (λ other. let a = before n in let b = given.others_failed n other in omega (arith, a, b))
+    (λ is. subst (λ m. (shelves_of first).failed m ≤ (shelves_of new).failed m) (sym is) (let a = before number in let b = given.leaves.failed in omega (arith, a, b)))
+    (λ other. let a = before n in let b = given.leaves.others_failed n other in omega (arith, a, b))
 
 -- ---- books
 
@@ -151,8 +152,8 @@ room_fewer rules scripts shelf held holds b reopen.Memory h among = tt
 -- the disks stand for the books where those of the other shelves went home behind it
 pub left_behind : {D : Type 0} (view : D → View) (tells : Bool) (scripts : List Named) (xs ys : List (Shelf D Counting)) (ts : List (Option Ticket)) (place : ℕ)
     (why : Reopen) (mid after : RackView) → IsTrue tells → AreFit view tells xs ts → AreOwn view tells xs ts → KeepsShelvesBut place xs ys
-    → LeavesLost view scripts xs place mid.holds → TellsItsRoom view scripts xs place mid.holds why → IsPutBack xs place mid.out → IsHome ys mid.out
-    → HoldImages view ys after.holds → LeaveOthers ys mid after → AreHome after.out → IsLeft after (desk_with view scripts xs ts) place why
+    → LeavesLost view scripts xs place (shelves_of mid).holds → TellsItsRoom view scripts xs place (shelves_of mid).holds why → IsPutBack xs place (shelves_of mid).out → IsHome ys (shelves_of mid).out
+    → HoldImages view ys (shelves_of after).holds → LeaveOthers ys mid after → AreHome (shelves_of after).out → IsLeft after (desk_with view scripts xs ts) place why
 left_behind {D = D} view tells scripts xs ys ts place why mid after told fit own kept lost room back home images others all_home = record {
   home = all_home;
   others = λ k s e other.
@@ -160,39 +161,39 @@ left_behind {D = D} view tells scripts xs ys ts place why mid after told fit own
       let there = kept k x.0 other x.1 in
       let number = (fit.in_order k x.0 x.1).number in
       let b = book_in view x.0 in
-      let stands = holds_book (rules_of x.0.rules) (view x.0.journal.disk) x.0.rules.number b (after.holds x.0.rules.number)
+      let stands = holds_book (rules_of x.0.rules) (view x.0.journal.disk) x.0.rules.number b ((shelves_of after).holds x.0.rules.number)
       ((own.own k x.0 x.1).own told) (images there.0 x.0 there.1) in
-      subst (λ (z : runs.Shelf). HoldsTheBook z.rules z.book.shelf (after.holds z.book.shelf) z.book) x.2
-      (subst (λ n. HoldsTheBook (rules_of x.0.rules) n (after.holds n) b) (sym number) stands);
+      subst (λ (z : runs.Shelf). HoldsTheBook z.rules z.book.shelf ((shelves_of after).holds z.book.shelf) z.book) x.2
+      (subst (λ n. HoldsTheBook (rules_of x.0.rules) n ((shelves_of after).holds n) b) (sym number) stands);
   lost = λ s e.
       let x = from_mapped (shelf_at view) xs place s e in
       let n = x.0.rules.number in
       let number = (fit.in_order place x.0 x.1).number in
       let b = book_in view x.0 in
-      let fewer : AreAmong (after.holds n) (mid.holds n) = others n (λ k is. absurd (let no : true ≡ false = sym (home.ours k n is) ∙ back x.0 x.1 in cc)) in
-      let stands = lost_fewer (rules_of x.0.rules) scripts n (mid.holds n) (after.holds n) b (lost x.0 x.1) fewer in
-      subst (λ (z : runs.Shelf). StandsLost z.rules scripts z.book.shelf (after.holds z.book.shelf) z.book) x.2
-      (subst (λ m. StandsLost (rules_of x.0.rules) scripts m (after.holds m) b) (sym number) stands);
+      let fewer : AreAmong ((shelves_of after).holds n) ((shelves_of mid).holds n) = others n (λ k is. absurd (let no : true ≡ false = sym (home.ours k n is) ∙ back x.0 x.1 in cc)) in
+      let stands = lost_fewer (rules_of x.0.rules) scripts n ((shelves_of mid).holds n) ((shelves_of after).holds n) b (lost x.0 x.1) fewer in
+      subst (λ (z : runs.Shelf). StandsLost z.rules scripts z.book.shelf ((shelves_of after).holds z.book.shelf) z.book) x.2
+      (subst (λ m. StandsLost (rules_of x.0.rules) scripts m ((shelves_of after).holds m) b) (sym number) stands);
   room = λ s e.
       let x = from_mapped (shelf_at view) xs place s e in
       let n = x.0.rules.number in
       let number = (fit.in_order place x.0 x.1).number in
       let b = book_in view x.0 in
-      let fewer : AreAmong (after.holds n) (mid.holds n) = others n (λ k is. absurd (let no : true ≡ false = sym (home.ours k n is) ∙ back x.0 x.1 in cc)) in
-      let tells = room_fewer (rules_of x.0.rules) scripts n (mid.holds n) (after.holds n) b why (room x.0 x.1) fewer in
-      subst (λ (z : runs.Shelf). TellsRoom z.rules scripts z.book.shelf (after.holds z.book.shelf) z.book why) x.2
-      (subst (λ m. TellsRoom (rules_of x.0.rules) scripts m (after.holds m) b why) (sym number) tells);
+      let fewer : AreAmong ((shelves_of after).holds n) ((shelves_of mid).holds n) = others n (λ k is. absurd (let no : true ≡ false = sym (home.ours k n is) ∙ back x.0 x.1 in cc)) in
+      let tells = room_fewer (rules_of x.0.rules) scripts n ((shelves_of mid).holds n) ((shelves_of after).holds n) b why (room x.0 x.1) fewer in
+      subst (λ (z : runs.Shelf). TellsRoom z.rules scripts z.book.shelf ((shelves_of after).holds z.book.shelf) z.book why) x.2
+      (subst (λ m. TellsRoom (rules_of x.0.rules) scripts m ((shelves_of after).holds m) b why) (sym number) tells);
 }
 
 -- and where what was left there went home
-pub left_home : {D : Type 0} (xs : List (Shelf D Counting)) (mid after : RackView) (d : Desk) (shelf : ℕ) (why : Reopen) → IsHome xs mid.out
-    → LeaveOthers xs mid after → AreHome after.out → IsLeft mid d shelf why → IsLeft after d shelf why
+pub left_home : {D : Type 0} (xs : List (Shelf D Counting)) (mid after : RackView) (d : Desk) (shelf : ℕ) (why : Reopen) → IsHome xs (shelves_of mid).out
+    → LeaveOthers xs mid after → AreHome (shelves_of after).out → IsLeft mid d shelf why → IsLeft after d shelf why
 left_home xs mid after d shelf why home others back left = record {
   home = back;
-  others = λ k s e other. book_fewer s.rules s.book.shelf (mid.holds s.book.shelf) (after.holds s.book.shelf) s.book (left.others k s e other) (fewer s.book.shelf);
-  lost = λ s e. lost_fewer s.rules d.scripts s.book.shelf (mid.holds s.book.shelf) (after.holds s.book.shelf) s.book (left.lost s e) (fewer s.book.shelf);
-  room = λ s e. room_fewer s.rules d.scripts s.book.shelf (mid.holds s.book.shelf) (after.holds s.book.shelf) s.book why (left.room s e) (fewer s.book.shelf);
+  others = λ k s e other. book_fewer s.rules s.book.shelf ((shelves_of mid).holds s.book.shelf) ((shelves_of after).holds s.book.shelf) s.book (left.others k s e other) (fewer s.book.shelf);
+  lost = λ s e. lost_fewer s.rules d.scripts s.book.shelf ((shelves_of mid).holds s.book.shelf) ((shelves_of after).holds s.book.shelf) s.book (left.lost s e) (fewer s.book.shelf);
+  room = λ s e. room_fewer s.rules d.scripts s.book.shelf ((shelves_of mid).holds s.book.shelf) ((shelves_of after).holds s.book.shelf) s.book why (left.room s e) (fewer s.book.shelf);
 }
   where
-    fewer : (n : ℕ) → AreAmong (after.holds n) (mid.holds n)
+    fewer : (n : ℕ) → AreAmong ((shelves_of after).holds n) ((shelves_of mid).holds n)
     fewer n = others n (λ k is. absurd (let no : true ≡ false = sym (home.ours k n is) ∙ left.home n in cc))

@@ -7,18 +7,18 @@ use Rattle.std.proofs.lemmas.Option.{slice_get_within}
 use Rattle.script_value.specs.Val.{Val}
 use Rattle.page_names.specs.Names.{Destination, destination_of}
 use Rattle.replay_spec.specs.Next.{Ticket}
-use Rattle.replay_spec.specs.Step.{take, publish, sweep, crash, step, Fate, Reply, taken, swept, live}
+use Rattle.replay_spec.specs.Step.{take, publish, sweep, compact, crash, step, Fate, Reply, taken, swept, compacted, live}
 use Rattle.replay_spec.specs.Runs.{Shelf}
 use Rattle.replay_spec.proofs.Numbers.{crashed_out}
 use Rattle.replay_spec.proofs.Refused.{unchanged}
 use Rattle.play_desk.specs.Target.{answer_to, path_and_query, shelf_for}
 use Rattle.play_desk.specs.Desk as desk
-use Rattle.play_desk.specs.Desk.{Desk, counting, happening, told, desk_take, desk_publish, desk_sweep, desk_crash, taken_by, swept_by, crashed_by, without_shelf}
+use Rattle.play_desk.specs.Desk.{Desk, counting, happening, told, desk_take, desk_publish, desk_sweep, desk_compact, desk_crash, taken_by, swept_by, compacted_by, crashed_by, without_shelf}
 use Rattle.play_steps.specs.Rules.{Call, answered, event}
-use Rattle.play_desk.specs.Ledger.{Entry, Ledger, ledger_of, entered, first_reply, holding, taken_in, take_on, take_at, ledger_take, publish_on, publish_held, ledger_publish, swept_in, ledger_sweep, crashed_in, ledger_crash}
+use Rattle.play_desk.specs.Ledger.{Entry, Ledger, ledger_of, entered, first_reply, holding, taken_in, take_on, take_at, ledger_take, publish_on, publish_held, ledger_publish, swept_in, ledger_sweep, compacted_in, ledger_compact, crashed_in, ledger_crash}
 use Rattle.play_desk.specs.Laws.{AreRuns, AreLawfulRuns}
 use Rattle.play_desk.proofs.ShelfRuns.{entry_of, one_run, one_lawful}
-use Rattle.play_desk.proofs.Held.{AreOut, take_orderly, publish_orderly, publish_lawful, sweep_orderly, crash_orderly}
+use Rattle.play_desk.proofs.Held.{AreOut, take_orderly, publish_orderly, publish_lawful, sweep_orderly, compact_orderly, crash_orderly}
 
 -- a desk's event answers as the ledger's, given these replies, which enters these events
 pub record EntersOne {X : Type 0} (d : Desk) (x : X × Desk) (over : Ledger → X × Ledger) : Type 0 where
@@ -186,6 +186,47 @@ sweep_on_enters d k tick (Some s) here =
 
 pub sweep_enters : (d : Desk) (k tick : ℕ) → Enters d (desk_sweep d k tick) (λ l. ledger_sweep l k tick)
 sweep_enters d k tick = sweep_on_enters d k tick (slice_get d.shelves k) refl
+
+compacted_same : (d : Desk) (k : ℕ) (s : Shelf) (r : Reply) (later : List Reply) (entries : List Entry)
+    → compacted_in (ledger_of d later entries) r ≡ (let x = compacted_by d k (r, s) in (x.0, ledger_of x.1 later entries))
+compacted_same d k s (compacted length) later entries = rw (length-set d.shelves k s) refl
+compacted_same d k s r later entries = rw (length-set d.shelves k s) refl
+
+compacted_shelves : (d : Desk) (k : ℕ) (s : Shelf) (r : Reply) → (compacted_by d k (r, s)).1.shelves ≡ slice_set d.shelves k s
+compacted_shelves d k s (compacted length) = refl
+compacted_shelves d k s r = refl
+
+compacted_kept : (d : Desk) (k : ℕ) (s : Shelf) (r : Reply)
+    → ◌≡◌ {A = List Shelf × List (Option Ticket)} (slice_set d.shelves k s, d.held) (let x = compacted_by d k (r, s) in (x.1.shelves, x.1.held))
+compacted_kept d k s (compacted length) = refl
+compacted_kept d k s r = refl
+
+compact_on_enters : (d : Desk) (k : ℕ) (o : Option Shelf) → slice_get d.shelves k ≡ o
+    → Enters d (desk.compact_on d k o) (λ l. ledger_compact l k)
+compact_on_enters d k None here = let test = not_there d.shelves k here in λ later before. rw test refl
+compact_on_enters d k (Some s) here =
+    let test = is_there d.shelves k s here in
+    record {
+      over_by = λ l fate. compacted_in (entered l k compact fate) (first_reply l.replies);
+      same = λ later before. rw test refl;
+      one = λ fate.
+          let x = happening s compact fate in
+          record {
+            replies = x.0 ∷ [];
+            entries = entry_of k s compact fate ∷ [];
+            is = λ later before. compacted_same d k x.1 x.0 later (before ++ entry_of k s compact fate ∷ []);
+            all = refl;
+            runs = subst (AreRuns (entry_of k s compact fate ∷ []) d.shelves) (sym (compacted_shelves d k x.1 x.0))
+                (one_run d.shelves k s compact fate here);
+            lawful = λ n o. (
+              one_lawful d.shelves k s compact fate x.0 here tt,
+              subst (λ (p : List Shelf × List (Option Ticket)). AreOut n p.0 p.1) (compacted_kept d k x.1 x.0) (compact_orderly n d k fate s here o),
+            );
+          };
+    }
+
+pub compact_enters : (d : Desk) (k : ℕ) → Enters d (desk_compact d k) (λ l. ledger_compact l k)
+compact_enters d k = compact_on_enters d k (slice_get d.shelves k) refl
 
 crashed_same : (d : Desk) (k : ℕ) (s : Shelf) (r : Reply) (later : List Reply) (entries : List Entry)
     → crashed_in (ledger_of d later entries) k r ≡ (let x = crashed_by d k (r, s) in (x.0, ledger_of x.1 later entries))

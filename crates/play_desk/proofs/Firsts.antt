@@ -1,5 +1,5 @@
 -- A setup that is read can be told, and an empty journal has room for it.
-use Rattle.std.proofs.Common.{◌≡◌, ◌∙◌, ap, sym, subst, refl, ℕ, ◌+◌, ◌*◌, ◌^◌, ◌<◌, ◌≤◌, suc, List, [], ◌∷◌, length, drop, length-append, Err, arith}
+use Rattle.std.proofs.Common.{◌≡◌, ◌∙◌, ap, sym, subst, refl, inl, inr, ℕ, ◌+◌, ◌*◌, ◌^◌, ◌<◌, ◌≤◌, suc, List, [], ◌∷◌, length, drop, length-append, Err, arith}
 use Rattle.std.specs.Prelude.{flat_map}
 use Rattle.std.specs.List.{AllByRecursion}
 use Rattle.std.proofs.lemmas.List.{length-map}
@@ -11,15 +11,17 @@ use Rattle.setup_reader.proofs.Edited.{read_short, sound}
 use Rattle.journal_records.specs.Fields.{ScriptFits, script_bytes}
 use Rattle.journal_records.specs.Records.{IsInGrammar, begin_of}
 use Rattle.journal_spec.specs.Before.{Made}
-use Rattle.journal_spec.specs.Making.{nothing, damaged, other, began, book_in_bytes}
+use Rattle.journal_spec.specs.Making.{nothing, damaged, other, began}
+use Rattle.journal_spec.specs.Bytes.{book_in_bytes}
 use Rattle.journal_spec.specs.Opening.{first_body}
 use Rattle.shelf.specs.Faults.{IsTooLong}
-use Rattle.shelf.specs.Opening.{IsFaultOf}
+use Rattle.shelf.specs.Opening.{IsFaultOf, IsTooLongIn}
 use Rattle.shelf.specs.declared.begin.BeginFault.{BeginFault}
 use Rattle.shelf.specs.declared.begin.BeginFault.TheVariants as begin
 use Rattle.shelf.specs.declared.rules.Rules.{Rules}
 use Rattle.web_disk.specs.View.{View}
 use Rattle.play_desk.specs.Opening.{BeginsEmpty, reopen_of}
+use Rattle.play_desk.proofs.Now.{never_anew}
 
 texts_fit : (scripts : List Named) → AreShort scripts → AllByRecursion ScriptFits (texts_of scripts)
 texts_fit [] short = tt
@@ -61,6 +63,11 @@ has_room number scripts len read long =
     let is : 14 + n + 0 ≡ long.made.book.length = ap (λ (m : Made). m.book.length) (same_Some (began number n scripts) long.made long.opened) in
     omega (arith, size, is, long.is, long.long)
 
+-- nor is it too long by itself
+never_full : (number : ℕ) (scripts : List Named) (len : ℕ) → IsReadSetup scripts → IsTooLongIn scripts number [] len → ⊥
+never_full number scripts len read (inl long) = never_anew number len [] (λ some. absurd (some refl)) long
+never_full number scripts len read (inr long) = has_room number scripts len read long.setup
+
 -- on a disk without bytes an empty shelf is begun, unless the outside fails
 pub begins_empty : {D : Type 0} (view : D → View) (scripts : List Named) (rules : Rules) (v : View) (e : BeginFault) → v.seen ≡ [] → IsReadSetup scripts
     → IsFaultOf scripts rules.number v e → BeginsEmpty view scripts rules (Err (reopen_of e))
@@ -69,7 +76,6 @@ begins_empty view scripts rules v (begin.Damaged place) none read is =
 begins_empty view scripts rules v (begin.Other place) none read is =
     absurd (let no : nothing ≡ other place = sym (ap (book_in_bytes setup_of_texts rules.number) none) ∙ is in let never : ⊥ = cc in never)
 begins_empty view scripts rules v (begin.Full len) none read is =
-    has_room rules.number scripts len read
-    (subst (λ (bytes : List ℕ). IsTooLong scripts rules.number (book_in_bytes setup_of_texts rules.number bytes) len) none is)
+    never_full rules.number scripts len read (subst (λ (bytes : List ℕ). IsTooLongIn scripts rules.number bytes len) none is)
 begins_empty view scripts rules v begin.DiskFault none read is = tt
 begins_empty view scripts rules v begin.Memory none read is = tt

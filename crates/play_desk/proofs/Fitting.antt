@@ -1,25 +1,26 @@
 -- Shelves and their workers' tickets stay fit with each event.
-use Rattle.std.proofs.Common.{◌≡◌, ◌≢◌, ◌⊎◌, inl, inr, ◌∙◌, ap, sym, subst, ℕ, Bool, List, [], ◌∷◌, ◌++◌, length, slice_get, slice_set, option_map, Option, Some, None, Contains, Result, arith}
+use Rattle.std.proofs.Common.{◌≡◌, ◌≢◌, ◌≤◌, ◌⊎◌, inl, inr, ◌∙◌, ap, sym, subst, ℕ, Bool, List, [], ◌∷◌, ◌++◌, length, slice_get, slice_set, option_map, Option, Some, None, Contains, Result, arith}
 use Rattle.std.proofs.lemmas.Bool.{cases_eq}
-use Rattle.std.proofs.lemmas.List.{length-set, map-set}
+use Rattle.std.proofs.lemmas.List.{length-map, length-set, map-set}
 use Rattle.std.proofs.lemmas.List.Elements.{Contains-append_left, Contains-push}
 use Rattle.std.proofs.lemmas.Option.{slice_get-map, slice_get_within}
+use Rattle.server_limits.specs.Limits.{most_shelves}
 use Rattle.script_value.specs.declared.outcome.Reply.{Reply}
 use Rattle.web_disk.specs.View.{View}
 use Rattle.web_outside.specs.declared.nonces.Counting.{Counting}
 use Rattle.script_nodes.specs.Views.{library_of}
 use Rattle.script_nodes.specs.declared.library.Library.{Library}
 use Rattle.replay_spec.specs.Book.{Book, draw, spend}
-use Rattle.replay_spec.specs.Step.{sweep}
+use Rattle.replay_spec.specs.Step.{compact, sweep}
 use Rattle.replay_spec.proofs.Stand.{among_of}
 use Rattle.shelf.specs.Visits.{IsRunnable, Ticket}
 use Rattle.shelf.specs.declared.shelf.Shelf.{Shelf}
-use Rattle.shelf.specs.Views.{book_in, library_in, swept_of, HasTargetScript, IsInOrder}
+use Rattle.shelf.specs.Views.{book_in, compacted_of, library_in, swept_of, HasTargetScript, IsInOrder}
 use Rattle.shelf.specs.Tickets.{GoesOnFromItsPage, KeepsTickets}
 use Rattle.shelf.specs.declared.rules.Rules.{Rules}
-use Rattle.play_desk.specs.Staff.{IsUnspent, HoldsAt, OfEachTicket, AreFit, AreNumbered, HaveOwnNumbers, KeepsOthers, numbers_in, place_of}
+use Rattle.play_desk.specs.Staff.{IsUnspent, HoldsAt, OfEachTicket, AreFit, AreLow, AreNumbered, HaveOwnNumbers, KeepsOthers, numbers_in, place_of}
 use Rattle.play_desk.proofs.Places.{at_set, get_other, get_set, same_set, same_Some}
-use Rattle.play_desk.proofs.Kept.{swept}
+use Rattle.play_desk.proofs.Kept.{compacted, swept}
 use Rattle.play_desk.proofs.Open.{still_out}
 use Rattle.play_desk.proofs.Happening.{Happens, moment_of, then_is}
 
@@ -38,6 +39,11 @@ numbers_set xs k x y here same =
 -- the place of a number is its own
 pub own_numbers : {D : Type 0} (xs : List (Shelf D Counting)) → AreNumbered xs → HaveOwnNumbers xs
 own_numbers xs are j k n a b = sym (are j n a) ∙ are k n b
+
+-- numbers that are places are low ones, of few shelves
+pub low_numbers : {D : Type 0} (xs : List (Shelf D Counting)) → AreNumbered xs → length xs ≤ most_shelves → AreLow xs
+low_numbers xs are few k n e =
+    let within = slice_get_within (numbers_in xs) k n e in omega (arith, within, are k n e, few, length-map xs (λ s. s.rules.number))
 
 -- what is held where a worker hands in its ticket was held, by another worker
 pub left_held : (ts : List (Option Ticket)) (worker w : ℕ) (u : Ticket) → slice_get (slice_set ts worker None) w ≡ Some (Some u)
@@ -118,6 +124,22 @@ fit_sweep view tells xs ts k x y tick r fit here h in_order rules library keeps 
     let m = moment_of view x (sweep tick) (swept_of r) in
     let is = then_is view x y (sweep tick) (swept_of r) h in
     let out : c.out ≡ b.out = ap (λ (d : Book). d.out) (sym is) ∙ (swept m.rules b m.nonce tick m.fate).out in
+    fit_with view tells xs ts ts k x y fit here in_order rules fit.count
+    (λ w t held place.
+    let o = of_held (IsUnspent view) xs ts k w x t fit.unspent here held place in
+    still_unspent view x y t library keeps (subst (λ (ns : List ℕ). Contains ns t.number) (sym out) o.out) o)
+    (λ w t held other. held) fit.apart
+
+pub fit_compact : {D : Type 0} (view : D → View) (tells : Bool) (xs : List (Shelf D Counting)) (ts : List (Option Ticket))
+    (k : ℕ) (x y : Shelf D Counting) (r : Result ℕ Reply) → AreFit view tells xs ts → slice_get xs k ≡ Some x
+    → Happens view x y compact (compacted_of r) → IsInOrder view tells y → y.rules ≡ x.rules → y.library ≡ x.library → KeepsTickets view x y
+    → AreFit view tells (slice_set xs k y) ts
+fit_compact view tells xs ts k x y r fit here h in_order rules library keeps =
+    let b = book_in view x in
+    let c = book_in view y in
+    let m = moment_of view x compact (compacted_of r) in
+    let is = then_is view x y compact (compacted_of r) h in
+    let out : c.out ≡ b.out = ap (λ (d : Book). d.out) (sym is) ∙ (compacted m.rules b m.nonce m.fate).out in
     fit_with view tells xs ts ts k x y fit here in_order rules fit.count
     (λ w t held place.
     let o = of_held (IsUnspent view) xs ts k w x t fit.unspent here held place in

@@ -7,14 +7,14 @@ use Rattle.script_nodes.specs.Setup.{Named}
 use Rattle.replay_spec.specs.Book.{Book, draw}
 use Rattle.replay_spec.specs.Rules.{Rules}
 use Rattle.replay_spec.specs.Next.{Ticket}
-use Rattle.replay_spec.specs.Step.{publish, sweep, Fate, Reply, taken}
+use Rattle.replay_spec.specs.Step.{publish, sweep, compact, Fate, Reply, taken}
 use Rattle.replay_spec.specs.Runs.{Shelf, empty_shelf}
 use Rattle.replay_spec.specs.Invariant.{Among}
 use Rattle.replay_spec.specs.Laws.{Takes, IsLawful}
 use Rattle.replay_spec.proofs.Stand.{among_drawn, among_spent}
 use Rattle.play_desk.specs.Target.{shelf_for}
 use Rattle.play_desk.specs.Desk.{Desk, counting, happening, first_desk, first_shelves, taken_by, without_shelf}
-use Rattle.play_desk.proofs.Kept.{published, swept, of_among, among_other}
+use Rattle.play_desk.proofs.Kept.{compacted, published, swept, of_among, among_other}
 use Rattle.play_desk.proofs.Places.{at_set, in_push, none_there, not_same, same_Some}
 
 -- The numbers that are out were drawn. What workers hold is out on its shelf, and of one shelf they hold different numbers.
@@ -186,6 +186,12 @@ pub sweep_orderly : (n : ℕ) (d : Desk) (k tick : ℕ) (fate : Fate) (s : Shelf
 sweep_orderly n d k tick fate s here o =
     let kept = swept s.rules s.book (counting s.nonces) tick fate in
     orderly_same n d.shelves d.held k s (happening s (sweep tick) fate).1 here kept.out kept.drawn o
+
+pub compact_orderly : (n : ℕ) (d : Desk) (k : ℕ) (fate : Fate) (s : Shelf) → slice_get d.shelves k ≡ Some s → AreOut n d.shelves d.held
+    → AreOut n (slice_set d.shelves k (happening s compact fate).1) d.held
+compact_orderly n d k fate s here o =
+    let kept = compacted s.rules s.book (counting s.nonces) fate in
+    orderly_same n d.shelves d.held k s (happening s compact fate).1 here kept.out kept.drawn o
 
 -- a publish of what a worker holds
 pub publish_lawful : (n : ℕ) (d : Desk) (k worker : ℕ) (t : Ticket) (s : Shelf) → slice_get d.shelves k ≡ Some s → k ≡ shelf_for n worker t.target

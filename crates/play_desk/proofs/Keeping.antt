@@ -2,28 +2,34 @@
 use Rattle.std.proofs.Common.{◌≡◌, ◌≢◌, ◌∙◌, ap, inl, inr, refl, subst, ℕ, List, [], append-nil, Err}
 use Rattle.web_disk.specs.View.{View, AreAmong}
 use Rattle.script_nodes.specs.Setup.{Named}
-use Rattle.page_journal.specs.Records.{at_rest, stored}
-use Rattle.shelf.specs.Opening.{KeepsRecords, making_on, opening_bodies}
+use Rattle.page_journal.specs.Records.{at_rest}
+use Rattle.shelf.specs.Opening.{HoldsAsRead, KeepsRecords, bodies_after, making_after, opening_bodies}
 use Rattle.shelf.specs.declared.begin.BeginFault.{BeginFault}
 use Rattle.shelf.specs.declared.begin.BeginFault.TheVariants as begin
 use Rattle.play_steps.specs.declared.stage.Reopen.{Reopen}
 use Rattle.play_steps.specs.declared.stage.Reopen.TheVariants as reopen
-use Rattle.play_desk.specs.Opening.{AllKept, IsKept, KeepsBegun, KeepsOpened, cause_of, reopen_of}
+use Rattle.play_desk.specs.Opening.{AllKept, IsKept, IsReadAtRest, KeepsBegun, KeepsOpened, cause_of, reopen_of}
 use Rattle.play_desk.specs.declared.opening.OpenCause.{OpenCause}
 use Rattle.play_desk.specs.declared.opening.OpenCause.TheVariants as cause
 
+-- what may be left of a disk that holds the records that were read of it
+as_read : (old new : View) → HoldsAsRead old new → (left : List ℕ) → new.images left → IsReadAtRest old.seen left
+as_read old new (f, (told, (seen, only))) left is = (f, told, only left is ∙ seen)
+
 -- a disk on which nothing was lost, and what may be left of it where a shelf was opened
 pub is_kept : (scripts : List Named) (k : ℕ) (old new : View) (held : List ℕ → Type 0) → old.images old.seen → AreAmong old.images held
-    → KeepsRecords (opening_bodies scripts k (making_on k old)) old new → AllKept scripts k held old.seen new.images
+    → KeepsRecords k (opening_bodies scripts k (making_after k old)) old new → AllKept scripts k held old.seen new.images
 is_kept scripts k old new held reads among (inl u) left is = inl (among left (u.1.1 left is))
-is_kept scripts k old new held reads among (inr (intact, h)) left is = inr (among old.seen reads, intact, inr (h.1 left is ∙ h.0))
+is_kept scripts k old new held reads among (inr (intact, inl h)) left is = inr (among old.seen reads, intact, inr (inr (h.1 left is ∙ h.0)))
+is_kept scripts k old new held reads among (inr (intact, inr (none, h))) left is = inr (among old.seen reads, intact, inl (as_read old new h left is))
 
 -- and where none was
 pub kept_unopened : (scripts : List Named) (k : ℕ) (old new : View) (held : List ℕ → Type 0) → old.images old.seen → AreAmong old.images held
-    → KeepsRecords [] old new → AllKept scripts k held old.seen new.images
+    → KeepsRecords k [] old new → AllKept scripts k held old.seen new.images
 kept_unopened scripts k old new held reads among (inl u) left is = inl (among left (u.1.1 left is))
-kept_unopened scripts k old new held reads among (inr (intact, h)) left is =
-    inr (among old.seen reads, intact, inl (h.1 left is ∙ h.0 ∙ ap at_rest (append-nil (stored old.seen))))
+kept_unopened scripts k old new held reads among (inr (intact, inl h)) left is =
+    inr (among old.seen reads, intact, inr (inl (h.1 left is ∙ h.0 ∙ ap at_rest (append-nil (bodies_after k old.seen)))))
+kept_unopened scripts k old new held reads among (inr (intact, inr (none, h))) left is = inr (among old.seen reads, intact, inl (as_read old new h left is))
 
 -- what might be held of a disk that was taken might be held before
 kept_in : (scripts : List Named) (k : ℕ) (held were : List ℕ → Type 0) (read left : List ℕ) → AreAmong were held → IsKept scripts k were read left
@@ -41,7 +47,7 @@ untouched scripts k held holds read among left is = inl (among left is)
 
 -- a disk that was given back, as no shelf was begun on it
 pub not_begun : {D : Type 0} (view : D → View) (scripts : List Named) (k : ℕ) (old new : View) (holds : ℕ → List ℕ → Type 0) (fault : BeginFault)
-    → old.images old.seen → (fault ≢ begin.DiskFault → KeepsRecords [] old new) → AreAmong (holds k) new.images
+    → old.images old.seen → (fault ≢ begin.DiskFault → KeepsRecords k [] old new) → AreAmong (holds k) new.images
     → KeepsBegun view scripts k old holds (Err (reopen_of fault))
 not_begun view scripts k old new holds begin.DiskFault reads keeps among = tt
 not_begun view scripts k old new holds (begin.Damaged place) reads keeps among =

@@ -6,7 +6,7 @@ use Rattle.std.proofs.lemmas.List.Elements.{Contains-append_left, Contains-appen
 use Rattle.replay_spec.specs.Book.{Book, spend}
 use Rattle.replay_spec.specs.Rules.{Rules}
 use Rattle.replay_spec.specs.Next as next
-use Rattle.replay_spec.specs.Step.{publish, sweep, Fate, Decision, settle, fate_of, publish_comes, sweep_comes, step}
+use Rattle.replay_spec.specs.Step.{publish, sweep, compact, Fate, Decision, settle, fate_of, publish_comes, sweep_comes, compact_comes, step}
 use Rattle.replay_spec.specs.Step as spec
 use Rattle.replay_spec.specs.Invariant.{Among}
 use Rattle.replay_spec.proofs.Numbers.{settled_drawn, settled_out}
@@ -37,6 +37,10 @@ late_or rules b tick fate false = settled rules b fate (sweep_comes rules b tick
 pub swept : (rules : Rules) (b : Book) (nonce tick : ℕ) (fate : Fate) → Keeps b (step rules b nonce (sweep tick) fate).1 b.out
 unfolding step
 swept rules b nonce tick fate = late_or rules b tick (fate_of rules.journal fate) (nat_le tick b.clock)
+
+pub compacted : (rules : Rules) (b : Book) (nonce : ℕ) (fate : Fate) → Keeps b (step rules b nonce compact fate).1 b.out
+unfolding step
+compacted rules b nonce fate = settled rules b (fate_of rules.journal fate) (compact_comes rules b)
 
 -- numbers that are out stay so but for one that is spent
 pub of_among : (ms : List ℕ) (n : ℕ) → Among n ms → Contains ms n

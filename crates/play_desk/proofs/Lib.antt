@@ -10,6 +10,8 @@ pub mod Happening
 pub mod Fitting
 pub mod Stepping
 pub mod Counting
+pub mod Short
+pub mod Now
 pub mod Firsts
 pub mod Edited
 pub mod Losing

@@ -6,6 +6,7 @@ use Rattle.play_desk.proofs.Stepping.{crashes, is_event, shelf_there}
 use Rattle.web_outside.specs.Causes.{Rose}
 use Rattle.web_outside.specs.declared.nonces.Counting.{Counting}
 use Rattle.web_disk.specs.View.{View, RackView}
+use Rattle.trio_rack.specs.Trios.{shelves_of}
 use Rattle.script_nodes.specs.Setup.{Named}
 use Rattle.web_outside.specs.Counted.{counted}
 use Rattle.replay_spec.specs.Book.{Book}
@@ -23,7 +24,7 @@ use Rattle.play_steps.specs.Rules.{Comes}
 use Rattle.play_desk.specs.Desk.{Desk, counting, crashed_by, desk_crash, happening, is_fault, without_shelf}
 use Rattle.shelf.specs.declared.shelf.Shelf.{Shelf}
 use Rattle.play_desk.specs.Opening.{CountRose, CountStays, GivesOne, HasCrashed, TakesOne}
-use Rattle.play_desk.specs.Staff.{AreFit, HaveOwnNumbers, IsHome, desk_with, faults_in, numbers_in, shelf_at, total}
+use Rattle.play_desk.specs.Staff.{AreFit, AreLow, HaveOwnNumbers, IsHome, desk_with, faults_in, numbers_in, shelf_at, total}
 use Rattle.play_desk.proofs.Places.{none_there, same_Some}
 use Rattle.play_desk.proofs.Fitting.{number_at, numbers_set}
 use Rattle.play_desk.proofs.Counting.{faults_set}
@@ -55,42 +56,46 @@ pub own_numbers_out : {D : Type 0} (xs : List (Shelf D Counting)) (k : ℕ) → 
 own_numbers_out xs k own i j n a b =
     skip_apart k i j (own (skip k i) (skip k j) n (sym (numbers_out xs k i) ∙ a) (sym (numbers_out xs k j) ∙ b))
 
--- the disk of the shelf went home, and those of the others are out
+-- and low ones
+pub low_out : {D : Type 0} (xs : List (Shelf D Counting)) (k : ℕ) → AreLow xs → AreLow (out_of xs k)
+low_out xs k low j n e = low (skip k j) n (sym (numbers_out xs k j) ∙ e)
+
+-- the disks of the shelf went home, and those of the others are out
 pub home_out : {D : Type 0} (xs : List (Shelf D Counting)) (k : ℕ) (x : Shelf D Counting) (old new : RackView) → slice_get xs k ≡ Some x
-    → HaveOwnNumbers xs → IsHome xs old.out → GivesOne x.rules.number old new → IsHome (out_of xs k) new.out
+    → HaveOwnNumbers xs → IsHome xs (shelves_of old).out → GivesOne x.rules.number old new → IsHome (out_of xs k) (shelves_of new).out
 home_out xs k x old new here own home given = record {
   ours = λ j n e.
       let was = sym (numbers_out xs k j) ∙ e in
       let other : n ≢ x.rules.number = λ same.
       skip_not k j (own (skip k j) k n was (number_at xs k x here ∙ ap Some (sym same))) in
-      given.others_out n other ∙ home.ours (skip k j) n was;
+      given.leaves.others_out n other ∙ home.ours (skip k j) n was;
   only = λ n out.
       let other : n ≢ x.rules.number = λ same.
-      (let no = sym out ∙ ap new.out same ∙ given.home in let never : ⊥ = cc in never) in
-      let was = home.only n (sym (given.others_out n other) ∙ out) in
+      (let no = sym out ∙ ap (shelves_of new).out same ∙ given.home in let never : ⊥ = cc in never) in
+      let was = home.only n (sym (given.leaves.others_out n other) ∙ out) in
       let elsewhere : was.0 ≢ k = λ same. other (same_Some n x.rules.number (sym was.1 ∙ ap (slice_get (numbers_in xs)) same ∙ number_at xs k x here)) in
       let there = still_in (numbers_in xs) k was.0 n elsewhere was.1 in
       (there.0, ap (λ (ns : List ℕ). slice_get ns there.0) (map_out (λ s. s.rules.number) xs k) ∙ there.1);
 }
 
--- the disk of the shelf is out again
+-- the disks of the shelf are out again
 pub home_set : {D : Type 0} (xs : List (Shelf D Counting)) (k : ℕ) (x y : Shelf D Counting) (old new : RackView) → slice_get xs k ≡ Some x
-    → y.rules ≡ x.rules → IsHome xs old.out → TakesOne x.rules.number old new → IsHome (slice_set xs k y) new.out
+    → y.rules ≡ x.rules → IsHome xs (shelves_of old).out → TakesOne x.rules.number old new → IsHome (slice_set xs k y) (shelves_of new).out
 home_set xs k x y old new here same home taken =
     let numbers = numbers_set xs k x y here same in
     record {
-      ours = λ j n e. now_out n (⊎_elim (λ is. inl_out n is) (λ other. taken.others_out n other ∙ home.ours j n (back numbers j n e)) (cases_eq n x.rules.number));
+      ours = λ j n e. now_out n (⊎_elim (λ is. inl_out n is) (λ other. taken.leaves.others_out n other ∙ home.ours j n (back numbers j n e)) (cases_eq n x.rules.number));
       only = λ n out. ⊎_elim
           (λ is. (k, forth numbers k n (number_at xs k x here ∙ ap Some (sym is))))
-          (λ other. let was = home.only n (sym (taken.others_out n other) ∙ out) in (was.0, forth numbers was.0 n was.1))
+          (λ other. let was = home.only n (sym (taken.leaves.others_out n other) ∙ out) in (was.0, forth numbers was.0 n was.1))
           (cases_eq n x.rules.number);
     }
   where
-    now_out : (n : ℕ) → new.out n ≡ true → new.out n ≡ true
+    now_out : (n : ℕ) → (shelves_of new).out n ≡ true → (shelves_of new).out n ≡ true
     now_out n h = h
 
-    inl_out : (n : ℕ) → n ≡ x.rules.number → new.out n ≡ true
-    inl_out n is = ap new.out is ∙ taken.out
+    inl_out : (n : ℕ) → n ≡ x.rules.number → (shelves_of new).out n ≡ true
+    inl_out n is = ap (shelves_of new).out is ∙ taken.out
 
     back : numbers_in (slice_set xs k y) ≡ numbers_in xs → (j n : ℕ) → slice_get (numbers_in (slice_set xs k y)) j ≡ Some n → slice_get (numbers_in xs) j ≡ Some n
     back is j n e = subst (λ (ns : List ℕ). slice_get ns j ≡ Some n) is e

@@ -13,11 +13,11 @@ use Rattle.replay_spec.specs.Admission.{admit, refusal_of}
 use Rattle.replay_spec.specs.Invariant.{IsOrderly}
 use Rattle.replay_spec.specs.Laws.{IsLawful, Leads}
 use Rattle.replay_spec.specs.Step as spec
-use Rattle.replay_spec.specs.Step.{Event, take, publish, sweep, taken}
+use Rattle.replay_spec.specs.Step.{Event, take, publish, sweep, compact, taken}
 use Rattle.shelf.specs.Visits.{FitsAs, ticket_of, reply_of, Ticket}
 use Rattle.shelf.specs.Going.{TicketsGoOnToFit}
 use Rattle.shelf.specs.declared.shelf.Shelf.{Shelf}
-use Rattle.shelf.specs.Views.{book_in, library_in, swept_of, IsOwnShelf}
+use Rattle.shelf.specs.Views.{book_in, compacted_of, library_in, swept_of, IsOwnShelf}
 use Rattle.play_desk.specs.Staff.{IsOpen, AreOwn, IsUnspent, KeepsOthers, place_of}
 use Rattle.play_desk.proofs.Places.{at_set, none_there, same_Some}
 use Rattle.play_desk.proofs.Open.{fits_now, leads_here, stays_open}
@@ -58,6 +58,14 @@ pub own_sweep : {D : Type 0} (view : D → View) (tells : Bool) (xs : List (Shel
 own_sweep view tells xs ts k x y tick r own here h library own_y =
     own_with view tells xs ts ts k x y own here own_y
     (λ w t held place. opens_on view x y (sweep tick) (swept_of r) t tt h library (of_held (IsOpen view) xs ts k w x t own.are_open here held place))
+    (λ w t held other. held)
+
+pub own_compact : {D : Type 0} (view : D → View) (tells : Bool) (xs : List (Shelf D Counting)) (ts : List (Option Ticket))
+    (k : ℕ) (x y : Shelf D Counting) (r : Result ℕ Reply) → AreOwn view tells xs ts → slice_get xs k ≡ Some x
+    → Happens view x y compact (compacted_of r) → y.library ≡ x.library → IsOwnShelf view tells y → AreOwn view tells (slice_set xs k y) ts
+own_compact view tells xs ts k x y r own here h library own_y =
+    own_with view tells xs ts ts k x y own here own_y
+    (λ w t held place. opens_on view x y compact (compacted_of r) t tt h library (of_held (IsOpen view) xs ts k w x t own.are_open here held place))
     (λ w t held other. held)
 
 pub own_publish : {D : Type 0} (view : D → View) (tells : Bool) (xs : List (Shelf D Counting)) (ts : List (Option Ticket))

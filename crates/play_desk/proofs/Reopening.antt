@@ -10,14 +10,16 @@ use Rattle.replay_spec.specs.Step.{lost, kept}
 use Rattle.replay_spec.specs.Book.{Book, are_same}
 use Rattle.replay_spec.specs.Recovery.{of_length}
 use Rattle.replay_spec.specs.Rules.{Rules}
-use Rattle.journal_spec.specs.Making.{Making, damaged, other, book_in_bytes}
+use Rattle.journal_spec.specs.Making.{Making, damaged, other}
+use Rattle.journal_spec.specs.Bytes.{book_in_bytes}
 use Rattle.journal_spec.specs.Before.{made_of}
 use Rattle.journal_spec.specs.Standing.{IsBook, Between, Held, Stands, OpensThroughout, if_kept}
 use Rattle.journal_spec.specs.Laws.{ImagesMakeBooks}
 use Rattle.journal_spec.proofs.Setups.{recovered_setup}
 use Rattle.shelf.specs.Faults.{IsAnother}
 use Rattle.shelf.specs.Views.{book_in, rules_of}
-use Rattle.shelf.specs.Opening.{IsCrashed, AReopenedShelfHasCrashed}
+use Rattle.shelf.specs.Files.{LeavesNewest}
+use Rattle.shelf.specs.Opening.{IsCrashed, IsOfNow, AReopenedShelfHasCrashed}
 use Rattle.shelf.specs.Owning.{HasOwnImages, StandsMeasured, StandsOwn, StaysOwnThroughout, IsOwnImage}
 use Rattle.page_journal.specs.Records.{Intact, records}
 use Rattle.shelf.specs.declared.shelf.Shelf.{Shelf}
@@ -42,6 +44,10 @@ pub reopened_ok : {D : Type 0} (view : D → View) → AReopenedShelfHasCrashed 
     → Finds view scripts old.rules.number images opened → IfOk opened (HasCrashed view scripts old)
 reopened_ok view law scripts old stands images among (Ok s) found = has_crashed view law scripts old stands images among (book_in view s) found
 reopened_ok view law scripts old stands images among (Err why) found = tt
+
+-- what may be left of a shelf's disk is of the newest format
+pub now_on : (v w : View) → LeavesNewest v → AreAmong w.images v.images → w.images w.seen → IsOfNow w
+now_on v w newest among reads = λ some. sym (newest w.seen (among w.seen reads))
 
 -- a setup that is another one than that of an image is another one than that of the books of which the image makes one
 is_another : ImagesMakeBooks → (scripts : List Named) (number : ℕ) (b : Book) (n : ℕ) (k : Between setup_of_texts number b (if_kept n b)) (image : List ℕ)
@@ -118,6 +124,14 @@ disk_cause (reopen.Damaged place) e = absurd (let no : ⊥ = cc in no)
 disk_cause (reopen.Other place) e = absurd (let no : ⊥ = cc in no)
 disk_cause (reopen.Full len) e = absurd (let no : ⊥ = cc in no)
 disk_cause reopen.Memory e = absurd (let no : ⊥ = cc in no)
+
+-- nor is it told as not empty
+pub never_shut : (why : Reopen) → cause_of why ≡ cause.NotEmpty → ⊥
+never_shut reopen.Disk e = cc
+never_shut (reopen.Damaged place) e = cc
+never_shut (reopen.Other place) e = cc
+never_shut (reopen.Full len) e = cc
+never_shut reopen.Memory e = cc
 
 pub rose_after : (old mid new disk : ℕ) → CountStays old 0 mid disk → CountRose mid disk new 0 → Rose old new
 rose_after old mid new disk stays rose = (let a = stays 0 in let b = rose 0 in omega (arith, a, b))

@@ -15,19 +15,19 @@ use Rattle.page_names.specs.Names.{Destination, destination_of}
 use Rattle.replay_spec.specs.Book.{Book, Doubt, draw}
 use Rattle.replay_spec.specs.Admission.{or_else, when, admit, refusal_of}
 use Rattle.replay_spec.specs.Next as next
-use Rattle.replay_spec.specs.Step.{take, publish, sweep, crash, Fate, plain}
+use Rattle.replay_spec.specs.Step.{take, publish, sweep, compact, crash, Fate, plain}
 use Rattle.replay_spec.specs.Step as spec
 use Rattle.replay_spec.specs.Runs.{Shelf}
 use Rattle.replay_spec.specs.Laws as laws
 use Rattle.replay_spec.proofs.Admitted.{admit_drawn}
 use Rattle.shelf.specs.Visits.{ticket_of, reply_of, Ticket}
 use Rattle.shelf.specs.declared.shelf.Shelf as code
-use Rattle.shelf.specs.Views.{fate_by, swept_of}
+use Rattle.shelf.specs.Views.{compacted_of, fate_by, swept_of}
 use Rattle.play_steps.specs.Rules.{Call, Comes, answered, event}
 use Rattle.play_desk.specs.Target.{answer_to, path_and_query, shelf_for}
 use Rattle.play_desk.specs.Desk as desk
-use Rattle.play_desk.specs.Desk.{Desk, told, take_on, take_at, happening, desk_take, desk_publish, desk_sweep, desk_crash, publish_held, publish_on, sweep_on, crash_on, taken_by, published_by, swept_by, crashed_by, with_shelf, behind, is_fault}
-use Rattle.play_desk.specs.Staff.{desk_with, shelf_at}
+use Rattle.play_desk.specs.Desk.{Desk, told, take_on, take_at, happening, desk_take, desk_publish, desk_sweep, desk_compact, desk_crash, publish_held, publish_on, sweep_on, compact_on, crash_on, taken_by, published_by, swept_by, compacted_by, crashed_by, with_shelf, behind, is_fault}
+use Rattle.play_desk.specs.Staff.{desk_with, numbers_in, shelf_at}
 use Rattle.play_desk.proofs.Happening.{Happens}
 use Rattle.play_desk.proofs.Places.{get_set}
 
@@ -71,6 +71,10 @@ pub sweeps : (d : Desk) (k tick : ℕ) (s : Shelf) → slice_get d.shelves k ≡
     → desk_sweep d k tick ≡ event (λ fate. swept_by d k (happening s (sweep tick) fate))
 sweeps d k tick s here = ap (sweep_on d k tick) here
 
+pub compacts : (d : Desk) (k : ℕ) (s : Shelf) → slice_get d.shelves k ≡ Some s
+    → desk_compact d k ≡ event (λ fate. compacted_by d k (happening s compact fate))
+compacts d k s here = ap (compact_on d k) here
+
 pub crashes : (d : Desk) (k : ℕ) (s : Shelf) → slice_get d.shelves k ≡ Some s
     → desk_crash d k ≡ event (λ fate. crashed_by d k (happening s (crash d.scripts) fate))
 crashes d k s here = ap (crash_on d k) here
@@ -104,6 +108,13 @@ no_shelf_there view scripts xs ts k here = slice_get-map (shelf_at view) xs k �
 pub count_is : {D : Type 0} (view : D → View) (scripts : List Named) (xs : List (code.Shelf D Counting)) (ts : List (Option Ticket))
     → length (desk_with view scripts xs ts).shelves ≡ length xs
 count_is view scripts xs ts = length-map xs (shelf_at view)
+
+-- as many shelves as there are numbers of them
+pub counts_same : {D : Type 0} (view : D → View) (xs ys : List (code.Shelf D Counting)) → numbers_in ys ≡ numbers_in xs
+    → length (map (shelf_at view) ys) ≡ length (map (shelf_at view) xs)
+counts_same view xs ys same =
+    length-map ys (shelf_at view)
+    ∙ (sym (length-map ys (λ s. s.rules.number)) ∙ (ap length same ∙ (length-map xs (λ s. s.rules.number) ∙ sym (length-map xs (shelf_at view)))))
 
 -- the ticket that is held, as the desk holds it
 pub held_there : (tickets : List (Option Ticket)) (worker : ℕ) (o : Option Ticket) → slice_get tickets worker ≡ Some o
@@ -145,6 +156,20 @@ pub sweep_step : {D : Type 0} (view : D → View) (scripts : List Named) (xs : L
 sweep_step view scripts xs ts k x y tick r h =
     ap (swept_by (desk_with view scripts xs ts) k) h
     ∙ (swept_so (desk_with view scripts xs ts) k r (shelf_at view y) ∙ ap (λ (e : Desk). (r, e)) (with_is view scripts xs ts k y))
+
+compacted_err : (d : Desk) (k : ℕ) (r : Reply) (s : Shelf) → compacted_by d k (reply_of r, s) ≡ (Err r, with_shelf d k s)
+compacted_err d k r s = grind arith
+
+compacted_so : (d : Desk) (k : ℕ) (x : Result ℕ Reply) (s : Shelf) → compacted_by d k (compacted_of x, s) ≡ (x, with_shelf d k s)
+compacted_so d k (Ok n) s = refl
+compacted_so d k (Err e) s = compacted_err d k e s
+
+pub compact_step : {D : Type 0} (view : D → View) (scripts : List Named) (xs : List (code.Shelf D Counting)) (ts : List (Option Ticket)) (k : ℕ) (x y : code.Shelf D Counting)
+    (r : Result ℕ Reply) → Happens view x y compact (compacted_of r)
+    → compacted_by (desk_with view scripts xs ts) k (happening (shelf_at view x) compact (fate_by (compacted_of r))) ≡ (r, desk_with view scripts (slice_set xs k y) ts)
+compact_step view scripts xs ts k x y r h =
+    ap (compacted_by (desk_with view scripts xs ts) k) h
+    ∙ (compacted_so (desk_with view scripts xs ts) k r (shelf_at view y) ∙ ap (λ (e : Desk). (r, e)) (with_is view scripts xs ts k y))
 
 pub take_step : {D : Type 0} (view : D → View) (scripts : List Named) (xs : List (code.Shelf D Counting)) (ts : List (Option Ticket)) (k worker : ℕ) (x y : code.Shelf D Counting)
     (d : Destination) (a : Val) (t : Ticket) → Happens view x y (take d a) (spec.taken t.number t.nonce)

@@ -5,19 +5,19 @@ use Rattle.std.proofs.lemmas.List.{map-append}
 use Rattle.script_nodes.specs.Setup.{Named}
 use Rattle.script_value.specs.declared.outcome.Reply as outcome
 use Rattle.replay_spec.specs.Step.{Fate, Reply}
-use Rattle.play_steps.specs.Step.{Step, take, publish, get, tick, crash, edit, crash_edited, lines_in}
-use Rattle.play_steps.specs.Reports.{take_report, sweep_report}
+use Rattle.play_steps.specs.Step.{Step, take, publish, get, tick, crash, compact, edit, crash_edited, lines_in}
+use Rattle.play_steps.specs.Reports.{take_report, sweep_report, compact_report}
 use Rattle.play_steps.specs.Rules.{Call, answered, event}
 use Rattle.play_steps.specs.declared.report.Report.{Report}
 use Rattle.play_steps.specs.declared.report.Report.TheVariants.{Replied, Reopened}
-use Rattle.play_steps.specs.Transcript.{Run, End, done, bad_line, went, stopped, behind, goes_on, first_fate, later_fates, fits, called, published, got, swept, crashed, performed, text_of, transcript}
+use Rattle.play_steps.specs.Transcript.{Run, End, done, bad_line, went, stopped, behind, goes_on, first_fate, later_fates, fits, called, published, got, swept, crashed, compacted, performed, text_of, transcript}
 use Rattle.play_desk.specs.Edits.{edited}
-use Rattle.play_desk.specs.Desk.{Desk, desk_rules, desk_take, desk_publish, desk_sweep, desk_crash}
-use Rattle.play_desk.specs.Ledger.{Entry, Ledger, ledger_of, ledger_rules, ledger_take, ledger_publish, ledger_sweep, ledger_crash}
+use Rattle.play_desk.specs.Desk.{Desk, desk_rules, desk_take, desk_publish, desk_sweep, desk_compact, desk_crash}
+use Rattle.play_desk.specs.Ledger.{Entry, Ledger, ledger_of, ledger_rules, ledger_take, ledger_publish, ledger_sweep, ledger_compact, ledger_crash}
 use Rattle.play_desk.specs.Laws.{AreRuns, AreLawfulRuns, TranscriptsAreRuns}
 use Rattle.play_desk.proofs.ShelfRuns.{no_runs, no_lawful, runs_then, lawful_then}
 use Rattle.play_desk.proofs.Held.{AreOut, first_orderly}
-use Rattle.play_desk.proofs.Entering.{Enters, EntersOne, take_enters, publish_enters, sweep_enters, crash_enters}
+use Rattle.play_desk.proofs.Entering.{Enters, EntersOne, take_enters, publish_enters, sweep_enters, compact_enters, crash_enters}
 
 -- a desk's run, as a ledger has it
 abbrev as_entered : Run desk_rules → List Reply → List Entry → Run ledger_rules
@@ -188,6 +188,11 @@ crash_follows shelf d fates =
     after_call d (desk_crash d shelf) (λ l. ledger_crash l shelf) fates (λ live. went desk_rules (Reopened shelf live ∷ []))
     (λ live. went ledger_rules (Reopened shelf live ∷ [])) (crash_enters d shelf) (λ live. told_follows (Reopened shelf live ∷ []))
 
+compact_follows : (shelf : ℕ) (d : Desk) (fates : List Fate) → Follows d (compacted desk_rules shelf d fates) (λ l. compacted ledger_rules shelf l fates)
+compact_follows shelf d fates =
+    after_call d (desk_compact d shelf) (λ l. ledger_compact l shelf) fates (λ x. went desk_rules (compact_report shelf x ∷ []))
+    (λ x. went ledger_rules (compact_report shelf x ∷ [])) (compact_enters d shelf) (λ x. told_follows (compact_report shelf x ∷ []))
+
 step_follows : (step : Step) (d : Desk) (fates : List Fate) → Follows d (performed desk_rules step d fates) (λ l. performed ledger_rules step l fates)
 step_follows (take worker target) d fates =
     after_call d (desk_take d worker target) (λ l. ledger_take l worker target) fates (λ x. went desk_rules (take_report worker x ∷ []))
@@ -200,6 +205,7 @@ step_follows (tick time) d fates =
     again d (swept desk_rules time (length d.shelves) 0 d fates) (λ l. swept ledger_rules time (length d.shelves) 0 l fates)
     (λ l. swept ledger_rules time l.count 0 l fates) (swept_follows time (length d.shelves) 0 d fates) (λ later before. refl)
 step_follows (crash shelf) d fates = crash_follows shelf d fates
+step_follows (compact shelf) d fates = compact_follows shelf d fates
 step_follows (edit name text) d fates =
     again d (performed desk_rules (edit name text) d fates)
     (λ l. went ledger_rules [] (unwrap_or (option_map (λ scripts. record l { scripts = scripts }) (edited d.scripts name text)) l) fates)
@@ -218,6 +224,7 @@ same_fits (publish worker) d later before = refl
 same_fits (get worker target) d later before = refl
 same_fits (tick time) d later before = refl
 same_fits (crash shelf) d later before = refl
+same_fits (compact shelf) d later before = refl
 same_fits (edit name text) d later before =
     same_some (λ scripts. record (ledger_of d later before) { scripts = scripts }) (λ scripts. record d { scripts = scripts }) (edited d.scripts name text)
 same_fits (crash_edited shelf) d later before = refl

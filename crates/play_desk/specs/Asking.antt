@@ -1,28 +1,37 @@
 -- Which disks a rack is asked for, and in which order.
-use Rattle.std.specs.Prelude.{◌≡◌, ◌<◌, ◌+◌, ℕ, zero, suc, List, [], ◌∷◌, ◌++◌}
+use Rattle.std.specs.Prelude.{◌≡◌, ◌<◌, ℕ, zero, suc, List, [], ◌++◌}
 use mathlib.Core.List.{IsPrefix}
 use Rattle.web_disk.specs.View.{RackView}
+use Rattle.trio_rack.specs.Numbers.{three_numbers}
+use Rattle.trio_rack.specs.Trios.{AreFirstOfThree}
 
--- the numbers below this one, in order
+-- the numbers of the three disks of each shelf below this one, shelf by shelf in order
 abbrev pub numbers_below : ℕ → List ℕ
 numbers_below zero = []
-numbers_below (suc n) = numbers_below n ++ n ∷ []
+numbers_below (suc n) = numbers_below n ++ three_numbers n
 
 -- no disk was asked for
 abbrev pub AsksForNone : (old new : RackView) → Type 0
 AsksForNone old new = new.asked ≡ old.asked
 
--- the disk of this number was asked for, once, and no other
-abbrev pub AsksForOne : (number : ℕ) → (old new : RackView) → Type 0
-AsksForOne number old new = new.asked ≡ old.asked ++ number ∷ []
+-- the three disks of this shelf were asked for, each once and in order, and no other
+abbrev pub AsksForOne : (shelf : ℕ) → (old new : RackView) → Type 0
+AsksForOne shelf old new = new.asked ≡ old.asked ++ three_numbers shelf
+
+-- the disks of this shelf up to one of them were asked for, each once and in order, and no other
+abbrev pub AsksForSome : (shelf : ℕ) → (old new : RackView) → Type 0
+AsksForSome shelf old new = (numbers : List ℕ) × (AreFirstOfThree shelf numbers × (new.asked ≡ old.asked ++ numbers))
 
 -- the disks of so many shelves were asked for, from number 0 on, each once and in order, and no other
 abbrev pub AsksForFirst : (count : ℕ) → (old new : RackView) → Type 0
 AsksForFirst count old new = new.asked ≡ old.asked ++ numbers_below count
 
--- of so many shelves, the disks up to that of this one were asked for, each once and in order, and no other
-abbrev pub AsksUntil : (count shelf : ℕ) → (old new : RackView) → Type 0
-AsksUntil count shelf old new = (shelf < count) × AsksForFirst (shelf + 1) old new
+-- of so many shelves, the disks of those before this one were asked for, each once and in order, then its own up to one of them, and no other
+pub record AsksUntil (count shelf : ℕ) (old new : RackView) : Type 0 where
+  pub low : shelf < count
+  pub numbers : List ℕ
+  pub first : AreFirstOfThree shelf numbers
+  pub asked : new.asked ≡ old.asked ++ (numbers_below shelf ++ numbers)
 
 -- a rack was asked for the disks of these numbers first, in this order
 abbrev pub HasAsked : RackView → (front : List ℕ) → Type 0

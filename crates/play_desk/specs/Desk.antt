@@ -8,14 +8,14 @@ use Rattle.page_names.specs.Names.{Destination, destination_of}
 use Rattle.script_nodes.specs.Setup.{Named}
 use Rattle.replay_spec.specs.Rules.{Rules}
 use Rattle.replay_spec.specs.Next.{Ticket}
-use Rattle.replay_spec.specs.Step.{Event, take, publish, sweep, crash, Fate, plain, disk_fault}
+use Rattle.replay_spec.specs.Step.{Event, take, publish, sweep, compact, crash, Fate, plain, disk_fault}
 use Rattle.replay_spec.specs.Step as spec
 use Rattle.replay_spec.specs.Runs.{Shelf, empty_shelf, shelf_step}
 use Rattle.play_steps.specs.Rules.{StageRules, Call, answered, event}
 use Rattle.play_desk.specs.Edits.{edited}
 use Rattle.play_desk.specs.Target.{answer_to, path_and_query, shelf_for}
 
--- a reply as it is told; what only a take, a sweep or a crash is answered has no text of its own here
+-- a reply as it is told; what only a take, a sweep, a compaction or a crash is answered has no text of its own here
 abbrev pub told : spec.Reply → Reply
 told (spec.shown page url) = reply.Page page url
 told (spec.finished page) = reply.Finished page
@@ -121,6 +121,18 @@ sweep_on d k tick (Some s) = event (λ fate. swept_by d k (happening s (sweep ti
 abbrev pub desk_sweep : Desk → (shelf tick : ℕ) → Call Desk Fate (Result ℕ Reply)
 desk_sweep d k tick = sweep_on d k tick (slice_get d.shelves k)
 
+-- a compaction tells how long the file is
+abbrev pub compacted_by : Desk → ℕ → spec.Reply × Shelf → Result ℕ Reply × Desk
+compacted_by d k (spec.compacted length, s) = (Ok length, with_shelf d k s)
+compacted_by d k (r, s) = (Err (told r), with_shelf d k s)
+
+abbrev pub compact_on : Desk → ℕ → Option Shelf → Call Desk Fate (Result ℕ Reply)
+compact_on d k None = answered (Err (reply.Refused Unknown))
+compact_on d k (Some s) = event (λ fate. compacted_by d k (happening s compact fate))
+
+abbrev pub desk_compact : Desk → (shelf : ℕ) → Call Desk Fate (Result ℕ Reply)
+desk_compact d k = compact_on d k (slice_get d.shelves k)
+
 -- whether a worker's ticket is one of this shelf
 abbrev pub is_of : (count shelf worker : ℕ) → Option Ticket → Bool
 is_of count k worker None = false
@@ -170,6 +182,7 @@ desk_rules = record {
   take = desk_take;
   publish = desk_publish;
   sweep = desk_sweep;
+  compact = desk_compact;
   crash = desk_crash;
   edit = desk_edit;
 }

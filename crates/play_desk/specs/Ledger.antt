@@ -7,7 +7,7 @@ use Rattle.script_value.specs.declared.outcome.Reply as outcome
 use Rattle.script_value.specs.declared.outcome.Reply.TheVariants.{Refused}
 use Rattle.page_names.specs.Names.{Destination, destination_of}
 use Rattle.replay_spec.specs.Next.{Ticket}
-use Rattle.replay_spec.specs.Step.{Event, take, publish, sweep, crash, Fate, plain, Reply, taken, swept, live, memory}
+use Rattle.replay_spec.specs.Step.{Event, take, publish, sweep, compact, crash, Fate, plain, Reply, taken, swept, compacted, live, memory}
 use Rattle.script_nodes.specs.Setup.{Named}
 use Rattle.play_steps.specs.Rules.{StageRules, Call, answered, event}
 use Rattle.play_steps.specs.Step.{Step}
@@ -105,6 +105,16 @@ ledger_sweep l k tick =
     then event (λ fate. swept_in (entered l k (sweep tick) fate) (first_reply l.replies))
     else answered (Err (Refused Unknown))
 
+abbrev pub compacted_in : Ledger → Reply → Result ℕ outcome.Reply × Ledger
+compacted_in l (compacted length) = (Ok length, l)
+compacted_in l r = (Err (told r), l)
+
+abbrev pub ledger_compact : Ledger → (shelf : ℕ) → Call Ledger Fate (Result ℕ outcome.Reply)
+ledger_compact l k =
+    if nat_lt k l.count
+    then event (λ fate. compacted_in (entered l k compact fate) (first_reply l.replies))
+    else answered (Err (Refused Unknown))
+
 -- a crash loses the tickets of its shelf
 abbrev pub crashed_in : Ledger → (shelf : ℕ) → Reply → ℕ × Ledger
 crashed_in l k (live count) = (count, record l { held = without_shelf l.count k 0 l.held })
@@ -132,6 +142,7 @@ ledger_rules = record {
   take = ledger_take;
   publish = ledger_publish;
   sweep = ledger_sweep;
+  compact = ledger_compact;
   crash = ledger_crash;
   edit = ledger_edit;
 }

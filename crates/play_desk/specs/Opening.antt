@@ -3,6 +3,9 @@ use Rattle.std.specs.Prelude.{⊤, ◌≡◌, ◌≢◌, ◌⊎◌, ◌≤◌, �
 use Rattle.web_outside.specs.Causes.{Rose}
 use Rattle.web_outside.specs.declared.nonces.Counting.{Counting}
 use Rattle.web_disk.specs.View.{View, RackView, AreAmong}
+use Rattle.server_limits.specs.Limits.{most_shelves}
+use Rattle.trio_rack.specs.Numbers.{IsOneOfThree}
+use Rattle.trio_rack.specs.Trios.{shelves_of, LeavesOtherDisks, MayBeBare, MayHoldSome}
 use Rattle.script_nodes.specs.Setup.{Named}
 use Rattle.setup_reader.specs.Texts.{setup_of_texts}
 use Rattle.replay_spec.specs.Book.{Book, are_same}
@@ -11,14 +14,16 @@ use Rattle.replay_spec.specs.Rules.{empty_book}
 use Rattle.replay_spec.specs.Runs as runs_spec
 use Rattle.replay_spec.specs.Runs.{empty_shelf}
 use Rattle.replay_spec.specs.Step.{lost, kept}
-use Rattle.page_journal.specs.Records.{Intact, records, at_rest, stored}
-use Rattle.journal_spec.specs.Making.{damaged, other, book_in_bytes}
+use Rattle.page_journal.specs.Opened.{TellsFormat}
+use Rattle.page_journal.specs.Records.{Intact, records, at_rest, at_rest_in, stored}
+use Rattle.journal_spec.specs.Making.{damaged, other}
+use Rattle.journal_spec.specs.Bytes.{book_in_bytes}
 use Rattle.journal_spec.specs.Opening.{opened_book}
 use Rattle.journal_spec.specs.Standing.{Between, HoldIn, IsOneOf, if_kept}
 use Rattle.journal_spec.specs.Laws.{MeasuresDoubt}
 use Rattle.shelf.specs.Views.{book_in, rules_of, IsInOrder, IsOwnShelf}
-use Rattle.shelf.specs.Faults.{IsAnother, IsTooLong}
-use Rattle.shelf.specs.Opening.{IsCrashed, opening_bodies}
+use Rattle.shelf.specs.Faults.{IsAnother}
+use Rattle.shelf.specs.Opening.{IsCrashed, IsTooLongIn, bodies_after, now_in_bytes, opening_bodies}
 use Rattle.shelf.specs.Owning.{OwnRecords, HoldOwn, HoldsOwnRecords, StandsOwn}
 use Rattle.shelf.specs.declared.begin.BeginFault.{BeginFault}
 use Rattle.shelf.specs.declared.begin.BeginFault.TheVariants as begin
@@ -42,10 +47,14 @@ numbered rules number = record rules { number = number }
 abbrev pub rules_at : Rules → (number : ℕ) → runs.Rules
 rules_at rules number = rules_of (numbered rules number)
 
--- a take of the disk of this number failed, or a call of that disk, which went back to the rack
+-- a take of a disk of this shelf failed, or a call of one of its disks, which went back to the rack
 pub record FailedFor (number : ℕ) (old new : RackView) : Type 0 where
   pub all : Rose old.faults new.faults
-  pub here : Rose (old.failed number) (new.failed number)
+  pub here : Rose ((shelves_of old).failed number) ((shelves_of new).failed number)
+
+-- no count of calls that failed for a shelf fell
+abbrev pub FailuresStay : (old new : RackView) → Type 0
+FailuresStay old new = StaysUp (shelves_of old).failed (shelves_of new).failed
 
 -- the answer is not that a record on the disk is at fault
 abbrev pub IsNeverDamaged : {T : Type 0} → Result T Reopen → Type 0
@@ -59,34 +68,34 @@ IsNeverOther result = (place : ℕ) → IsErrOf result (reopen.Other place) → 
 abbrev pub AreHome : (out : ℕ → Bool) → Type 0
 AreHome out = (n : ℕ) → out n ≡ false
 
--- the disk of this number was taken, and no other was taken or given back; calls are counted for this one alone
+-- no disk of another shelf was taken or given back, and each may hold nothing that it might not hold; calls are counted for this shelf alone
+pub record LeavesOthers (number : ℕ) (old new : RackView) : Type 0 where
+  pub others_out : (n : ℕ) → n ≢ number → (shelves_of new).out n ≡ (shelves_of old).out n
+  pub others : (n : ℕ) → n ≢ number → AreAmong ((shelves_of new).holds n) ((shelves_of old).holds n)
+  pub disks : LeavesOtherDisks number old new
+  pub failed : (shelves_of old).failed number ≤ (shelves_of new).failed number
+  pub others_failed : (n : ℕ) → n ≢ number → (shelves_of new).failed n ≡ (shelves_of old).failed n
+
+-- the disks of this shelf were taken, and no others were taken or given back
 pub record TakesOne (number : ℕ) (old new : RackView) : Type 0 where
-  pub out : new.out number ≡ true
-  pub others_out : (n : ℕ) → n ≢ number → new.out n ≡ old.out n
-  pub others : (n : ℕ) → n ≢ number → AreAmong (new.holds n) (old.holds n)
-  pub failed : old.failed number ≤ new.failed number
-  pub others_failed : (n : ℕ) → n ≢ number → new.failed n ≡ old.failed n
+  pub out : (shelves_of new).out number ≡ true
+  pub leaves : LeavesOthers number old new
 
--- the disk of this number was given back, and no other was taken or given back; calls are counted for this one alone
+-- the disks of this shelf were given back, and no others were taken or given back
 pub record GivesOne (number : ℕ) (old new : RackView) : Type 0 where
-  pub home : new.out number ≡ false
-  pub others_out : (n : ℕ) → n ≢ number → new.out n ≡ old.out n
-  pub others : (n : ℕ) → n ≢ number → AreAmong (new.holds n) (old.holds n)
-  pub failed : old.failed number ≤ new.failed number
-  pub others_failed : (n : ℕ) → n ≢ number → new.failed n ≡ old.failed n
+  pub home : (shelves_of new).out number ≡ false
+  pub leaves : LeavesOthers number old new
 
--- no disk was taken or given back; calls are counted for this number alone
-pub record LeavesAll (number : ℕ) (old new : RackView) : Type 0 where
-  pub out : (n : ℕ) → new.out n ≡ old.out n
-  pub holds : (n : ℕ) → AreAmong (new.holds n) (old.holds n)
-  pub failed : old.failed number ≤ new.failed number
-  pub others_failed : (n : ℕ) → n ≢ number → new.failed n ≡ old.failed n
+-- no disk was taken: what was home is home
+pub record TakesNone (number : ℕ) (old new : RackView) : Type 0 where
+  pub home : (shelves_of old).out number ≡ false → (shelves_of new).out number ≡ false
+  pub leaves : LeavesOthers number old new
 
 abbrev pub TakesOrLeaves : {T E : Type 0} → (number : ℕ) → Result T E → (old new : RackView) → Type 0
 TakesOrLeaves number (Ok disk) old new = TakesOne number old new
-TakesOrLeaves number (Err why) old new = LeavesAll number old new
+TakesOrLeaves number (Err why) old new = TakesNone number old new
 
--- the disk of a shelf is out where the shelf is opened, and else at home
+-- the disks of a shelf are out where the shelf is opened, and else at home
 abbrev pub OpensOne : {T E : Type 0} → (number : ℕ) → Result T E → (old new : RackView) → Type 0
 OpensOne number (Ok shelf) old new = TakesOne number old new
 OpensOne number (Err why) old new = GivesOne number old new
@@ -143,9 +152,10 @@ IsOutside reopen.Disk = ⊤
 IsOutside reopen.Memory = ⊤
 IsOutside _ = ⊥
 
--- whatever a disk may hold makes a book whose journal would have this length with the setup, which is longer than one may be
+-- whatever a disk may hold has no room for the setup: its journal would have this length with it, or in the newest format, which is longer than
+-- one may be
 abbrev pub HoldNoRoom : List Named → (shelf : ℕ) → (holds : List ℕ → Type 0) → (len : ℕ) → Type 0
-HoldNoRoom scripts shelf holds len = (image : List ℕ) → holds image → IsTooLong scripts shelf (book_in_bytes setup_of_texts shelf image) len
+HoldNoRoom scripts shelf holds len = (image : List ℕ) → holds image → IsTooLongIn scripts shelf image len
 
 -- where there is no room for the setup, there is none on whatever the disk may hold
 abbrev pub LeavesNoRoom : {T : Type 0} → List Named → (shelf : ℕ) → (holds : List ℕ → Type 0) → Result T Reopen → Type 0
@@ -156,19 +166,19 @@ abbrev pub disk_faults : {D E : Type 0} → (D → View) → Result D E → ℕ
 disk_faults view (Ok disk) = (view disk).faults
 disk_faults view (Err why) = 0
 
--- why no empty shelf is opened on a disk that may hold this: one that is not empty may hold some bytes, and an empty one is neither
--- damaged nor another's, and has room for any setup
-abbrev pub IsRefusedBy : (holds : List ℕ → Type 0) → OpenCause → Type 0
-IsRefusedBy holds cause.NotEmpty = (image : List ℕ) × holds image × (image ≢ [])
-IsRefusedBy holds (cause.Damaged place) = ⊥
-IsRefusedBy holds (cause.Other place) = ⊥
-IsRefusedBy holds (cause.Full len) = ⊥
-IsRefusedBy holds _ = ⊤
+-- why no empty shelf is opened on the disks of this number: of disks that are not empty one may hold some bytes, and empty ones are neither
+-- damaged nor another's, and have room for any setup
+abbrev pub IsRefusedBy : RackView → (number : ℕ) → OpenCause → Type 0
+IsRefusedBy rack number cause.NotEmpty = MayHoldSome rack number
+IsRefusedBy rack number (cause.Damaged place) = ⊥
+IsRefusedBy rack number (cause.Other place) = ⊥
+IsRefusedBy rack number (cause.Full len) = ⊥
+IsRefusedBy rack number _ = ⊤
 
--- a disk is taken without bytes where it may hold none
-abbrev pub TakesEmpty : {D : Type 0} → (D → View) → (holds : List ℕ → Type 0) → Result D OpenCause → Type 0
-TakesEmpty view holds (Ok disk) = ((view disk).seen ≡ []) × holds []
-TakesEmpty view holds (Err why) = IsRefusedBy holds why
+-- disks are taken without bytes where each may hold none
+abbrev pub TakesEmpty : {D : Type 0} → (D → View) → RackView → (number : ℕ) → Result D OpenCause → Type 0
+TakesEmpty view rack number (Ok disks) = ((view disks).seen ≡ []) × MayBeBare rack number
+TakesEmpty view rack number (Err why) = IsRefusedBy rack number why
 
 -- On a disk without bytes an empty shelf is begun; it is neither damaged nor another's, and has room for any setup.
 abbrev pub BeginsEmpty : {D : Type 0} → (D → View) → List Named → Rules → Result (Shelf D Counting) Reopen → Type 0
@@ -178,18 +188,23 @@ BeginsEmpty view scripts rules (Err (reopen.Other place)) = ⊥
 BeginsEmpty view scripts rules (Err (reopen.Full len)) = ⊥
 BeginsEmpty view scripts rules (Err _) = ⊤
 
--- the records of the journal of a shelf that is opened with this setup on bytes that were read: those that stand there, and behind them what
--- the opening tells
+-- the records of the journal of a shelf that is opened with this setup on bytes that were read: those that stay of what stands there, and
+-- behind them what the opening tells
 abbrev pub opened_bodies : List Named → (shelf : ℕ) → (read : List ℕ) → List (List ℕ)
-opened_bodies scripts shelf read = stored read ++ opening_bodies scripts shelf (book_in_bytes setup_of_texts shelf read)
+opened_bodies scripts shelf read = bodies_after shelf read ++ opening_bodies scripts shelf (now_in_bytes shelf read)
+
+-- these bytes are the records that were read, at rest, in the format in which they were read
+abbrev pub IsReadAtRest : (read left : List ℕ) → Type 0
+IsReadAtRest read left = (f : ℕ) × TellsFormat read f × (left ≡ at_rest_in f (stored read))
 
 -- What may be left of the disk of a shelf on which nothing was lost, and of which this was read: what it might hold before; or, where it
--- might hold what was read, the records that were read, at rest; or these and what the opening tells.
+-- might hold what was read, the records that were read, at rest; or those of them that stay, in the newest format; or these and what the
+-- opening tells.
 abbrev pub IsKept : List Named → (shelf : ℕ) → (held : List ℕ → Type 0) → (read left : List ℕ) → Type 0
 IsKept scripts shelf held read left =
     held left
     ⊎ (held read × ((records read ≡ Intact (stored read)) ⊎ (read ≡ []))
-    × ((left ≡ at_rest (stored read)) ⊎ (left ≡ at_rest (opened_bodies scripts shelf read))))
+    × (IsReadAtRest read left ⊎ ((left ≡ at_rest (bodies_after shelf read)) ⊎ (left ≡ at_rest (opened_bodies scripts shelf read)))))
 
 -- whatever is left of the disk of a shelf is what may be left where nothing was lost on it
 abbrev pub AllKept : List Named → (shelf : ℕ) → (held : List ℕ → Type 0) → (read : List ℕ) → (holds : List ℕ → Type 0) → Type 0
@@ -233,23 +248,23 @@ cause_of (reopen.Other place) = cause.Other place
 cause_of (reopen.Full len) = cause.Full len
 cause_of reopen.Memory = cause.Memory
 
--- an empty shelf is opened where the disk may hold nothing
-abbrev pub OpensEmpty : {D : Type 0} → (D → View) → List Named → Rules → (holds : List ℕ → Type 0) → Result (Shelf D Counting) OpenCause → Type 0
-OpensEmpty view scripts rules holds (Ok s) =
-    holds [] × (shelf_at view s ≡ empty_shelf (rules_of rules) scripts rules.number)
-OpensEmpty view scripts rules holds (Err why) = IsRefusedBy holds why
+-- an empty shelf is opened where its disks may hold nothing
+abbrev pub OpensEmpty : {D : Type 0} → (D → View) → List Named → Rules → RackView → Result (Shelf D Counting) OpenCause → Type 0
+OpensEmpty view scripts rules rack (Ok s) =
+    MayBeBare rack rules.number × (shelf_at view s ≡ empty_shelf (rules_of rules) scripts rules.number)
+OpensEmpty view scripts rules rack (Err why) = IsRefusedBy rack rules.number why
 
--- An empty shelf of these limits was opened, and stands behind the others; its disk is out. Of disks that tell what they hold, its
--- disk may have held nothing.
+-- An empty shelf of these limits was opened, and stands behind the others; its disks are out. Of disks that tell what they hold, its
+-- own may have held nothing.
 pub record OpensNext {D : Type 0} (view : D → View) (rack_tells tells : Bool) (scripts : List Named) (limits : Rules)
     (shelves now : List (Shelf D Counting)) (old new : RackView) : Type 0 where
   pub shelf : Shelf D Counting
   pub behind : now ≡ shelves ++ shelf ∷ []
   pub in_order : IsInOrder view tells shelf
   pub rules : shelf.rules ≡ limits
-  pub empty : IsTrue rack_tells → IsTrue tells → OpensEmpty view scripts limits (old.holds limits.number) (Ok shelf)
+  pub empty : IsTrue rack_tells → IsTrue tells → OpensEmpty view scripts limits old (Ok shelf)
   pub own : IsTrue rack_tells → IsTrue tells → IsOwnShelf view tells shelf
-  pub keeps : IsTrue rack_tells → IsTrue tells → KeepsOpened view scripts limits.number (old.holds limits.number) new.holds (Ok shelf)
+  pub keeps : IsTrue rack_tells → IsTrue tells → KeepsOpened view scripts limits.number ((shelves_of old).holds limits.number) (shelves_of new).holds (Ok shelf)
   pub taken : TakesOne limits.number old new
   pub asked : AsksForOne limits.number old new
   pub later : CountStays old.faults 0 new.faults (view shelf.journal.disk).faults
@@ -263,14 +278,15 @@ pub record AreOpened {D : Type 0} (view : D → View) (rack_tells tells : Bool) 
   pub in_order : (k : ℕ) (x : Shelf D Counting) → slice_get xs k ≡ Some x → IsInOrder view tells x
   pub own : IsTrue rack_tells → IsTrue tells → (k : ℕ) (x : Shelf D Counting) → slice_get xs k ≡ Some x → IsOwnShelf view tells x
   pub keeps : IsTrue rack_tells → IsTrue tells → (k : ℕ) (x : Shelf D Counting) → slice_get xs k ≡ Some x
-      → AllKept scripts k (first.holds k) [] (view x.journal.disk).images
-  pub home : IsHome xs now.out
-  pub rest : (n : ℕ) → count ≤ n → AreAmong (now.holds n) (first.holds n)
-  pub empty : IsTrue rack_tells → IsTrue tells → (k : ℕ) → k < count → first.holds k []
+      → AllKept scripts k ((shelves_of first).holds k) [] (view x.journal.disk).images
+  pub home : IsHome xs (shelves_of now).out
+  pub rest : (n : ℕ) → count ≤ n → AreAmong ((shelves_of now).holds n) ((shelves_of first).holds n)
+  pub disks : (n number : ℕ) → count ≤ n → n < most_shelves → IsOneOfThree n number → AreAmong (now.holds number) (first.holds number)
+  pub empty : IsTrue rack_tells → IsTrue tells → (k : ℕ) → k < count → MayBeBare first k
   pub shelves : IsTrue rack_tells → IsTrue tells → map (shelf_at view) xs ≡ first_shelves (rules_at rules) scripts count
   pub later : first.faults ≤ total now.faults (faults_in view xs)
   pub rack_later : first.faults ≤ now.faults
-  pub failed_later : StaysUp first.failed now.failed
+  pub failed_later : StaysUp (shelves_of first).failed (shelves_of now).failed
   pub asked : AsksForFirst count first now
 
 -- the one shelf is the other after the event crash with this setup, what was in doubt lost or kept
@@ -299,27 +315,25 @@ TellsRoom rules scripts shelf holds b _ = ⊤
 abbrev pub FailsAt : {D : Type 0} → (D → View) → List (Shelf D Counting) → (place : ℕ) → (old new : RackView) → Type 0
 FailsAt {D = D} view shelves place old new =
     (s : Shelf D Counting) → slice_get shelves place ≡ Some s
-    → Rose (old.failed s.rules.number + (view s.journal.disk).faults) (new.failed s.rules.number)
+    → Rose ((shelves_of old).failed s.rules.number + (view s.journal.disk).faults) ((shelves_of new).failed s.rules.number)
 
 -- a crash of a shelf, which is opened again with this setup, is the desk's, and the disk does not fail by it
 abbrev pub CrashesShelf : {D : Type 0} → (D → View) → List Named → (old : Staff D) → (place live : ℕ) → (new : Staff D) → Type 0
 CrashesShelf view scripts old place live new = Crashes desk_rules ⊥ (desk_of view scripts old) place live (desk_of view scripts new)
 
--- the disk of this number is not empty: it may hold some bytes, and each disk before it may hold none
-pub record IsNotEmpty (holds : ℕ → List ℕ → Type 0) (number : ℕ) : Type 0 where
-  pub before : (k : ℕ) → k < number → holds k []
-  pub image : List ℕ
-  pub held : holds number image
-  pub some : image ≢ []
+-- the disks of this shelf are not empty: one of them may hold some bytes, and each disk of a shelf before it may hold none
+pub record IsNotEmpty (rack : RackView) (number : ℕ) : Type 0 where
+  pub before : (k : ℕ) → k < number → MayBeBare rack k
+  pub some : MayHoldSome rack number
 
--- Why a desk was not opened, of disks that tell what they hold. The disks of the shelves before it may hold nothing; an empty disk is
--- neither damaged nor another's, and has room for any setup.
-abbrev pub IsClosedBy : (holds : ℕ → List ℕ → Type 0) → (count number : ℕ) → OpenCause → Type 0
-IsClosedBy holds count number cause.NotEmpty = (number < count) × IsNotEmpty holds number
-IsClosedBy holds count number (cause.Damaged place) = ⊥
-IsClosedBy holds count number (cause.Other place) = ⊥
-IsClosedBy holds count number (cause.Full len) = ⊥
-IsClosedBy holds count number _ = (number < count) × ((k : ℕ) → k < number → holds k [])
+-- Why a desk was not opened, of disks that tell what they hold. The disks of the shelves before it may hold nothing; empty disks are
+-- neither damaged nor another's, and have room for any setup.
+abbrev pub IsClosedBy : RackView → (count number : ℕ) → OpenCause → Type 0
+IsClosedBy rack count number cause.NotEmpty = (number < count) × IsNotEmpty rack number
+IsClosedBy rack count number (cause.Damaged place) = ⊥
+IsClosedBy rack count number (cause.Other place) = ⊥
+IsClosedBy rack count number (cause.Full len) = ⊥
+IsClosedBy rack count number _ = (number < count) × ((k : ℕ) → k < number → MayBeBare rack k)
 
 -- what the disk of each of these shelves may hold, now that it was given back, it might have held before
 abbrev pub HoldImages : {D : Type 0} → (D → View) → List (Shelf D Counting) → (holds : ℕ → List ℕ → Type 0) → Type 0
@@ -329,7 +343,7 @@ HoldImages {D = D} view shelves holds =
 -- the disks that are of none of these shelves may hold nothing that they might not hold before
 abbrev pub LeaveOthers : {D : Type 0} → List (Shelf D Counting) → (before after : RackView) → Type 0
 LeaveOthers shelves before after =
-    (n : ℕ) → ((k : ℕ) → slice_get (numbers_in shelves) k ≡ Some n → ⊥) → AreAmong (after.holds n) (before.holds n)
+    (n : ℕ) → ((k : ℕ) → slice_get (numbers_in shelves) k ≡ Some n → ⊥) → AreAmong ((shelves_of after).holds n) ((shelves_of before).holds n)
 
 -- What the disk of this shelf may hold has own records, and makes the book, with what is in doubt or without it, whose record is as
 -- long as the rules measure it.
@@ -370,13 +384,13 @@ HoldTheBooks d holds =
 -- What a rack holds where this shelf of a desk crashed and was not opened again for this cause: each disk is home, and stands for the book of
 -- its shelf.
 pub record IsLeft (rack : RackView) (d : Desk) (shelf : ℕ) (why : Reopen) : Type 0 where
-  pub home : AreHome rack.out
+  pub home : AreHome (shelves_of rack).out
   pub others : (k : ℕ) (s : runs_spec.Shelf) → slice_get d.shelves k ≡ Some s → k ≢ shelf
-      → HoldsTheBook s.rules s.book.shelf (rack.holds s.book.shelf) s.book
+      → HoldsTheBook s.rules s.book.shelf ((shelves_of rack).holds s.book.shelf) s.book
   pub lost : (s : runs_spec.Shelf) → slice_get d.shelves shelf ≡ Some s
-      → StandsLost s.rules d.scripts s.book.shelf (rack.holds s.book.shelf) s.book
+      → StandsLost s.rules d.scripts s.book.shelf ((shelves_of rack).holds s.book.shelf) s.book
   pub room : (s : runs_spec.Shelf) → slice_get d.shelves shelf ≡ Some s
-      → TellsRoom s.rules d.scripts s.book.shelf (rack.holds s.book.shelf) s.book why
+      → TellsRoom s.rules d.scripts s.book.shelf ((shelves_of rack).holds s.book.shelf) s.book why
 
 -- each shelf but the one at this place stands among these
 abbrev pub KeepsShelvesBut : {D : Type 0} → (place : ℕ) → (old new : List (Shelf D Counting)) → Type 0

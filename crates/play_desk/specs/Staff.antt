@@ -1,5 +1,5 @@
 -- What shelves with their workers stand for, and what holds of them between the steps of a run.
-use Rattle.std.specs.Prelude.{◌≡◌, ◌≢◌, ◌≤◌, ◌-◌, ◌+◌, ◌^◌, ℕ, Bool, true, List, map, length, min, sum_by, slice_get, Option, Some, None, Result, is_some, option_map, option_and_then}
+use Rattle.std.specs.Prelude.{◌≡◌, ◌≢◌, ◌≤◌, ◌<◌, ◌-◌, ◌+◌, ◌^◌, ℕ, Bool, true, List, map, length, min, sum_by, slice_get, Option, Some, None, Result, is_some, option_map, option_and_then}
 use Rattle.server_limits.specs.Limits.{most_shelves}
 use Rattle.web_outside.specs.Causes.{Rose}
 use Rattle.web_outside.specs.Counted.{counted}
@@ -19,7 +19,7 @@ use Rattle.shelf.specs.Views.{book_in, library_in, shelf_of, HasTargetScript, Is
 use Rattle.shelf.specs.Tickets.{GoesOnFromItsPage}
 use Rattle.shelf.specs.declared.shelf.Shelf.{Shelf}
 use Rattle.script_value.specs.declared.outcome.Reply.{Reply}
-use Rattle.play_steps.specs.Rules.{Takes, Publishes, Sweeps}
+use Rattle.play_steps.specs.Rules.{Takes, Publishes, Sweeps, Compacts}
 use Rattle.play_desk.specs.Desk.{Desk, desk_rules}
 use Rattle.play_desk.specs.Target.{shelf_for}
 use Rattle.play_desk.specs.declared.staff.Staff.{Staff}
@@ -102,6 +102,10 @@ HaveOwnNumbers shelves =
 abbrev pub AreNumbered : {D : Type 0} → List (Shelf D Counting) → Type 0
 AreNumbered shelves = (k n : ℕ) → slice_get (numbers_in shelves) k ≡ Some n → n ≡ k
 
+-- the number of each of these shelves is one that a rack has disks for
+abbrev pub AreLow : {D : Type 0} → List (Shelf D Counting) → Type 0
+AreLow shelves = (k n : ℕ) → slice_get (numbers_in shelves) k ≡ Some n → n < most_shelves
+
 -- Each shelf is in order, under the number that is its place. What workers hold are tickets that their shelves can publish, on each of
 -- different numbers.
 pub record AreFit {D : Type 0} (view : D → View) (tells : Bool) (shelves : List (Shelf D Counting)) (tickets : List (Option Ticket)) : Type 0 where
@@ -166,6 +170,11 @@ PublishesTicket view tells old worker reply new =
 abbrev pub SweepsShelf : {D : Type 0} → (D → View) → (old : Staff D) → (shelf tick : ℕ) → Result ℕ Reply → (new : Staff D) → Type 0
 SweepsShelf view old shelf tick result new =
     (scripts : List Named) → Sweeps desk_rules (RisesBy view old new) (desk_of view scripts old) shelf tick result (desk_of view scripts new)
+
+-- a compaction of a shelf does what the desk's does
+abbrev pub CompactsShelf : {D : Type 0} → (D → View) → (old : Staff D) → (shelf : ℕ) → Result ℕ Reply → (new : Staff D) → Type 0
+CompactsShelf view old shelf result new =
+    (scripts : List Named) → Compacts desk_rules (RisesBy view old new) (desk_of view scripts old) shelf result (desk_of view scripts new)
 
 -- a staff has the same shelves as before, and the count of their disks' faults did not fall
 pub record StaysThere {D : Type 0} (view : D → View) (old new : Staff D) : Type 0 where

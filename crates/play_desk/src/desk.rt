@@ -2,7 +2,8 @@ ghost use Rattle.std.specs.Prelude.{◌&&◌};
 
 use crate::crashing::crash;
 use crate::editing::edited;
-use crate::staff::{Staff, holds, publish, sweep, take};
+use crate::staff::{Staff, compact, holds, publish, sweep, take};
+use disk_trio::Disks;
 use play_steps::{Reopen, Stage};
 use script_nodes::Setup;
 use script_value::Reply;
@@ -10,17 +11,19 @@ use std::alloc::{AllocError, Global};
 use std::marker::PhantomData;
 use web_disk::{Disk, Rack};
 
-/// What the steps of a run are performed on: shelves, whose disks are those of a rack, the tickets that workers
+/// What the steps of a run are performed on: shelves, each on three disks of a rack, the tickets that workers
 /// hold, and the setup that a shelf is opened with next.
-pub struct Desk<'s, D: Disk, R> {
+pub struct Desk<'s, F: Disk, R> {
     pub(crate) alloc: Global,
     pub(crate) setup: Setup,
     pub(crate) directory: &'s str,
-    pub(crate) staff: Staff<D>,
+    pub(crate) staff: Staff<Disks<F>>,
     pub(crate) devices: PhantomData<R>,
 }
 
-impl<'s, D: Disk, R: Rack<D>> Stage for Desk<'s, D, R> {
+impl<'s, F: Disk, R: Rack<F>> Stage for Desk<'s, F, R> {
+    ghost use Rattle.disk_trio.specs.Trio.{trio_view};
+    ghost use Rattle.trio_rack.specs.Trios.{shelves_of};
     ghost use Rattle.script_nodes.specs.Views.{scripts_of};
     ghost use Rattle.play_desk.specs.Asking.{HasAsked};
     ghost use Rattle.play_desk.specs.Desk.{desk_rules};
@@ -31,20 +34,20 @@ impl<'s, D: Disk, R: Rack<D>> Stage for Desk<'s, D, R> {
 
     ghost rules = { desk_rules };
 
-    ghost tells = { R.tells && D.tells };
+    ghost tells = { R.tells && F.tells };
 
-    ghost state = { λ d. desk_of D.view (scripts_of d.setup) d.staff };
+    ghost state = { λ d. desk_of trio_view (scripts_of d.setup) d.staff };
 
-    ghost sound = { λ d. IsReady D.view D.tells (scripts_of d.setup) d.staff };
+    ghost sound = { λ d. IsReady trio_view F.tells (scripts_of d.setup) d.staff };
 
-    ghost own = { λ d. IsOwn D.view D.tells d.staff };
+    ghost own = { λ d. IsOwn trio_view F.tells d.staff };
 
-    ghost at_home = { λ d rack. IsHome d.staff.shelves.items (R.view rack).out };
+    ghost at_home = { λ d rack. IsHome d.staff.shelves.items (shelves_of (R.view rack)).out };
 
     ghost faults = { λ d rack.
-        total (R.view rack).faults (faults_in D.view d.staff.shelves.items) };
+        total (R.view rack).faults (faults_in trio_view d.staff.shelves.items) };
 
-    ghost failed = { λ rack. (R.view rack).failed };
+    ghost failed = { λ rack. (shelves_of (R.view rack)).failed };
 
     ghost asked = { λ rack. HasAsked (R.view rack) };
 
@@ -68,6 +71,10 @@ impl<'s, D: Disk, R: Rack<D>> Stage for Desk<'s, D, R> {
 
     fn sweep(&mut self, shelf: u32, tick: u64) -> Result<u32, Reply> {
         sweep(self.alloc, &mut self.staff, shelf, tick)
+    }
+
+    fn compact(&mut self, shelf: u32) -> Result<u64, Reply> {
+        compact(self.alloc, &mut self.staff, shelf)
     }
 
     fn crash(&mut self, devices: &mut R, shelf: u32) -> Result<u32, Reopen> {

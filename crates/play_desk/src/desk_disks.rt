@@ -1,16 +1,18 @@
-ghost use Rattle.std.specs.Prelude.{◌≡◌, ◌≤◌, ◌<◌, ℕ, [], false, length, IsTrue, IfOk, IfErr, IsErrOf, OnErr, OnOk};
+ghost use Rattle.std.specs.Prelude.{◌≡◌, ◌≤◌, ◌<◌, ◌+◌, ℕ, [], false, length, IsTrue, IfOk, IfErr, IsErrOf, OnErr, OnOk};
 ghost use Rattle.script_nodes.specs.Views.{scripts_of};
 ghost use Rattle.setup_reader.specs.Texts.{IsReadSetup};
 ghost use Rattle.shelf.specs.Ranges.{AreInRange};
-ghost use Rattle.play_steps.specs.Rules.{StaysUp};
+ghost use Rattle.disk_trio.specs.Trio.{trio_view};
+ghost use Rattle.trio_rack.specs.Trios.{shelves_of, MayBeBare};
 ghost use Rattle.play_desk.specs.Desk.{first_desk};
-ghost use Rattle.play_desk.specs.Staff.{HaveOwnNumbers, IsHome, IsOwn, IsReady, desk_of, faults_in, total};
-ghost use Rattle.play_desk.specs.Asking.{AsksForFirst, AsksForNone, AsksForOne, AsksUntil};
-ghost use Rattle.play_desk.specs.Opening.{AllStayKept, AreHome, AreOpened, CountStays, FailedFor, GivesOne, HoldImages, HoldTheBooks, IsClosedBy, IsRefusedBy, KeepsClosed, LeaveOthers, OpensNext, numbered, rules_at};
+ghost use Rattle.play_desk.specs.Staff.{AreLow, HaveOwnNumbers, IsHome, IsOwn, IsReady, desk_of, faults_in, total};
+ghost use Rattle.play_desk.specs.Asking.{AsksForFirst, AsksForNone, AsksForOne, AsksForSome, AsksUntil};
+ghost use Rattle.play_desk.specs.Opening.{AllStayKept, AreHome, AreOpened, CountStays, FailedFor, FailuresStay, GivesOne, HoldImages, HoldTheBooks, IsClosedBy, IsRefusedBy, KeepsClosed, LeaveOthers, OpensNext, numbered, rules_at};
 
 use crate::desk::Desk;
 use crate::opening::{OpenCause, OpenFault, opened, put_back};
 use crate::staff::{Staff, no_tickets};
+use disk_trio::Disks;
 use script_nodes::Setup;
 use shelf::{Rules, Shelf};
 use std::alloc::Global;
@@ -33,15 +35,20 @@ fn numbered(rules: Rules, number: u32) -> Rules
 }
 
 /// Closes shelves, and gives their disks back.
-pub(crate) fn put_all_back<D: Disk, R: Rack<D>>(rack: &mut R, shelves: Vec<Shelf<D, Counting>>)
+pub(crate) fn put_all_back<F: Disk, R: Rack<F>>(
+    rack: &mut R,
+    shelves: Vec<Shelf<Disks<F>, Counting>>,
+)
     requires numbers { HaveOwnNumbers shelves.items }
-    requires home { IsHome shelves.items (R.view rack.old).out }
-    ensures home { AreHome (R.view rack.new).out }
-    ensures images { IsTrue R.tells → HoldImages D.view shelves.items (R.view rack.new).holds }
+    requires low { AreLow shelves.items }
+    requires home { IsHome shelves.items (shelves_of (R.view rack.old)).out }
+    ensures home { AreHome (shelves_of (R.view rack.new)).out }
+    ensures images { IsTrue R.tells → IsTrue F.tells →
+        HoldImages trio_view shelves.items (shelves_of (R.view rack.new)).holds }
     ensures others { LeaveOthers shelves.items (R.view rack.old) (R.view rack.new) }
-    ensures later { total (R.view rack.old).faults (faults_in D.view shelves.items)
+    ensures later { total (R.view rack.old).faults (faults_in trio_view shelves.items)
         ≤ (R.view rack.new).faults }
-    ensures failed_later { StaysUp (R.view rack.old).failed (R.view rack.new).failed }
+    ensures failed_later { FailuresStay (R.view rack.old) (R.view rack.new) }
     ensures asked { AsksForNone (R.view rack.old) (R.view rack.new) }
 {
     let mut shelves = shelves;
@@ -51,32 +58,36 @@ pub(crate) fn put_all_back<D: Disk, R: Rack<D>>(rack: &mut R, shelves: Vec<Shelf
     shelves.destroy_empty();
 }
 
-// Opens an empty shelf of these limits behind the others. Where none is opened, its disk is in the
+// Opens an empty shelf of these limits behind the others. Where none is opened, its disks are in the
 // rack.
-fn open_next<D: Disk, R: Rack<D>>(
+fn open_next<F: Disk, R: Rack<F>>(
     alloc: Global,
     setup: &Setup,
     directory: &str,
     rack: &mut R,
-    shelves: &mut Vec<Shelf<D, Counting>>,
+    shelves: &mut Vec<Shelf<Disks<F>, Counting>>,
     rules: Rules,
 ) -> Result<(), OpenCause>
     requires range { AreInRange rules }
     requires read { IsReadSetup (scripts_of setup.now) }
-    requires home { (R.view rack.old).out rules.number ≡ false }
-    ensures opened { OnOk result (OpensNext D.view R.tells D.tells (scripts_of setup.now) rules
+    requires home { (shelves_of (R.view rack.old)).out rules.number ≡ false }
+    ensures opened { OnOk result (OpensNext trio_view R.tells F.tells (scripts_of setup.now) rules
         shelves.old.items shelves.new.items (R.view rack.old) (R.view rack.new)) }
     ensures same { OnErr result (shelves.new.items ≡ shelves.old.items) }
     ensures given { OnErr result (GivesOne rules.number (R.view rack.old) (R.view rack.new)) }
-    ensures why { IsTrue R.tells → IsTrue D.tells →
-        IfErr result (IsRefusedBy ((R.view rack.old).holds rules.number)) }
-    ensures keeps { IsTrue R.tells → IsTrue D.tells → KeepsClosed (scripts_of setup.now) rules.number
-        ((R.view rack.old).holds rules.number) ((R.view rack.new).holds rules.number) result }
+    ensures why { IsTrue R.tells → IsTrue F.tells →
+        IfErr result (IsRefusedBy (R.view rack.old) rules.number) }
+    ensures keeps { IsTrue R.tells → IsTrue F.tells →
+        KeepsClosed (scripts_of setup.now) rules.number
+        ((shelves_of (R.view rack.old)).holds rules.number)
+        ((shelves_of (R.view rack.new)).holds rules.number) result }
     ensures disk { IsErrOf result OpenCause.Disk →
         FailedFor rules.number (R.view rack.old) (R.view rack.new) }
     ensures later { OnErr result
         (CountStays (R.view rack.old).faults 0 (R.view rack.new).faults 0) }
-    ensures asked { OnErr result (AsksForOne rules.number (R.view rack.old) (R.view rack.new)) }
+    ensures asked { OnErr result (AsksForSome rules.number (R.view rack.old) (R.view rack.new)) }
+    ensures asked_shut { IsErrOf result OpenCause.NotEmpty →
+        AsksForOne rules.number (R.view rack.old) (R.view rack.new) }
 {
     let shelf = opened(alloc, setup, directory, rack, rules)?;
     match shelves.push(shelf) {
@@ -90,30 +101,33 @@ fn open_next<D: Disk, R: Rack<D>>(
 
 // Opens empty shelves of the setup, from number 0 on. Where one is not opened, all disks go back to the
 // rack.
-fn open_all<D: Disk, R: Rack<D>>(
+fn open_all<F: Disk, R: Rack<F>>(
     alloc: Global,
     rack: &mut R,
     directory: &str,
     setup: &Setup,
     rules: Rules,
-) -> Result<Vec<Shelf<D, Counting>>, OpenFault>
+) -> Result<Vec<Shelf<Disks<F>, Counting>>, OpenFault>
     requires range { AreInRange rules }
     requires read { IsReadSetup (scripts_of setup.now) }
-    requires home { AreHome (R.view rack.old).out }
-    ensures opened { IfOk result (λ shelves. AreOpened D.view R.tells D.tells (scripts_of setup.now)
-        rules (R.view rack.old) rules.shelves shelves.items (R.view rack.new)) }
-    ensures closed { IsTrue R.tells → IsTrue D.tells →
-        IfErr result (λ e. IsClosedBy (R.view rack.old).holds rules.shelves e.shelf e.why) }
-    ensures keeps { IsTrue R.tells → IsTrue D.tells →
+    requires home { AreHome (shelves_of (R.view rack.old)).out }
+    ensures opened { IfOk result (λ shelves.
+        AreOpened trio_view R.tells F.tells (scripts_of setup.now) rules (R.view rack.old)
+        rules.shelves shelves.items (R.view rack.new)) }
+    ensures closed { IsTrue R.tells → IsTrue F.tells →
+        IfErr result (λ e. IsClosedBy (R.view rack.old) rules.shelves e.shelf e.why) }
+    ensures keeps { IsTrue R.tells → IsTrue F.tells →
         IfErr result (λ e. AllStayKept (scripts_of setup.now)
-        (R.view rack.old).holds (R.view rack.new).holds e.shelf e.why) }
-    ensures all_home { IfErr result (λ e. AreHome (R.view rack.new).out) }
+        (shelves_of (R.view rack.old)).holds (shelves_of (R.view rack.new)).holds e.shelf e.why) }
+    ensures all_home { IfErr result (λ e. AreHome (shelves_of (R.view rack.new)).out) }
     ensures disk { IfErr result (λ e. e.why ≡ OpenCause.Disk →
         FailedFor e.shelf (R.view rack.old) (R.view rack.new)) }
     ensures later { (R.view rack.old).faults ≤ (R.view rack.new).faults }
-    ensures failed_later { StaysUp (R.view rack.old).failed (R.view rack.new).failed }
+    ensures failed_later { FailuresStay (R.view rack.old) (R.view rack.new) }
     ensures asked { IfErr result (λ e.
         AsksUntil rules.shelves e.shelf (R.view rack.old) (R.view rack.new)) }
+    ensures asked_shut { IfErr result (λ e. e.why ≡ OpenCause.NotEmpty →
+        AsksForFirst (e.shelf + 1) (R.view rack.old) (R.view rack.new)) }
 {
     // A count is below 2^64, so it does not fall where those of the disks are added.
     let _count = rack.faults();
@@ -131,45 +145,48 @@ fn open_all<D: Disk, R: Rack<D>>(
 /// Opens empty shelves of the setup, from number 0 on, on the rack's disks of this directory, with
 /// workers that hold nothing. The limits are those of each shelf, but for its number.
 ///
-/// A disk that is not empty, or that fails, is told with the number of its shelf, and then all disks go
-/// back to the rack. Nothing was lost on any then, but on one of which a call failed, and nothing was
-/// written on those behind it, which are not even asked for.
-pub fn open_desk<'s, D: Disk, R: Rack<D>>(
+/// Each shelf has three disks. One that is not empty, or that fails, is told with the number of its shelf, and
+/// then all disks go back to the rack. Nothing was lost on any then, but on those of a shelf of which a call failed,
+/// and nothing was written on those behind them, which are not even asked for.
+pub fn open_desk<'s, F: Disk, R: Rack<F>>(
     alloc: Global,
     rack: &mut R,
     directory: &'s str,
     setup: Setup,
     rules: Rules,
-) -> Result<Desk<'s, D, R>, OpenFault>
+) -> Result<Desk<'s, F, R>, OpenFault>
     requires range { AreInRange rules }
     requires read { IsReadSetup (scripts_of setup) }
-    requires home { AreHome (R.view rack.old).out }
+    requires home { AreHome (shelves_of (R.view rack.old)).out }
     ensures setup { IfOk result (λ d. d.setup ≡ setup) }
-    ensures desk { IsTrue R.tells → IsTrue D.tells →
-        IfOk result (λ d. desk_of D.view (scripts_of d.setup) d.staff
+    ensures desk { IsTrue R.tells → IsTrue F.tells →
+        IfOk result (λ d. desk_of trio_view (scripts_of d.setup) d.staff
         ≡ first_desk (rules_at rules) (scripts_of setup) rules.shelves) }
     ensures count { IfOk result (λ d. length d.staff.shelves.items ≡ rules.shelves) }
-    ensures empty { IsTrue R.tells → IsTrue D.tells →
-        IfOk result (λ d. (k : ℕ) → k < rules.shelves → (R.view rack.old).holds k []) }
-    ensures sound { IfOk result (λ d. IsReady D.view D.tells (scripts_of d.setup) d.staff) }
-    ensures own { IsTrue R.tells → IsTrue D.tells →
-        IfOk result (λ d. IsOwn D.view D.tells d.staff) }
-    ensures home { IfOk result (λ d. IsHome d.staff.shelves.items (R.view rack.new).out) }
-    ensures closed { IsTrue R.tells → IsTrue D.tells →
-        IfErr result (λ e. IsClosedBy (R.view rack.old).holds rules.shelves e.shelf e.why) }
-    ensures keeps { IsTrue R.tells → IsTrue D.tells →
+    ensures empty { IsTrue R.tells → IsTrue F.tells →
+        IfOk result (λ d. (k : ℕ) → k < rules.shelves → MayBeBare (R.view rack.old) k) }
+    ensures sound { IfOk result (λ d. IsReady trio_view F.tells (scripts_of d.setup) d.staff) }
+    ensures own { IsTrue R.tells → IsTrue F.tells →
+        IfOk result (λ d. IsOwn trio_view F.tells d.staff) }
+    ensures home { IfOk result (λ d.
+        IsHome d.staff.shelves.items (shelves_of (R.view rack.new)).out) }
+    ensures closed { IsTrue R.tells → IsTrue F.tells →
+        IfErr result (λ e. IsClosedBy (R.view rack.old) rules.shelves e.shelf e.why) }
+    ensures keeps { IsTrue R.tells → IsTrue F.tells →
         IfErr result (λ e. AllStayKept (scripts_of setup)
-        (R.view rack.old).holds (R.view rack.new).holds e.shelf e.why) }
-    ensures all_home { IfErr result (λ e. AreHome (R.view rack.new).out) }
+        (shelves_of (R.view rack.old)).holds (shelves_of (R.view rack.new)).holds e.shelf e.why) }
+    ensures all_home { IfErr result (λ e. AreHome (shelves_of (R.view rack.new)).out) }
     ensures disk { IfErr result (λ e. e.why ≡ OpenCause.Disk →
         FailedFor e.shelf (R.view rack.old) (R.view rack.new)) }
     ensures later { (R.view rack.old).faults ≤ (R.view rack.new).faults }
-    ensures failed_later { StaysUp (R.view rack.old).failed (R.view rack.new).failed }
+    ensures failed_later { FailuresStay (R.view rack.old) (R.view rack.new) }
     ensures later_open { IfOk result (λ d. (R.view rack.old).faults
-        ≤ total (R.view rack.new).faults (faults_in D.view d.staff.shelves.items)) }
+        ≤ total (R.view rack.new).faults (faults_in trio_view d.staff.shelves.items)) }
     ensures asked { OnOk result (AsksForFirst rules.shelves (R.view rack.old) (R.view rack.new)) }
     ensures asked_until { IfErr result (λ e.
         AsksUntil rules.shelves e.shelf (R.view rack.old) (R.view rack.new)) }
+    ensures asked_shut { IfErr result (λ e. e.why ≡ OpenCause.NotEmpty →
+        AsksForFirst (e.shelf + 1) (R.view rack.old) (R.view rack.new)) }
 {
     match open_all(alloc, rack, directory, &setup, rules) {
         Ok(shelves) => Ok(Desk {
@@ -186,20 +203,23 @@ pub fn open_desk<'s, D: Disk, R: Rack<D>>(
     }
 }
 
-impl<'s, D: Disk, R: Rack<D>> Desk<'s, D, R> {
-    /// Closes the shelves, and gives their disks back to the rack. Each disk stands for the last book of its
-    /// shelf.
+impl<'s, F: Disk, R: Rack<F>> Desk<'s, F, R> {
+    /// Closes the shelves, and gives their disks back to the rack. They stand for the last books of their
+    /// shelves.
     pub fn close(self, rack: &mut R)
-        requires sound { IsReady D.view D.tells (scripts_of self.setup) self.staff }
-        requires home { IsHome self.staff.shelves.items (R.view rack.old).out }
-        ensures home { AreHome (R.view rack.new).out }
-        ensures books { IsTrue R.tells → IsTrue D.tells →
-            IsOwn D.view D.tells self.entry.staff → HoldTheBooks
-            (desk_of D.view (scripts_of self.entry.setup) self.entry.staff) (R.view rack.new).holds }
-        ensures later { total (R.view rack.old).faults (faults_in D.view self.entry.staff.shelves.items)
+        requires sound { IsReady trio_view F.tells (scripts_of self.setup) self.staff }
+        requires home { IsHome self.staff.shelves.items (shelves_of (R.view rack.old)).out }
+        ensures home { AreHome (shelves_of (R.view rack.new)).out }
+        ensures books { IsTrue R.tells → IsTrue F.tells →
+            IsOwn trio_view F.tells self.entry.staff → HoldTheBooks
+            (desk_of trio_view (scripts_of self.entry.setup) self.entry.staff)
+            (shelves_of (R.view rack.new)).holds }
+        ensures later { total (R.view rack.old).faults
+            (faults_in trio_view self.entry.staff.shelves.items)
             ≤ (R.view rack.new).faults }
-        ensures failed_later { StaysUp (R.view rack.old).failed (R.view rack.new).failed }
-        ensures others { LeaveOthers self.entry.staff.shelves.items (R.view rack.old) (R.view rack.new) }
+        ensures failed_later { FailuresStay (R.view rack.old) (R.view rack.new) }
+        ensures others { LeaveOthers self.entry.staff.shelves.items
+            (R.view rack.old) (R.view rack.new) }
         ensures asked { AsksForNone (R.view rack.old) (R.view rack.new) }
     {
         let Desk {

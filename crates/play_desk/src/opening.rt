@@ -1,28 +1,34 @@
-ghost use Rattle.std.specs.Prelude.{◌≡◌, ◌≤◌, ◌+◌, [], true, false, IsTrue, IfOk, IfErr, OnOk, OnErr, IsErrOf};
+ghost use Rattle.std.specs.Prelude.{◌≡◌, ◌≤◌, ◌<◌, ◌+◌, [], true, false, IsTrue, IfOk, IfErr, OnOk, OnErr, IsErrOf};
 ghost use Rattle.script_nodes.specs.Views.{scripts_of};
 ghost use Rattle.setup_reader.specs.Texts.{IsReadSetup};
 ghost use Rattle.web_disk.specs.View.{AreAmong};
+ghost use Rattle.disk_trio.specs.Trio.{trio_view};
+ghost use Rattle.server_limits.specs.Limits.{most_shelves};
+ghost use Rattle.trio_rack.specs.Trios.{shelves_of, AreFrom};
 ghost use Rattle.web_outside.specs.Causes.{Rose};
 ghost use Rattle.shelf.specs.Ranges.{AreInRange};
-ghost use Rattle.play_desk.specs.Asking.{AsksForNone, AsksForOne};
+ghost use Rattle.play_desk.specs.Asking.{AsksForNone, AsksForOne, AsksForSome};
 ghost use Rattle.play_desk.specs.Opening.{BeginsEmpty, CountRose, CountStays, FailedFor, Finds, GivesOne, GivesUnread, HasCrashed, IsNeverDamaged, IsNeverOther, IsOutside, KeepsBegun, KeepsOpened, LeavesNoRoom, OpensEmpty, OpensOne, StandsLost, StaysLost, TakesEmpty, TakesOrLeaves, TellsRoom, cause_of, disk_faults, faults_left, left_on, reopen_of};
+ghost use Rattle.shelf.specs.Opening.{IsOfNow};
 ghost use Rattle.shelf.specs.Owning.{IsOwnImage};
 ghost use Rattle.shelf.specs.Views.{IsInOrder, IsOwnShelf, book_in, rules_of};
 
+use disk_trio::Disks;
 use journal_spec::images_make_books;
 use play_steps::Reopen;
 use script_nodes::Setup;
 use shelf::{BeginFault, Rules, Shelf, a_reopened_shelf_has_crashed};
 use std::alloc::Global;
+use trio_rack::{give_trio, take_trio};
 use web_disk::{Disk, Rack, RackFault};
 use web_outside::Counting;
 
 /// Why a shelf was not opened.
 #[derive(Clone, Copy, Debug, PartialEq, Eq)]
 pub enum OpenCause {
-    /// The disk has bytes already.
+    /// One of the disks has bytes already.
     NotEmpty,
-    /// The rack or the disk failed.
+    /// The rack or a disk failed.
     Disk,
     /// What stands at this place of its journal is no record.
     Damaged { place: u64 },
@@ -56,32 +62,40 @@ impl OpenCause {
     }
 }
 
-/// The shelf whose disk is at fault, and why the desk was not opened.
+/// The shelf whose disks are at fault, and why the desk was not opened.
 #[derive(Clone, Copy, Debug, PartialEq, Eq)]
 pub struct OpenFault {
     pub shelf: u32,
     pub why: OpenCause,
 }
 
-// Takes the disk of this number out of the rack.
-fn taken<D: Disk, R: Rack<D>>(
+// Takes the disks of the shelf of this number out of the rack.
+fn taken<F: Disk, R: Rack<F>>(
     alloc: Global,
     directory: &str,
     rack: &mut R,
     number: u32,
-) -> Result<D, Reopen>
-    ensures images { IsTrue R.tells →
-        IfOk result (λ disk. AreAmong (D.view disk).images ((R.view rack.old).holds number)) }
-    ensures fresh { IfOk result (λ disk. (D.view disk).faults ≡ 0) }
+) -> Result<Disks<F>, Reopen>
+    requires { number < most_shelves }
+    ensures unopened { IfOk result (λ disks. disks.known ≡ false) }
+    ensures images { IsTrue R.tells → IfOk result (λ disks.
+        AreAmong (trio_view disks).images ((shelves_of (R.view rack.old)).holds number)) }
+    ensures each { IsTrue R.tells →
+        IfOk result (λ disks. AreFrom (R.view rack.old) number disks) }
+    ensures left { IsTrue R.tells → OnErr result (AreAmong
+        ((shelves_of (R.view rack.new)).holds number)
+        ((shelves_of (R.view rack.old)).holds number)) }
+    ensures fresh { IfOk result (λ disks. (trio_view disks).faults ≡ 0) }
     ensures rack { TakesOrLeaves number result (R.view rack.old) (R.view rack.new) }
     ensures disk { IsErrOf result Reopen.Disk →
         FailedFor number (R.view rack.old) (R.view rack.new) }
     ensures later { (R.view rack.old).faults ≤ (R.view rack.new).faults }
     ensures whole { IfErr result IsOutside }
-    ensures asked { AsksForOne number (R.view rack.old) (R.view rack.new) }
+    ensures asked { AsksForSome number (R.view rack.old) (R.view rack.new) }
+    ensures asked_all { OnOk result (AsksForOne number (R.view rack.old) (R.view rack.new)) }
 {
-    match rack.take(alloc, directory, number) {
-        Ok(disk) => Ok(disk),
+    match take_trio(rack, alloc, directory, number) {
+        Ok(disks) => Ok(disks),
         Err(RackFault::Failed) => Err(Reopen::Disk),
         Err(RackFault::Memory) => Err(Reopen::Memory),
     }
@@ -100,193 +114,209 @@ fn why_not(fault: BeginFault) -> Reopen
     }
 }
 
-// Begins the shelf on its disk, which goes back to the rack where there is no shelf.
-fn begun<D: Disk, R: Rack<D>>(
+// Begins the shelf on its disks, which go back to the rack where there is no shelf.
+fn begun<F: Disk, R: Rack<F>>(
     alloc: Global,
     setup: &Setup,
     rack: &mut R,
-    disk: D,
+    disks: Disks<F>,
     nonces: Counting,
     rules: Rules,
-) -> Result<Shelf<D, Counting>, Reopen>
+) -> Result<Shelf<Disks<F>, Counting>, Reopen>
+    requires unopened { disks.known ≡ false }
     requires range { AreInRange rules }
     requires read { IsReadSetup (scripts_of setup.now) }
-    ensures in_order { IfOk result (IsInOrder D.view D.tells) }
+    ensures in_order { IfOk result (IsInOrder trio_view F.tells) }
     ensures rules { IfOk result (λ s. s.rules ≡ rules) }
     ensures nonces { IfOk result (λ s. s.nonces ≡ nonces) }
-    ensures found { IsTrue D.tells →
-        Finds D.view (scripts_of setup.now) rules.number (D.view disk).images result }
-    ensures empty { IsTrue D.tells → (D.view disk).seen ≡ [] →
-        BeginsEmpty D.view (scripts_of setup.now) rules result }
-    ensures own { IsTrue D.tells →
-        IsOwnImage rules.number (D.view disk).seen →
-        IfOk result (IsOwnShelf D.view D.tells) }
-    ensures keeps { IsTrue R.tells → IsTrue D.tells → (R.view rack.old).out rules.number ≡ true →
-        KeepsBegun D.view (scripts_of setup.now) rules.number
-        (D.view disk) (R.view rack.new).holds result }
-    ensures left { IsTrue R.tells → IsTrue D.tells → (R.view rack.old).out rules.number ≡ true →
-        StaysLost (scripts_of setup.now) rules.number (D.view disk)
-        (left_on D.view rules.number (R.view rack.new).holds result) }
-    ensures full { IsTrue R.tells → IsTrue D.tells → (R.view rack.old).out rules.number ≡ true →
+    ensures found { IsTrue F.tells → IsOfNow (trio_view disks) →
+        Finds trio_view (scripts_of setup.now) rules.number (trio_view disks).images result }
+    ensures empty { IsTrue F.tells → (trio_view disks).seen ≡ [] →
+        BeginsEmpty trio_view (scripts_of setup.now) rules result }
+    ensures own { IsTrue F.tells →
+        IsOwnImage rules.number (trio_view disks).seen →
+        IfOk result (IsOwnShelf trio_view F.tells) }
+    ensures keeps { IsTrue R.tells → IsTrue F.tells →
+        KeepsBegun trio_view (scripts_of setup.now) rules.number
+        (trio_view disks) (shelves_of (R.view rack.new)).holds result }
+    ensures left { IsTrue R.tells → IsTrue F.tells → IsOfNow (trio_view disks) →
+        StaysLost (scripts_of setup.now) rules.number (trio_view disks)
+        (left_on trio_view rules.number (shelves_of (R.view rack.new)).holds result) }
+    ensures full { IsTrue R.tells → IsTrue F.tells →
         LeavesNoRoom (scripts_of setup.now) rules.number
-        ((R.view rack.new).holds rules.number) result }
+        ((shelves_of (R.view rack.new)).holds rules.number) result }
     ensures kept { OnOk result (rack.new ≡ rack.old) }
     ensures given { OnErr result (GivesOne rules.number (R.view rack.old) (R.view rack.new)) }
     ensures disk { IsErrOf result Reopen.Disk →
-        CountRose (R.view rack.old).faults (D.view disk).faults
-        (R.view rack.new).faults (faults_left D.view result) }
+        CountRose (R.view rack.old).faults (trio_view disks).faults
+        (R.view rack.new).faults (faults_left trio_view result) }
     ensures here { IsErrOf result Reopen.Disk →
-        Rose ((R.view rack.old).failed rules.number + (D.view disk).faults)
-        ((R.view rack.new).failed rules.number) }
-    ensures later { CountStays (R.view rack.old).faults (D.view disk).faults
-        (R.view rack.new).faults (faults_left D.view result) }
+        Rose ((shelves_of (R.view rack.old)).failed rules.number + (trio_view disks).faults)
+        ((shelves_of (R.view rack.new)).failed rules.number) }
+    ensures later { CountStays (R.view rack.old).faults (trio_view disks).faults
+        (R.view rack.new).faults (faults_left trio_view result) }
     ensures asked { AsksForNone (R.view rack.old) (R.view rack.new) }
 {
-    match Shelf::begin(alloc, disk, nonces, setup, rules) {
+    match Shelf::begin(alloc, disks, nonces, setup, rules) {
         Ok(shelf) => Ok(shelf),
-        Err((fault, disk, _)) => {
-            rack.give(rules.number, disk);
+        Err((fault, disks, _)) => {
+            give_trio(rack, rules.number, disks);
             Err(why_not(fault))
         }
     }
 }
 
-/// Closes the shelf, and gives its disk back to the rack.
-pub fn put_back<D: Disk, R: Rack<D>>(rack: &mut R, shelf: Shelf<D, Counting>) -> Counting
-    requires { (R.view rack.old).out shelf.rules.number ≡ true }
+/// Closes the shelf, and gives its disks back to the rack.
+pub fn put_back<F: Disk, R: Rack<F>>(rack: &mut R, shelf: Shelf<Disks<F>, Counting>) -> Counting
+    requires low { shelf.rules.number < most_shelves }
     ensures nonces { result ≡ shelf.nonces }
-    ensures images { IsTrue R.tells →
-        AreAmong ((R.view rack.new).holds shelf.rules.number) (D.view shelf.journal.disk).images }
-    ensures counted { (R.view rack.new).failed shelf.rules.number
-        ≡ (R.view rack.old).failed shelf.rules.number + (D.view shelf.journal.disk).faults }
+    ensures images { IsTrue R.tells → IsTrue F.tells →
+        AreAmong ((shelves_of (R.view rack.new)).holds shelf.rules.number)
+        (trio_view shelf.journal.disk).images }
+    ensures counted { (shelves_of (R.view rack.old)).failed shelf.rules.number
+        + (trio_view shelf.journal.disk).faults
+        ≤ (shelves_of (R.view rack.new)).failed shelf.rules.number }
     ensures given { GivesOne shelf.rules.number (R.view rack.old) (R.view rack.new) }
-    ensures later { CountStays (R.view rack.old).faults (D.view shelf.journal.disk).faults
+    ensures later { CountStays (R.view rack.old).faults (trio_view shelf.journal.disk).faults
         (R.view rack.new).faults 0 }
     ensures asked { AsksForNone (R.view rack.old) (R.view rack.new) }
 {
     let number = shelf.rules().number;
-    let (disk, nonces) = shelf.close();
-    rack.give(number, disk);
+    let (disks, nonces) = shelf.close();
+    give_trio(rack, number, disks);
     nonces
 }
 
-/// Lets the disk of the shelf crash, and opens the shelf again with the setup on what is left there. It goes
+/// Lets the disks of the shelf crash, and opens the shelf again with the setup on what is left there. It goes
 /// on with the same nonces.
-pub fn reopened<D: Disk, R: Rack<D>>(
+pub fn reopened<F: Disk, R: Rack<F>>(
     alloc: Global,
     setup: &Setup,
     directory: &str,
     rack: &mut R,
-    shelf: Shelf<D, Counting>,
-) -> Result<Shelf<D, Counting>, Reopen>
-    requires in_order { IsInOrder D.view D.tells shelf }
+    shelf: Shelf<Disks<F>, Counting>,
+) -> Result<Shelf<Disks<F>, Counting>, Reopen>
+    requires in_order { IsInOrder trio_view F.tells shelf }
     requires read { IsReadSetup (scripts_of setup.now) }
-    requires out { (R.view rack.old).out shelf.rules.number ≡ true }
-    ensures in_order { IfOk result (IsInOrder D.view D.tells) }
+    ensures in_order { IfOk result (IsInOrder trio_view F.tells) }
     ensures rules { IfOk result (λ s. s.rules ≡ shelf.rules) }
     ensures nonces { IfOk result (λ s. s.nonces ≡ shelf.nonces) }
-    ensures crashed { IsTrue R.tells → IsTrue D.tells →
-        IsOwnShelf D.view D.tells shelf →
-        IfOk result (HasCrashed D.view (scripts_of setup.now) shelf) }
-    ensures own { IsTrue R.tells → IsTrue D.tells →
-        IsOwnShelf D.view D.tells shelf →
-        IfOk result (IsOwnShelf D.view D.tells) }
-    ensures left { IsTrue R.tells → IsTrue D.tells →
-        IsOwnShelf D.view D.tells shelf →
+    ensures crashed { IsTrue R.tells → IsTrue F.tells →
+        IsOwnShelf trio_view F.tells shelf →
+        IfOk result (HasCrashed trio_view (scripts_of setup.now) shelf) }
+    ensures own { IsTrue R.tells → IsTrue F.tells →
+        IsOwnShelf trio_view F.tells shelf →
+        IfOk result (IsOwnShelf trio_view F.tells) }
+    ensures left { IsTrue R.tells → IsTrue F.tells →
+        IsOwnShelf trio_view F.tells shelf →
         StandsLost (rules_of shelf.rules) (scripts_of setup.now)
-        shelf.rules.number (left_on D.view shelf.rules.number (R.view rack.new).holds result)
-        (book_in D.view shelf) }
-    ensures room { IsTrue R.tells → IsTrue D.tells → IsOwnShelf D.view D.tells shelf →
+        shelf.rules.number
+        (left_on trio_view shelf.rules.number (shelves_of (R.view rack.new)).holds result)
+        (book_in trio_view shelf) }
+    ensures room { IsTrue R.tells → IsTrue F.tells → IsOwnShelf trio_view F.tells shelf →
         IfErr result (TellsRoom (rules_of shelf.rules) (scripts_of setup.now)
-        shelf.rules.number ((R.view rack.new).holds shelf.rules.number) (book_in D.view shelf)) }
-    ensures damaged { IsTrue R.tells → IsTrue D.tells → IsNeverDamaged result }
-    ensures other { IsTrue R.tells → IsTrue D.tells → IsNeverOther result }
+        shelf.rules.number ((shelves_of (R.view rack.new)).holds shelf.rules.number)
+        (book_in trio_view shelf)) }
+    ensures damaged { IsTrue R.tells → IsTrue F.tells → IsNeverDamaged result }
+    ensures other { IsTrue R.tells → IsTrue F.tells → IsNeverOther result }
     ensures rack { OpensOne shelf.rules.number result (R.view rack.old) (R.view rack.new) }
     ensures disk { IsErrOf result Reopen.Disk →
-        CountRose (R.view rack.old).faults (D.view shelf.journal.disk).faults
-        (R.view rack.new).faults (faults_left D.view result) }
+        CountRose (R.view rack.old).faults (trio_view shelf.journal.disk).faults
+        (R.view rack.new).faults (faults_left trio_view result) }
     ensures here { IsErrOf result Reopen.Disk →
-        Rose ((R.view rack.old).failed shelf.rules.number + (D.view shelf.journal.disk).faults)
-        ((R.view rack.new).failed shelf.rules.number) }
-    ensures later { CountStays (R.view rack.old).faults (D.view shelf.journal.disk).faults
-        (R.view rack.new).faults (faults_left D.view result) }
-    ensures asked { AsksForOne shelf.rules.number (R.view rack.old) (R.view rack.new) }
+        Rose ((shelves_of (R.view rack.old)).failed shelf.rules.number
+        + (trio_view shelf.journal.disk).faults)
+        ((shelves_of (R.view rack.new)).failed shelf.rules.number) }
+    ensures later { CountStays (R.view rack.old).faults (trio_view shelf.journal.disk).faults
+        (R.view rack.new).faults (faults_left trio_view result) }
+    ensures asked { AsksForSome shelf.rules.number (R.view rack.old) (R.view rack.new) }
 {
     images_make_books();
-    a_reopened_shelf_has_crashed::<D>();
+    a_reopened_shelf_has_crashed::<Disks<F>>();
     let rules = shelf.rules();
     let nonces = put_back(rack, shelf);
-    let disk = taken(alloc, directory, rack, rules.number)?;
-    begun(alloc, setup, rack, disk, nonces, rules)
+    let disks = taken(alloc, directory, rack, rules.number)?;
+    begun(alloc, setup, rack, disks, nonces, rules)
 }
 
-// Takes the disk of this number, which has to be empty; any other goes back to the rack.
-fn taken_empty<D: Disk, R: Rack<D>>(
+// Takes the disks of the shelf of this number, which have to be empty; any others go back to the rack.
+fn taken_empty<F: Disk, R: Rack<F>>(
     alloc: Global,
     directory: &str,
     rack: &mut R,
     number: u32,
-) -> Result<D, OpenCause>
-    requires { (R.view rack.old).out number ≡ false }
-    ensures empty { IsTrue R.tells → IsTrue D.tells →
-        TakesEmpty D.view ((R.view rack.old).holds number) result }
-    ensures images { IsTrue R.tells → GivesUnread D.view
-        ((R.view rack.old).holds number) ((R.view rack.new).holds number) result }
+) -> Result<Disks<F>, OpenCause>
+    requires low { number < most_shelves }
+    requires home { (shelves_of (R.view rack.old)).out number ≡ false }
+    ensures unopened { IfOk result (λ disks. disks.known ≡ false) }
+    ensures empty { IsTrue R.tells → IsTrue F.tells →
+        TakesEmpty trio_view (R.view rack.old) number result }
+    ensures images { IsTrue R.tells → IsTrue F.tells → GivesUnread trio_view
+        ((shelves_of (R.view rack.old)).holds number)
+        ((shelves_of (R.view rack.new)).holds number) result }
     ensures rack { OpensOne number result (R.view rack.old) (R.view rack.new) }
     ensures disk { IsErrOf result OpenCause.Disk →
         FailedFor number (R.view rack.old) (R.view rack.new) }
     ensures later { CountStays (R.view rack.old).faults 0
-        (R.view rack.new).faults (disk_faults D.view result) }
+        (R.view rack.new).faults (disk_faults trio_view result) }
     ensures rack_later { OnOk result ((R.view rack.old).faults ≤ (R.view rack.new).faults) }
-    ensures asked { AsksForOne number (R.view rack.old) (R.view rack.new) }
+    ensures asked { AsksForSome number (R.view rack.old) (R.view rack.new) }
+    ensures asked_all { OnOk result (AsksForOne number (R.view rack.old) (R.view rack.new)) }
+    ensures asked_shut { IsErrOf result OpenCause.NotEmpty →
+        AsksForOne number (R.view rack.old) (R.view rack.new) }
 {
-    let mut disk = match taken(alloc, directory, rack, number) {
-        Ok(disk) => disk,
+    let mut disks = match taken(alloc, directory, rack, number) {
+        Ok(disks) => disks,
         Err(why) => return Err(OpenCause::of(why)),
     };
-    match disk.len() {
-        Ok(0) => Ok(disk),
-        Ok(_) => {
-            rack.give(number, disk);
+    match disks.are_empty() {
+        Ok(true) => Ok(disks),
+        Ok(false) => {
+            give_trio(rack, number, disks);
             Err(OpenCause::NotEmpty)
         }
         Err(_) => {
-            rack.give(number, disk);
+            give_trio(rack, number, disks);
             Err(OpenCause::Disk)
         }
     }
 }
 
-/// Opens an empty shelf, on a disk that has to be empty; any other goes back to the rack.
-pub fn opened<D: Disk, R: Rack<D>>(
+/// Opens an empty shelf, on disks that have to be empty; any others go back to the rack.
+pub fn opened<F: Disk, R: Rack<F>>(
     alloc: Global,
     setup: &Setup,
     directory: &str,
     rack: &mut R,
     rules: Rules,
-) -> Result<Shelf<D, Counting>, OpenCause>
+) -> Result<Shelf<Disks<F>, Counting>, OpenCause>
     requires range { AreInRange rules }
     requires read { IsReadSetup (scripts_of setup.now) }
-    requires home { (R.view rack.old).out rules.number ≡ false }
-    ensures in_order { IfOk result (IsInOrder D.view D.tells) }
+    requires home { (shelves_of (R.view rack.old)).out rules.number ≡ false }
+    ensures in_order { IfOk result (IsInOrder trio_view F.tells) }
     ensures rules { IfOk result (λ s. s.rules ≡ rules) }
-    ensures empty { IsTrue R.tells → IsTrue D.tells →
-        OpensEmpty D.view (scripts_of setup.now) rules ((R.view rack.old).holds rules.number) result }
-    ensures own { IsTrue R.tells → IsTrue D.tells →
-        IfOk result (IsOwnShelf D.view D.tells) }
-    ensures keeps { IsTrue R.tells → IsTrue D.tells →
-        KeepsOpened D.view (scripts_of setup.now) rules.number
-        ((R.view rack.old).holds rules.number) (R.view rack.new).holds result }
+    ensures empty { IsTrue R.tells → IsTrue F.tells →
+        OpensEmpty trio_view (scripts_of setup.now) rules (R.view rack.old) result }
+    ensures own { IsTrue R.tells → IsTrue F.tells →
+        IfOk result (IsOwnShelf trio_view F.tells) }
+    ensures keeps { IsTrue R.tells → IsTrue F.tells →
+        KeepsOpened trio_view (scripts_of setup.now) rules.number
+        ((shelves_of (R.view rack.old)).holds rules.number)
+        (shelves_of (R.view rack.new)).holds result }
     ensures rack { OpensOne rules.number result (R.view rack.old) (R.view rack.new) }
     ensures disk { IsErrOf result OpenCause.Disk →
         FailedFor rules.number (R.view rack.old) (R.view rack.new) }
     ensures later { CountStays (R.view rack.old).faults 0
-        (R.view rack.new).faults (faults_left D.view result) }
+        (R.view rack.new).faults (faults_left trio_view result) }
     ensures rack_later { OnOk result ((R.view rack.old).faults ≤ (R.view rack.new).faults) }
-    ensures asked { AsksForOne rules.number (R.view rack.old) (R.view rack.new) }
+    ensures asked { AsksForSome rules.number (R.view rack.old) (R.view rack.new) }
+    ensures asked_all { OnOk result
+        (AsksForOne rules.number (R.view rack.old) (R.view rack.new)) }
+    ensures asked_shut { IsErrOf result OpenCause.NotEmpty →
+        AsksForOne rules.number (R.view rack.old) (R.view rack.new) }
 {
-    let disk = taken_empty(alloc, directory, rack, rules.number)?;
-    match begun(alloc, setup, rack, disk, Counting::new(), rules) {
+    let disks = taken_empty(alloc, directory, rack, rules.number)?;
+    match begun(alloc, setup, rack, disks, Counting::new(), rules) {
         Ok(shelf) => Ok(shelf),
         Err(why) => Err(OpenCause::of(why)),
     }

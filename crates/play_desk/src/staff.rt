@@ -1,15 +1,17 @@
 ghost use Rattle.std.specs.Prelude.{◌≡◌, ◌≢◌, ◌<◌, ◌^◌, IfOk, IfSome, is_some, length, map, option_map, replicate, slice_get, slice_set, Some, None};
 ghost use Rattle.script_nodes.specs.Views.{library_of};
 ghost use Rattle.page_names.specs.Views.{target_of};
+ghost use Rattle.disk_trio.specs.Trio.{trio_view};
 ghost use Rattle.shelf.specs.Visits.{IsRunnable, ticket_of};
 ghost use Rattle.play_desk.specs.Staff.{KeepsOthers};
 ghost use Rattle.shelf.specs.Views.{IsRunIfAny};
 ghost use Rattle.play_desk.specs.Desk as spec;
 ghost use Rattle.play_desk.specs.Desk.{without_shelf};
 ghost use Rattle.play_desk.specs.Target.{shelf_for};
-ghost use Rattle.play_desk.specs.Staff.{HoldsTicket, IsFit, KeepsOwn, PublishesTicket, StaysThere, SweepsShelf, TakesTicket, held_by, place_of};
+ghost use Rattle.play_desk.specs.Staff.{HoldsTicket, IsFit, KeepsOwn, CompactsShelf, PublishesTicket, StaysThere, SweepsShelf, TakesTicket, held_by, place_of};
 
 use crate::answer::answer_to;
+use disk_trio::Disks;
 use http_forms::path_and_query;
 use machine_states::Segment;
 use page_names::{Target, parse_target};
@@ -183,4 +185,20 @@ pub fn sweep<D: Disk>(
     ensures there { StaysThere D.view staff.old staff.new }
 {
     staff.shelves[place as usize].sweep(alloc, tick)
+}
+
+/// Puts a file in the place of the shelf's that has no more than the shelf needs, and tells how long that is.
+pub fn compact<F: Disk>(
+    alloc: Global,
+    staff: &mut Staff<Disks<F>>,
+    place: u32,
+) -> Result<u64, Reply>
+    requires place { place < length staff.old.shelves.items }
+    requires fit { IsFit trio_view F.tells staff.old }
+    ensures step { CompactsShelf trio_view staff.old place result staff.new }
+    ensures fit { IsFit trio_view F.tells staff.new }
+    ensures own { KeepsOwn trio_view F.tells staff.old staff.new }
+    ensures there { StaysThere trio_view staff.old staff.new }
+{
+    staff.shelves[place as usize].compact(alloc)
 }

@@ -3,9 +3,9 @@ use Rattle.std.proofs.Common.{◌≡◌, ◌≤◌, ◌⊎◌, inl, inr, ℕ, Li
 use Rattle.std.specs.declared.alloc.Global.{Global}
 use Rattle.web_outside.specs.Causes.{Rose}
 use Rattle.script_value.specs.declared.outcome.Reply.{Reply}
-use Rattle.play_steps.specs.Reports.{take_report}
+use Rattle.play_steps.specs.Reports.{take_report, compact_report}
 use Rattle.play_steps.specs.Rules.{StageRules, Call, answered, event, Comes, Crashes}
-use Rattle.play_steps.specs.Step.{Step, take, publish, get, crash, crash_edited, is_crash, is_told, crashed_at}
+use Rattle.play_steps.specs.Step.{Step, take, publish, get, crash, compact, crash_edited, is_crash, is_told, crashed_at}
 use Rattle.play_steps.specs.Transcript.{Run, called, went, got}
 use Rattle.play_steps.specs.Played.{Spot, HasRisen, Came, TellsCrash, Performs}
 use Rattle.play_steps.specs.declared.report.Report.{Report}
@@ -69,6 +69,11 @@ pub crashed : (r : StageRules) (s t : Spot r) (shelf live : ℕ)
     → Called r (r.crash s.state shelf) s live t → Came r s (crash shelf) (Reopened shelf live ∷ []) t
 crashed r s t shelf live call =
     record { fates = call.fates; is = call.is (λ x. went r (Reopened shelf x ∷ [])); risen = call.risen }
+
+pub compacted : (r : StageRules) (s t : Spot r) (shelf : ℕ) (result : Result ℕ Reply)
+    → Called r (r.compact s.state shelf) s result t → Came r s (compact shelf) (compact_report shelf result ∷ []) t
+compacted r s t shelf result call =
+    record { fates = call.fates; is = call.is (λ x. went r (compact_report shelf x ∷ [])); risen = call.risen }
 
 -- what a step told is told, or there was no memory for it
 pub tells : (r : StageRules) (left : r.State → ℕ → Reopen → Type 0) (s t : Spot r) (step : Step) (told : List Report) (result : Result (Vec Report Global) Halt)

@@ -7,7 +7,7 @@ use Rattle.script_value.specs.Pieces.{cut_at, behind, number_below}
 use Rattle.script_value.proofs.Options.{bound}
 use Rattle.script_value.proofs.Cuts.{behind_spelled, cut_spelled}
 use Rattle.script_value.proofs.Numerals.{number_spelled}
-use Rattle.play_steps.specs.Step.{Step, take, publish, get, tick, crash, edit, crash_edited, worker_of, is_target, aim_of, take_of, publish_of, get_of, tick_of, crash_of, first_of, step_of, line_of, workers, IsStep}
+use Rattle.play_steps.specs.Step.{Step, take, publish, get, tick, crash, compact, edit, crash_edited, worker_of, is_target, aim_of, take_of, publish_of, get_of, tick_of, crash_of, compact_of, first_of, step_of, line_of, workers, IsStep}
 
 -- a step of one line
 abbrev pub IsPlain : Step → Type 0
@@ -82,6 +82,16 @@ crash_spelled line s e =
     subst (λ (x : Step). IsLine line x) same
     (record { spelled = behind_spelled (codes "crash ") line rest.0 rest.1 ∙ ap (λ ds. codes "crash " ++ ds) number.0; step = number.1; plain = tt })
 
+compact_spelled : (line : List ℕ) (s : Step) → compact_of line ≡ Some s → IsLine line s
+unfolding compact_of
+compact_spelled line s e =
+    let rest = bound (behind (codes "compact ") line) _ s e in
+    let shelf = bound (number_below (2 ^ 32) rest.0) _ s rest.2 in
+    let number = number_spelled (2 ^ 32) rest.0 shelf.0 (omega arith) shelf.1 in
+    let same : compact shelf.0 ≡ s = cc in
+    subst (λ (x : Step). IsLine line x) same
+    (record { spelled = behind_spelled (codes "compact ") line rest.0 rest.1 ∙ ap (λ ds. codes "compact " ++ ds) number.0; step = number.1; plain = tt })
+
 either : (a b : Option Step) (s : Step) → first_of a b ≡ Some s → (a ≡ Some s) ⊎ (b ≡ Some s)
 either None b s e = inr e
 either (Some t) b s e = inl e
@@ -92,10 +102,12 @@ step_spelled line s e =
     ⊎_elim (take_spelled line s)
     (λ no_take. ⊎_elim (publish_spelled line s)
     (λ no_publish. ⊎_elim (get_spelled line s)
-    (λ no_get. ⊎_elim (tick_spelled line s) (crash_spelled line s) (either (tick_of line) (crash_of line) s no_get))
+    (λ no_get. ⊎_elim (tick_spelled line s)
+    (λ no_tick. ⊎_elim (crash_spelled line s) (compact_spelled line s) (either (crash_of line) (compact_of line) s no_tick))
+    (either (tick_of line) (first_of (crash_of line) (compact_of line)) s no_get))
     (either (get_of line) ticks s no_publish))
     (either (publish_of line) (first_of (get_of line) ticks) s no_take))
     (either (take_of line) (first_of (publish_of line) (first_of (get_of line) ticks)) s e)
   where
     ticks : Option Step
-    ticks = first_of (tick_of line) (crash_of line)
+    ticks = first_of (tick_of line) (first_of (crash_of line) (compact_of line))

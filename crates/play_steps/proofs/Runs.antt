@@ -5,7 +5,7 @@ use Rattle.std.specs.Io.KnownBytes.{Appends}
 use Rattle.web_outside.specs.Pieces.{AppendsPart}
 use Rattle.web_outside.proofs.Writes.{appends_none, appends_then, longer_part, whole_part}
 use Rattle.play_steps.specs.Rules.{StageRules}
-use Rattle.play_steps.specs.Step.{Step, take, publish, get, tick, crash, edit, crash_edited, is_told, lines_in, with_crashes}
+use Rattle.play_steps.specs.Step.{Step, take, publish, get, tick, crash, compact, edit, crash_edited, is_told, lines_in, with_crashes}
 use Rattle.play_steps.specs.Texts.{report_text, print}
 use Rattle.play_steps.specs.Transcript.{Run, went, stopped, behind, goes_on, done, bad_line, transcript, fits, performed, text_of}
 use Rattle.play_steps.specs.Played.{Scene, Spot, HasRisen, Crashed, Goes, Plays, Halts, Loses, Waits, HaltsBy, IsUntried, Stops, Turns, TurnsEdit, Leaves, end_of}
@@ -316,6 +316,7 @@ untried r left_of all start here there number (publish worker) left why is same 
 untried r left_of all start here there number (get worker target) left why is same reached = absurd is
 untried r left_of all start here there number (tick time) left why is same reached = absurd is
 untried r left_of all start here there number (crash shelf) left why is same reached = absurd is
+untried r left_of all start here there number (compact shelf) left why is same reached = absurd is
 untried r left_of all start here there number (crash_edited shelf) left why is same reached = absurd is
 
 -- the run stopped at a step, of which nothing was told
@@ -368,6 +369,7 @@ first_told (take worker target) left known = refl
 first_told (publish worker) left known = refl
 first_told (get worker target) left known = refl
 first_told (tick time) left known = refl
+first_told (compact shelf) left known = refl
 first_told (crash shelf) left known = absurd (let no : ⊥ = cc in no)
 first_told (edit name text) left known = absurd (let no : ⊥ = cc in no)
 first_told (crash_edited shelf) left known = absurd (let no : ⊥ = cc in no)
@@ -378,6 +380,7 @@ rest_told (Some (take worker target)) left known = known
 rest_told (Some (publish worker)) left known = known
 rest_told (Some (get worker target)) left known = known
 rest_told (Some (tick time)) left known = known
+rest_told (Some (compact shelf)) left known = known
 rest_told (Some (crash shelf)) left known = absurd (let no : ⊥ = cc in no)
 rest_told (Some (edit name text)) left known = absurd (let no : ⊥ = cc in no)
 rest_told (Some (crash_edited shelf)) left known = absurd (let no : ⊥ = cc in no)
@@ -402,6 +405,7 @@ crashes_told false shelves (Some (take worker target) ∷ steps) known = crashes
 crashes_told false shelves (Some (publish worker) ∷ steps) known = crashes_told false shelves steps known
 crashes_told false shelves (Some (get worker target) ∷ steps) known = crashes_told false shelves steps known
 crashes_told false shelves (Some (tick time) ∷ steps) known = crashes_told false shelves steps known
+crashes_told false shelves (Some (compact shelf) ∷ steps) known = crashes_told false shelves steps known
 crashes_told false shelves (Some (crash shelf) ∷ steps) known = absurd (let no : ⊥ = cc in no)
 crashes_told false shelves (Some (edit name text) ∷ steps) known = absurd (let no : ⊥ = cc in no)
 crashes_told false shelves (Some (crash_edited shelf) ∷ steps) known = absurd (let no : ⊥ = cc in no)

@@ -13,7 +13,7 @@ use Rattle.script_value.specs.Texts.{lacks}
 use Rattle.script_value.proofs.Options.{bound}
 use Rattle.script_value.proofs.Cuts.{behind_spelled, cut_spelled, cut_found, lacking}
 use Rattle.script_value.proofs.Numerals.{number_spelled, number_found, decimal_digits}
-use Rattle.play_steps.specs.Step.{Step, take, publish, get, tick, crash, edit, crash_edited, is_target, is_target_byte, aim_of, take_of, publish_of, get_of, tick_of, crash_of, step_of, edit_head, first_step, steps_of, line_of, lines_in, lines_of, newlines, workers, IsStep, IsWithin, AreSteps}
+use Rattle.play_steps.specs.Step.{Step, take, publish, get, tick, crash, compact, edit, crash_edited, is_target, is_target_byte, aim_of, take_of, publish_of, get_of, tick_of, crash_of, compact_of, step_of, edit_head, first_step, steps_of, line_of, lines_in, lines_of, newlines, workers, IsStep, IsWithin, AreSteps}
 use Rattle.play_steps.specs.declared.step.Step as code
 use Rattle.play_steps.specs.Views.{meaning, step_found as read_as}
 use Rattle.play_steps.specs.Laws.{LinesAreSteps, LinesAreCounted}
@@ -104,12 +104,13 @@ aim_found worker target small is =
     rw (parts, number, is) refl
 
 step_found : (s : Step) → IsPlain s → IsStep s → step_of (line_of s) ≡ Some s
-unfolding step_of take_of publish_of get_of tick_of crash_of
+unfolding step_of take_of publish_of get_of tick_of crash_of compact_of
 step_found (take worker target) plain is = let aim = aim_found worker target is.0 is.1 in rw aim refl
 step_found (publish worker) plain is = let number = number_found workers worker (omega arith) is in rw number refl
 step_found (get worker target) plain is = let aim = aim_found worker target is.0 is.1 in rw aim refl
 step_found (tick time) plain is = let number = number_found (2 ^ 62) time (omega arith) is in rw number refl
 step_found (crash shelf) plain is = let number = number_found (2 ^ 32) shelf (omega arith) is in rw number refl
+step_found (compact shelf) plain is = let number = number_found (2 ^ 32) shelf (omega arith) is in rw number refl
 step_found (edit name text) plain is = absurd plain
 step_found (crash_edited shelf) plain is = absurd plain
 
@@ -121,6 +122,7 @@ no_head (publish worker) plain = refl
 no_head (get worker target) plain = refl
 no_head (tick time) plain = refl
 no_head (crash shelf) plain = refl
+no_head (compact shelf) plain = refl
 no_head (edit name text) plain = absurd plain
 no_head (crash_edited shelf) plain = absurd plain
 
@@ -149,6 +151,7 @@ lineless (publish worker) plain is = digits_lack worker (omega arith)
 lineless (get worker target) plain is = aim_lacks worker target is.0 is.1
 lineless (tick time) plain is = digits_lack time (omega arith)
 lineless (crash shelf) plain is = digits_lack shelf (omega arith)
+lineless (compact shelf) plain is = digits_lack shelf (omega arith)
 lineless (edit name text) plain is = absurd plain
 lineless (crash_edited shelf) plain is = absurd plain
 
@@ -193,6 +196,7 @@ lines_are_counted (publish worker) is = plain_counted (publish worker) tt is
 lines_are_counted (get worker target) is = plain_counted (get worker target) tt is
 lines_are_counted (tick time) is = plain_counted (tick time) tt is
 lines_are_counted (crash shelf) is = plain_counted (crash shelf) tt is
+lines_are_counted (compact shelf) is = plain_counted (compact shelf) tt is
 lines_are_counted (edit name text) is = edit_counted name text is
 lines_are_counted (crash_edited shelf) is = absurd is
 
@@ -215,6 +219,7 @@ step_first (publish worker) rest is = plain_first (publish worker) rest tt is
 step_first (get worker target) rest is = plain_first (get worker target) rest tt is
 step_first (tick time) rest is = plain_first (tick time) rest tt is
 step_first (crash shelf) rest is = plain_first (crash shelf) rest tt is
+step_first (compact shelf) rest is = plain_first (compact shelf) rest tt is
 step_first (edit name text) rest is = edit_first name text rest is
 step_first (crash_edited shelf) rest is = absurd is
 

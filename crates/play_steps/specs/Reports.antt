@@ -13,3 +13,8 @@ take_report worker (Err reply) = report.Replied worker reply
 abbrev pub sweep_report : (shelf : ℕ) → Result ℕ Reply → Report
 sweep_report shelf (Ok count) = report.Swept shelf count
 sweep_report shelf (Err reply) = report.Unswept shelf reply
+
+-- how long a shelf's file is that was compacted, or the reply in its place
+abbrev pub compact_report : (shelf : ℕ) → Result ℕ Reply → Report
+compact_report shelf (Ok length) = report.Compacted shelf length
+compact_report shelf (Err reply) = report.Uncompacted shelf reply

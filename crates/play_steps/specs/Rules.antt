@@ -22,6 +22,7 @@ pub record StageRules : Type 1 where
   pub take : State → ℕ → List ℕ → Call State Fate (Result ℕ Reply)
   pub publish : State → ℕ → Call State Fate Reply
   pub sweep : State → ℕ → ℕ → Call State Fate (Result ℕ Reply)
+  pub compact : State → ℕ → Call State Fate (Result ℕ Reply)
   pub crash : State → ℕ → Call State Fate ℕ
   pub edit : State → (name text : List ℕ) → Option State
 
@@ -43,6 +44,10 @@ Publishes r rose old worker reply new = Comes r.fails rose (r.publish old worker
 -- a sweep of a shelf answers this and leaves this state
 abbrev pub Sweeps : (r : StageRules) → (rose : Type 0) → r.State → (shelf tick : ℕ) → Result ℕ Reply → r.State → Type 0
 Sweeps r rose old shelf tick result new = Comes r.fails rose (r.sweep old shelf tick) old result new
+
+-- a compaction of a shelf answers this and leaves this state
+abbrev pub Compacts : (r : StageRules) → (rose : Type 0) → r.State → (shelf : ℕ) → Result ℕ Reply → r.State → Type 0
+Compacts r rose old shelf result new = Comes r.fails rose (r.compact old shelf) old result new
 
 -- a crash of a shelf leaves so many live instances and this state
 abbrev pub Crashes : (r : StageRules) → (rose : Type 0) → r.State → (shelf live : ℕ) → r.State → Type 0

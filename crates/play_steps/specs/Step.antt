@@ -6,14 +6,15 @@ use Rattle.script_value.specs.Texts.{lacks}
 use Rattle.script_value.specs.Pieces.{◌>>=◌, cut_at, behind, number_below}
 
 -- A step: a worker takes a ticket for a target, publishes its ticket, or does both; each shelf is swept; a shelf's disk crashes, and the
--- shelf is opened again; the script of a name has this text from now on; or a shelf's disk crashes as an edit before it brings it, which no
--- line spells.
+-- shelf is opened again; a shelf's file is compacted; the script of a name has this text from now on; or a shelf's disk crashes as an edit
+-- before it brings it, which no line spells.
 pub data Step : Type 0 where
   take : (worker : ℕ) → (target : List ℕ) → Step
   publish : (worker : ℕ) → Step
   get : (worker : ℕ) → (target : List ℕ) → Step
   tick : (time : ℕ) → Step
   crash : (shelf : ℕ) → Step
+  compact : (shelf : ℕ) → Step
   edit : (name text : List ℕ) → Step
   crash_edited : (shelf : ℕ) → Step
 
@@ -75,6 +76,13 @@ crash_of line = do
   shelf ← number_below (2 ^ 32) rest
   Some (crash shelf)
 
+-- the step that `compact S` spells
+unfoldable pub compact_of : List ℕ → Option Step
+compact_of line = do
+  rest ← behind (codes "compact ") line
+  shelf ← number_below (2 ^ 32) rest
+  Some (compact shelf)
+
 -- the first of two options that is some
 abbrev pub first_of : Option Step → Option Step → Option Step
 first_of (Some s) o = Some s
@@ -83,7 +91,7 @@ first_of None o = o
 -- the step that a line is
 unfoldable pub step_of : List ℕ → Option Step
 step_of line =
-    first_of (take_of line) (first_of (publish_of line) (first_of (get_of line) (first_of (tick_of line) (crash_of line))))
+    first_of (take_of line) (first_of (publish_of line) (first_of (get_of line) (first_of (tick_of line) (first_of (crash_of line) (compact_of line)))))
 
 -- how many bytes the text of an edit may have
 abbrev pub most_text_bytes : ℕ
@@ -127,6 +135,7 @@ lines_in (publish worker) = 1
 lines_in (get worker target) = 1
 lines_in (tick time) = 1
 lines_in (crash shelf) = 1
+lines_in (compact shelf) = 1
 lines_in (edit name text) = newlines text + 2
 lines_in (crash_edited shelf) = 0
 
@@ -170,6 +179,7 @@ line_of (publish worker) = codes "publish " ++ decimal worker
 line_of (get worker target) = codes "get " ++ (decimal worker ++ 32 ∷ target)
 line_of (tick time) = codes "tick " ++ decimal time
 line_of (crash shelf) = codes "crash " ++ decimal shelf
+line_of (compact shelf) = codes "compact " ++ decimal shelf
 line_of (edit name text) = codes "edit " ++ (name ++ 32 ∷ (decimal (length text) ++ 10 ∷ text))
 line_of (crash_edited shelf) = []
 
@@ -186,6 +196,7 @@ IsStep (publish worker) = worker < workers
 IsStep (get worker target) = (worker < workers) × (is_target target ≡ true)
 IsStep (tick time) = time < 2 ^ 62
 IsStep (crash shelf) = shelf < 2 ^ 32
+IsStep (compact shelf) = shelf < 2 ^ 32
 IsStep (edit name text) = (lacks 32 name ≡ true) × (lacks 10 name ≡ true) × (length text ≤ most_text_bytes)
 IsStep (crash_edited shelf) = ⊥
 
@@ -196,6 +207,7 @@ IsWithin (publish worker) = worker < workers
 IsWithin (get worker target) = worker < workers
 IsWithin (tick time) = time < 2 ^ 62
 IsWithin (crash shelf) = shelf < 2 ^ 32
+IsWithin (compact shelf) = shelf < 2 ^ 32
 IsWithin (edit name text) = ⊤
 IsWithin (crash_edited shelf) = shelf < 2 ^ 32
 

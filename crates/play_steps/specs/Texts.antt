@@ -5,7 +5,7 @@ use Rattle.script_value.specs.declared.outcome.Reply.{Reply}
 use Rattle.reply_words.specs.Words.{Told, page, word, status_number, told}
 use Rattle.reply_words.specs.declared.status.ReplyStatus.{ReplyStatus}
 use Rattle.play_steps.specs.declared.report.Report.{Report}
-use Rattle.play_steps.specs.declared.report.Report.TheVariants.{Taken, Replied, Swept, Unswept, Reopened}
+use Rattle.play_steps.specs.declared.report.Report.TheVariants.{Taken, Replied, Swept, Unswept, Compacted, Uncompacted, Reopened}
 
 -- the text of a reply to a worker, with a status and a word
 abbrev pub line_text : ℕ → ReplyStatus → List ℕ → List ℕ
@@ -32,19 +32,25 @@ taken_text worker number = decimal worker ++ codes " taken " ++ decimal number +
 abbrev pub swept_text : ℕ → ℕ → List ℕ
 swept_text shelf count = codes "shelf " ++ decimal shelf ++ codes " swept " ++ decimal count ++ codes "\n"
 
-abbrev pub unswept_text : ℕ → Reply → List ℕ
-unswept_text shelf reply = codes "shelf " ++ reply_text shelf reply
+abbrev pub compacted_text : ℕ → ℕ → List ℕ
+compacted_text shelf length = codes "shelf " ++ decimal shelf ++ codes " length " ++ decimal length ++ codes "\n"
+
+-- the text of a reply in the place of what a shelf was asked for
+abbrev pub refused_text : ℕ → Reply → List ℕ
+refused_text shelf reply = codes "shelf " ++ reply_text shelf reply
 
 abbrev pub reopened_text : ℕ → ℕ → List ℕ
 reopened_text shelf live = codes "shelf " ++ decimal shelf ++ codes " live " ++ decimal live ++ codes "\n"
 
--- The text of a report: a number that was taken; a reply; a shelf that was swept, with the number of instances that went, or was not;
--- or a shelf that was opened again, with the number of its live instances.
+-- The text of a report: a number that was taken; a reply; a shelf that was swept, with the number of instances that went, or was not; one
+-- whose file was compacted, with the length of that, or was not; or a shelf that was opened again, with the number of its live instances.
 unfoldable pub report_text : Report → List ℕ
 report_text (Taken worker number) = taken_text worker number
 report_text (Replied worker reply) = reply_text worker reply
 report_text (Swept shelf count) = swept_text shelf count
-report_text (Unswept shelf reply) = unswept_text shelf reply
+report_text (Unswept shelf reply) = refused_text shelf reply
+report_text (Compacted shelf length) = compacted_text shelf length
+report_text (Uncompacted shelf reply) = refused_text shelf reply
 report_text (Reopened shelf live) = reopened_text shelf live
 
 -- the text of reports, one after another

@@ -1,9 +1,9 @@
 -- The whole run of steps over a stage's rules: what is told, how it ends, and what it leaves.
 use Rattle.std.specs.Prelude.{ℕ, zero, suc, ◌+◌, Bool, true, not, nat_lt, List, [], ◌∷◌, ◌++◌, Option, Some, None, Result, Ok, Err, is_some, unwrap_or, if◌then◌else◌}
 use Rattle.script_value.specs.declared.outcome.Reply.{Reply}
-use Rattle.play_steps.specs.Reports.{take_report, sweep_report}
+use Rattle.play_steps.specs.Reports.{take_report, sweep_report, compact_report}
 use Rattle.play_steps.specs.Rules.{StageRules, Call, answered, event}
-use Rattle.play_steps.specs.Step.{Step, take, publish, get, tick, crash, edit, crash_edited, lines_in}
+use Rattle.play_steps.specs.Step.{Step, take, publish, get, tick, crash, compact, edit, crash_edited, lines_in}
 use Rattle.play_steps.specs.Texts.{print}
 use Rattle.play_steps.specs.declared.report.Report.{Report}
 use Rattle.play_steps.specs.declared.report.Report.TheVariants.{Replied, Reopened}
@@ -51,14 +51,15 @@ abbrev pub later_fates : (r : StageRules) → List r.Fate → List r.Fate
 later_fates r [] = []
 later_fates r (f ∷ fates) = fates
 
--- a worker's step fits where the worker holds a ticket to publish, or none to take; a crash, where there is the shelf; an edit, where the
--- stage gives a state for it
+-- a worker's step fits where the worker holds a ticket to publish, or none to take; a crash and a compaction, where there is the shelf; an
+-- edit, where the stage gives a state for it
 abbrev pub fits : (r : StageRules) → Step → r.State → Bool
 fits r (take worker target) s = not (r.holds s worker)
 fits r (publish worker) s = r.holds s worker
 fits r (get worker target) s = not (r.holds s worker)
 fits r (tick time) s = true
 fits r (crash shelf) s = nat_lt shelf (r.shelves s)
+fits r (compact shelf) s = nat_lt shelf (r.shelves s)
 fits r (edit name text) s = is_some (r.edit s name text)
 fits r (crash_edited shelf) s = nat_lt shelf (r.shelves s)
 
@@ -88,6 +89,10 @@ swept r time (suc count) shelf s fates =
 abbrev pub crashed : (r : StageRules) → ℕ → r.State → List r.Fate → Run r
 crashed r shelf s fates = called r (r.crash s shelf) s fates (λ live. went r (Reopened shelf live ∷ []))
 
+-- the run of a compaction of a shelf
+abbrev pub compacted : (r : StageRules) → ℕ → r.State → List r.Fate → Run r
+compacted r shelf s fates = called r (r.compact s shelf) s fates (λ x. went r (compact_report shelf x ∷ []))
+
 -- the run of one step; an edit tells nothing by itself
 abbrev pub performed : (r : StageRules) → Step → r.State → List r.Fate → Run r
 performed r (take worker target) s fates =
@@ -96,6 +101,7 @@ performed r (publish worker) s fates = published r worker s fates
 performed r (get worker target) s fates = called r (r.take s worker target) s fates (got r worker)
 performed r (tick time) s fates = swept r time (r.shelves s) 0 s fates
 performed r (crash shelf) s fates = crashed r shelf s fates
+performed r (compact shelf) s fates = compacted r shelf s fates
 performed r (edit name text) s fates = went r [] (unwrap_or (r.edit s name text) s) fates
 performed r (crash_edited shelf) s fates = crashed r shelf s fates
 

@@ -6,9 +6,9 @@ use Rattle.script_value.specs.declared.outcome.Refusal.TheVariants as refusals
 use Rattle.script_value.specs.declared.outcome.Reply.{Reply}
 use Rattle.script_value.specs.declared.outcome.Reply.TheVariants as replies
 use Rattle.play_steps.specs.declared.report.Report.TheVariants as reports
-use Rattle.play_steps.specs.Reports.{take_report, sweep_report}
+use Rattle.play_steps.specs.Reports.{take_report, sweep_report, compact_report}
 use Rattle.play_steps.specs.Rules.{StageRules, Call, answered, event}
-use Rattle.play_steps.specs.Step.{take, publish, get, tick, crash, edit, aim_of, take_of, publish_of, get_of, tick_of, crash_of, step_of, edit_head, edit_with, first_step, steps_of, lines_of, lines_in}
+use Rattle.play_steps.specs.Step.{take, publish, get, tick, crash, compact, edit, aim_of, take_of, publish_of, get_of, tick_of, crash_of, compact_of, step_of, edit_head, edit_with, first_step, steps_of, lines_of, lines_in}
 use Rattle.play_steps.specs.Texts.{reply_text, report_text}
 use Rattle.play_steps.specs.Transcript.{Run, End, done, bad_line, text_of, transcript}
 use Rattle.play_steps.specs.Played.{played}
@@ -20,9 +20,10 @@ lines (l ∷ ls) = l ++ 10 ∷ lines ls
 
 -- one line of each kind
 pub each_kind :
-    map step_of (codes "take 0 /a" ∷ codes "publish 15" ∷ codes "get 9 !~" ∷ codes "tick 60" ∷ codes "crash 0" ∷ [])
-    ≡ Some (take 0 (codes "/a")) ∷ Some (publish 15) ∷ Some (get 9 (codes "!~")) ∷ Some (tick 60) ∷ Some (crash 0) ∷ []
-unfolding step_of take_of publish_of get_of tick_of crash_of aim_of
+    map step_of (codes "take 0 /a" ∷ codes "publish 15" ∷ codes "get 9 !~" ∷ codes "tick 60" ∷ codes "crash 0"
+    ∷ codes "compact 1" ∷ [])
+    ≡ Some (take 0 (codes "/a")) ∷ Some (publish 15) ∷ Some (get 9 (codes "!~")) ∷ Some (tick 60) ∷ Some (crash 0) ∷ Some (compact 1) ∷ []
+unfolding step_of take_of publish_of get_of tick_of crash_of compact_of aim_of
 each_kind = refl
 
 -- there is no worker 16, and a number has no leading zero and no sign
@@ -30,7 +31,7 @@ pub no_workers :
     map step_of (codes "take 16 /" ∷ codes "take 05 /" ∷ codes "publish 16" ∷ codes "publish 00" ∷ codes "get 016 /" ∷ codes "get +1 /"
     ∷ codes "publish -1" ∷ codes "publish" ∷ codes "publish " ∷ codes "take  /" ∷ [])
     ≡ None ∷ None ∷ None ∷ None ∷ None ∷ None ∷ None ∷ None ∷ None ∷ None ∷ []
-unfolding step_of take_of publish_of get_of tick_of crash_of aim_of
+unfolding step_of take_of publish_of get_of tick_of crash_of compact_of aim_of
 no_workers = refl
 
 -- a target has a byte or more, each from `!` to `~`; spaces are single, and none ends a line
@@ -38,14 +39,14 @@ pub no_targets :
     map step_of (codes "take 0" ∷ codes "take 0 " ∷ codes "get 0 " ∷ codes "take 0  /" ∷ codes "take  0 /" ∷ codes "get 0 /a /b" ∷ codes "get 0 /a "
     ∷ codes " get 0 /a" ∷ (codes "get 0 /" ++ 127 ∷ []) ∷ (codes "get 0 /" ++ 9 ∷ []) ∷ (codes "take 0 /" ++ 13 ∷ []) ∷ [])
     ≡ None ∷ None ∷ None ∷ None ∷ None ∷ None ∷ None ∷ None ∷ None ∷ None ∷ None ∷ []
-unfolding step_of take_of publish_of get_of tick_of crash_of aim_of
+unfolding step_of take_of publish_of get_of tick_of crash_of compact_of aim_of
 no_targets = refl
 
 -- the first time and the last
 pub times :
     map step_of (codes "tick 0" ∷ codes "tick 4611686018427387903" ∷ [])
     ≡ Some (tick 0) ∷ Some (tick 4611686018427387903) ∷ []
-unfolding step_of take_of publish_of get_of tick_of crash_of aim_of
+unfolding step_of take_of publish_of get_of tick_of crash_of compact_of aim_of
 times = refl
 
 -- 2^62 is no time, nor what is beyond 2^64, and a time has no leading zero
@@ -53,28 +54,28 @@ pub no_times :
     map step_of (codes "tick 4611686018427387904" ∷ codes "tick 18446744073709551616" ∷ codes "tick 00" ∷ codes "tick 07" ∷ codes "tick"
     ∷ codes "tick " ∷ codes "tick 1 " ∷ codes "tick 0x1" ∷ codes "tick 1 2" ∷ [])
     ≡ None ∷ None ∷ None ∷ None ∷ None ∷ None ∷ None ∷ None ∷ None ∷ []
-unfolding step_of take_of publish_of get_of tick_of crash_of aim_of
+unfolding step_of take_of publish_of get_of tick_of crash_of compact_of aim_of
 no_times = refl
 
 -- the last number of 32 bits is one of a shelf, which need not be there
 pub shelves :
-    map step_of (codes "crash 15" ∷ codes "crash 4294967295" ∷ [])
-    ≡ Some (crash 15) ∷ Some (crash 4294967295) ∷ []
-unfolding step_of take_of publish_of get_of tick_of crash_of aim_of
+    map step_of (codes "crash 15" ∷ codes "crash 4294967295" ∷ codes "compact 4294967295" ∷ [])
+    ≡ Some (crash 15) ∷ Some (crash 4294967295) ∷ Some (compact 4294967295) ∷ []
+unfolding step_of take_of publish_of get_of tick_of crash_of compact_of aim_of
 shelves = refl
 
 pub no_shelves :
     map step_of (codes "crash 4294967296" ∷ codes "crash 00" ∷ codes "crash 01" ∷ codes "crash" ∷ codes "crash " ∷ codes "crash  0"
     ∷ codes "crash 0 " ∷ codes "crash -1" ∷ codes "crash a" ∷ codes "crash0" ∷ [])
     ≡ None ∷ None ∷ None ∷ None ∷ None ∷ None ∷ None ∷ None ∷ None ∷ None ∷ []
-unfolding step_of take_of publish_of get_of tick_of crash_of aim_of
+unfolding step_of take_of publish_of get_of tick_of crash_of compact_of aim_of
 no_shelves = refl
 
 -- other words spell no step
 pub no_steps :
     map step_of ([] ∷ codes "GET 0 /" ∷ codes "put 0 /" ∷ codes "Crash 0" ∷ codes "gets 0 /" ∷ codes "publish0" ∷ [])
     ≡ None ∷ None ∷ None ∷ None ∷ None ∷ None ∷ []
-unfolding step_of take_of publish_of get_of tick_of crash_of aim_of
+unfolding step_of take_of publish_of get_of tick_of crash_of compact_of aim_of
 no_steps = refl
 
 -- the lines of steps
@@ -88,14 +89,14 @@ spelled = refl
 pub an_open_line :
     map steps_of (codes "publish 1\npublish 2" ∷ codes "publish 1\n\npublish 2\n" ∷ [])
     ≡ (Some (publish 1) ∷ None ∷ []) ∷ (Some (publish 1) ∷ None ∷ []) ∷ []
-unfolding steps_of first_step edit_head edit_with step_of take_of publish_of get_of tick_of crash_of aim_of
+unfolding steps_of first_step edit_head edit_with step_of take_of publish_of get_of tick_of crash_of compact_of aim_of
 an_open_line = refl
 
 -- an edit has its text behind its line, with newlines in it or none, and a newline behind it
 pub edits :
     map steps_of (codes "edit a 3\nx\ny\ntick 7\n" ∷ codes "edit b-1 0\n\n" ∷ [])
     ≡ (Some (edit (codes "a") (codes "x\ny")) ∷ Some (tick 7) ∷ []) ∷ (Some (edit (codes "b-1") []) ∷ []) ∷ []
-unfolding steps_of first_step edit_head edit_with step_of take_of publish_of get_of tick_of crash_of aim_of
+unfolding steps_of first_step edit_head edit_with step_of take_of publish_of get_of tick_of crash_of compact_of aim_of
 edits = refl
 
 -- a text that is cut short, one behind which another byte stands than a newline, and lengths with a leading zero or above the most
@@ -103,7 +104,7 @@ pub no_edits :
     map steps_of (codes "edit a 3\nxy\n" ∷ codes "edit a 2\nxyz\n" ∷ codes "edit a 2\nxy" ∷ codes "edit a 02\nxy\n" ∷ codes "edit a\n\n"
     ∷ codes "edit a 16777217\nxy\n" ∷ [])
     ≡ (None ∷ []) ∷ (None ∷ []) ∷ (None ∷ []) ∷ (None ∷ []) ∷ (None ∷ []) ∷ (None ∷ []) ∷ []
-unfolding steps_of first_step edit_head edit_with step_of take_of publish_of get_of tick_of crash_of aim_of
+unfolding steps_of first_step edit_head edit_with step_of take_of publish_of get_of tick_of crash_of compact_of aim_of
 no_edits = refl
 
 -- the line of an edit, those of its text and the newline behind it
@@ -148,11 +149,12 @@ pub not_served :
 unfolding reply_text digits
 not_served = refl
 
--- a number that was taken, a shelf that was swept, and the replies in their places; a shelf that was opened again
+-- a number that was taken, a shelf that was swept, one whose file was compacted, and the replies in their places; a shelf that was opened again
 pub other_texts :
     map report_text (take_report 4 (Ok 120) ∷ take_report 4 (Err replies.Worn) ∷ sweep_report 10 (Ok 0) ∷ sweep_report 10 (Err (replies.Down 3))
-    ∷ reports.Reopened 15 4096 ∷ [])
-    ≡ codes "4 taken 120\n" ∷ codes "4 503 worn\n" ∷ codes "shelf 10 swept 0\n" ∷ codes "shelf 10 503 down\n" ∷ codes "shelf 15 live 4096\n" ∷ []
+    ∷ compact_report 0 (Ok 330) ∷ compact_report 0 (Err (replies.JournalFull 9)) ∷ reports.Reopened 15 4096 ∷ [])
+    ≡ codes "4 taken 120\n" ∷ codes "4 503 worn\n" ∷ codes "shelf 10 swept 0\n" ∷ codes "shelf 10 503 down\n" ∷ codes "shelf 0 length 330\n"
+    ∷ codes "shelf 0 503 journal-full\n" ∷ codes "shelf 15 live 4096\n" ∷ []
 unfolding report_text reply_text digits
 other_texts = refl
 
@@ -187,6 +189,11 @@ abbrev swept : Desk → ℕ → Luck → Result ℕ Reply × Desk
 swept d time good = (Ok time, record { next = d.next + 1; holders = d.holders })
 swept d time bad = (Err (replies.Down 1), d)
 
+-- a compaction tells the number that is drawn next
+abbrev compacted : Desk → Luck → Result ℕ Reply × Desk
+compacted d good = (Ok d.next, d)
+compacted d bad = (Err (replies.DiskFault 1), d)
+
 -- a crash takes each ticket, and a bad one the number too
 abbrev crashed : Desk → Luck → ℕ × Desk
 crashed d good = (d.next, record { next = d.next; holders = [] })
@@ -211,6 +218,9 @@ desk_publish d w = event (λ luck. shown d w luck)
 abbrev desk_sweep : Desk → ℕ → ℕ → Call Desk Luck (Result ℕ Reply)
 desk_sweep d shelf time = event (λ luck. swept d time luck)
 
+abbrev desk_compact : Desk → ℕ → Call Desk Luck (Result ℕ Reply)
+desk_compact d shelf = event (λ luck. compacted d luck)
+
 abbrev desk_crash : Desk → ℕ → Call Desk Luck ℕ
 desk_crash d shelf = event (λ luck. crashed d luck)
 
@@ -230,6 +240,7 @@ desk = record {
   take = desk_take;
   publish = desk_publish;
   sweep = desk_sweep;
+  compact = desk_compact;
   crash = desk_crash;
   edit = desk_edit;
 }
@@ -248,21 +259,21 @@ of_lines ls fates = seen (transcript desk (at 0 []) 1 (played desk (at 0 []) (li
 pub two_workers :
     of_lines (codes "take 0 /a" ∷ codes "take 1 /a" ∷ codes "take 2 /b" ∷ codes "publish 1" ∷ codes "publish 0" ∷ []) []
     ≡ (lines (codes "0 taken 0" ∷ codes "1 taken 1" ∷ codes "2 taken 2" ∷ codes "1 200 2" ∷ codes "hi" ∷ codes "0 200 2" ∷ codes "hi" ∷ []), done, at 3 (2 ∷ []), [])
-unfolding transcript steps_of first_step edit_head edit_with step_of take_of publish_of get_of tick_of crash_of aim_of report_text reply_text digits
+unfolding transcript steps_of first_step edit_head edit_with step_of take_of publish_of get_of tick_of crash_of compact_of aim_of report_text reply_text digits
 two_workers = refl
 
 -- Fates are one an event: of a get whose take is refused one is used, and of another two. What is left is left.
 pub fates_of_gets :
     of_lines (codes "get 0 /a" ∷ codes "get 0 /a" ∷ codes "get 0 /a" ∷ []) (bad ∷ good ∷ bad ∷ good ∷ good ∷ bad ∷ [])
     ≡ (lines (codes "0 503 worn" ∷ codes "0 503 memory" ∷ codes "0 200 2" ∷ codes "hi" ∷ []), done, at 2 [], bad ∷ [])
-unfolding transcript steps_of first_step edit_head edit_with step_of take_of publish_of get_of tick_of crash_of aim_of report_text reply_text digits
+unfolding transcript steps_of first_step edit_head edit_with step_of take_of publish_of get_of tick_of crash_of compact_of aim_of report_text reply_text digits
 fates_of_gets = refl
 
 -- a tick sweeps the shelves in their order, also after one that is not swept; a fate that is not listed is plain
 pub a_tick :
     of_lines (codes "tick 7" ∷ codes "tick 8" ∷ []) (bad ∷ good ∷ good ∷ [])
     ≡ (lines (codes "shelf 0 503 down" ∷ codes "shelf 1 swept 7" ∷ codes "shelf 0 swept 8" ∷ codes "shelf 1 swept 8" ∷ []), done, at 3 [], [])
-unfolding transcript steps_of first_step edit_head edit_with step_of take_of publish_of get_of tick_of crash_of aim_of report_text reply_text digits
+unfolding transcript steps_of first_step edit_head edit_with step_of take_of publish_of get_of tick_of crash_of compact_of aim_of report_text reply_text digits
 a_tick = refl
 
 -- a publish needs a ticket, and a take or a get needs that the worker holds none; a refused take gives none
@@ -275,21 +286,21 @@ pub not_fitting :
     ∷ (lines (codes "0 503 worn" ∷ codes "1 taken 0" ∷ []), bad_line 3, at 1 (1 ∷ []), [])
     ∷ (lines (codes "1 503 worn" ∷ codes "1 taken 0" ∷ codes "shelf 0 swept 0" ∷ codes "shelf 1 swept 0" ∷ []), bad_line 4, at 3 (1 ∷ []), [])
     ∷ (lines (codes "shelf 0 503 down" ∷ codes "shelf 1 swept 0" ∷ codes "1 taken 1" ∷ []), bad_line 3, at 2 (1 ∷ []), []) ∷ []
-unfolding transcript steps_of first_step edit_head edit_with step_of take_of publish_of get_of tick_of crash_of aim_of report_text reply_text digits
+unfolding transcript steps_of first_step edit_head edit_with step_of take_of publish_of get_of tick_of crash_of compact_of aim_of report_text reply_text digits
 not_fitting = refl
 
 -- a line that is no step ends the run: the replies before it stand, and nothing after it is played
 pub a_bad_line :
     of_lines (codes "get 0 /a" ∷ codes "get 16 /a" ∷ codes "get 0 /a" ∷ []) (good ∷ good ∷ bad ∷ [])
     ≡ (lines (codes "0 200 2" ∷ codes "hi" ∷ []), bad_line 2, at 1 [], bad ∷ [])
-unfolding transcript steps_of first_step edit_head edit_with step_of take_of publish_of get_of tick_of crash_of aim_of report_text reply_text digits
+unfolding transcript steps_of first_step edit_head edit_with step_of take_of publish_of get_of tick_of crash_of compact_of aim_of report_text reply_text digits
 a_bad_line = refl
 
 -- a take that names nothing is answered without an event: the fates are there for the events after it
 pub no_event :
     of_lines (codes "take 0 #a" ∷ codes "get 0 #a" ∷ codes "get 0 /a" ∷ []) (bad ∷ good ∷ [])
     ≡ (lines (codes "0 404 unknown" ∷ codes "0 404 unknown" ∷ codes "0 503 worn" ∷ []), done, at 0 [], good ∷ [])
-unfolding transcript steps_of first_step edit_head edit_with step_of take_of publish_of get_of tick_of crash_of aim_of report_text reply_text digits
+unfolding transcript steps_of first_step edit_head edit_with step_of take_of publish_of get_of tick_of crash_of compact_of aim_of report_text reply_text digits
 no_event = refl
 
 -- A crash takes one fate, and its tickets are gone; the shelf 2 is not there, and the run ends at its line.
@@ -297,13 +308,21 @@ pub crashes :
     of_lines (codes "take 0 /a" ∷ codes "take 1 /a" ∷ codes "crash 1" ∷ codes "take 0 /b" ∷ codes "crash 0" ∷ codes "crash 2" ∷ codes "tick 1" ∷ [])
     (good ∷ good ∷ good ∷ good ∷ bad ∷ bad ∷ [])
     ≡ (lines (codes "0 taken 0" ∷ codes "1 taken 1" ∷ codes "shelf 1 live 2" ∷ codes "0 taken 2" ∷ codes "shelf 0 live 0" ∷ []), bad_line 6, at 0 [], bad ∷ [])
-unfolding transcript steps_of first_step edit_head edit_with step_of take_of publish_of get_of tick_of crash_of aim_of report_text reply_text digits
+unfolding transcript steps_of first_step edit_head edit_with step_of take_of publish_of get_of tick_of crash_of compact_of aim_of report_text reply_text digits
 crashes = refl
+
+-- A compaction takes one fate, and tickets stay; the shelf 2 is not there, and the run ends at its line.
+pub compactions :
+    of_lines (codes "take 0 /a" ∷ codes "compact 1" ∷ codes "compact 0" ∷ codes "publish 0" ∷ codes "compact 2" ∷ codes "tick 1" ∷ [])
+    (good ∷ good ∷ bad ∷ good ∷ bad ∷ [])
+    ≡ (lines (codes "0 taken 0" ∷ codes "shelf 1 length 1" ∷ codes "shelf 0 503 disk" ∷ codes "0 200 2" ∷ codes "hi" ∷ []), bad_line 5, at 1 [], bad ∷ [])
+unfolding transcript steps_of first_step edit_head edit_with step_of take_of publish_of get_of tick_of crash_of compact_of aim_of report_text reply_text digits
+compactions = refl
 
 -- An edit brings the crash of each shelf, in order, each with a fate. Lines are counted inside its text too, and an edit that does not fit
 -- ends the run at its own line.
 pub edits_crash :
     of_lines (codes "take 0 /a" ∷ codes "edit a 3" ∷ codes "x" ∷ codes "y" ∷ codes "take 0 /b" ∷ codes "edit b 0" ∷ [] ∷ []) (good ∷ good ∷ bad ∷ bad ∷ [])
     ≡ (lines (codes "0 taken 0" ∷ codes "shelf 0 live 3" ∷ codes "shelf 1 live 0" ∷ codes "0 503 worn" ∷ []), bad_line 6, at 0 [], [])
-unfolding transcript steps_of first_step edit_head edit_with step_of take_of publish_of get_of tick_of crash_of aim_of report_text reply_text digits
+unfolding transcript steps_of first_step edit_head edit_with step_of take_of publish_of get_of tick_of crash_of compact_of aim_of report_text reply_text digits
 edits_crash = refl

@@ -3,7 +3,7 @@ use Rattle.std.specs.Prelude.{ℕ, List}
 use Rattle.std.specs.Borrow.{Bor}
 use Rattle.play_steps.specs.declared.step.Step as code
 use Rattle.play_steps.specs.declared.step.Step.TheVariants as steps
-use Rattle.play_steps.specs.Step.{Step, take, publish, get, tick, crash, edit, crash_edited}
+use Rattle.play_steps.specs.Step.{Step, take, publish, get, tick, crash, compact, edit, crash_edited}
 
 abbrev pub meaning : code.Step → Step
 meaning (steps.Take worker target) = take worker target.now
@@ -11,6 +11,7 @@ meaning (steps.Publish worker) = publish worker
 meaning (steps.Get worker target) = get worker target.now
 meaning (steps.Tick time) = tick time
 meaning (steps.Crash shelf) = crash shelf
+meaning (steps.Compact shelf) = compact shelf
 meaning (steps.Edit name text) = edit name.now text.now
 meaning (steps.CrashEdited shelf) = crash_edited shelf
 

@@ -83,6 +83,7 @@ impl<'a> Course<'a> {
             | Step::Get { .. }
             | Step::Tick { .. }
             | Step::Crash { .. }
+            | Step::Compact { .. }
             | Step::CrashEdited { .. } => self.shelves,
         };
         Course {

@@ -50,7 +50,9 @@ pub fn fits<T: Stage>(stage: &T, step: &Step) -> bool
         Step::Publish { worker } => stage.holds(*worker),
         Step::Get { worker, .. } => !stage.holds(*worker),
         Step::Tick { .. } => true,
-        Step::Crash { shelf } | Step::CrashEdited { shelf } => *shelf < stage.shelves(),
+        Step::Crash { shelf } | Step::CrashEdited { shelf } | Step::Compact { shelf } => {
+            *shelf < stage.shelves()
+        }
         Step::Edit { .. } => unreachable!(),
     }
 }
@@ -182,6 +184,10 @@ pub fn perform<T: Stage>(
         Step::Crash { shelf } | Step::CrashEdited { shelf } => {
             let opened = stage.crash(devices, *shelf);
             crash_report(alloc, *shelf, opened)
+        }
+        Step::Compact { shelf } => {
+            let compacted = stage.compact(*shelf);
+            one(alloc, Report::of_compaction(*shelf, compacted))
         }
         Step::Edit { .. } => unreachable!(),
     }

@@ -1,5 +1,5 @@
 ghost use Rattle.std.specs.Prelude.{◌≡◌, IfOk, Result};
-ghost use Rattle.play_steps.specs.Reports.{take_report, sweep_report};
+ghost use Rattle.play_steps.specs.Reports.{take_report, sweep_report, compact_report};
 ghost use Rattle.play_steps.specs.Texts as spec;
 
 use reply_words::{ReplyStatus, Told};
@@ -17,6 +17,10 @@ pub enum Report {
     Swept { shelf: u32, count: u32 },
     /// The shelf was not swept, and why not.
     Unswept { shelf: u32, reply: Reply },
+    /// The shelf's file was compacted, and has so many bytes.
+    Compacted { shelf: u32, length: u64 },
+    /// The shelf's file was not compacted, and why not.
+    Uncompacted { shelf: u32, reply: Reply },
     /// The shelf's disk crashed, and the shelf was opened again with so many live instances.
     Reopened { shelf: u32, live: u32 },
 }
@@ -42,6 +46,16 @@ impl Report {
         }
     }
 
+    /// What a compaction told: the length of the file, or the reply.
+    pub fn of_compaction(shelf: u32, compacted: Result<u64, Reply>) -> Report
+        ensures { result ≡ compact_report shelf compacted }
+    {
+        match compacted {
+            Ok(length) => Report::Compacted { shelf, length },
+            Err(reply) => Report::Uncompacted { shelf, reply },
+        }
+    }
+
     /// The text of this report.
     #[tactic(auto, unfolding(crate::specs::Texts::report_text))]
     pub fn text(&self, alloc: Global) -> Result<Vec<u8>, AllocError>
@@ -51,7 +65,9 @@ impl Report {
             Report::Taken { worker, number } => taken_text(alloc, *worker, *number),
             Report::Replied { worker, reply } => reply_text(alloc, *worker, reply),
             Report::Swept { shelf, count } => swept_text(alloc, *shelf, *count),
-            Report::Unswept { shelf, reply } => unswept_text(alloc, *shelf, reply),
+            Report::Unswept { shelf, reply } => refused_text(alloc, *shelf, reply),
+            Report::Compacted { shelf, length } => compacted_text(alloc, *shelf, *length),
+            Report::Uncompacted { shelf, reply } => refused_text(alloc, *shelf, reply),
             Report::Reopened { shelf, live } => reopened_text(alloc, *shelf, *live),
         }
     }
@@ -117,8 +133,16 @@ fn swept_text(alloc: Global, shelf: u32, count: u32) -> Result<Vec<u8>, AllocErr
     Ok(line.as_bytes().to_vec(alloc)?)
 }
 
-fn unswept_text(alloc: Global, shelf: u32, reply: &Reply) -> Result<Vec<u8>, AllocError>
-    ensures { IfOk result (λ text. text.items ≡ spec.unswept_text shelf reply.now) }
+fn compacted_text(alloc: Global, shelf: u32, length: u64) -> Result<Vec<u8>, AllocError>
+    ensures { IfOk result (λ text. text.items ≡ spec.compacted_text shelf length) }
+{
+    let line = format!(in alloc; "shelf {shelf} length {length}\n")?;
+    Ok(line.as_bytes().to_vec(alloc)?)
+}
+
+// The text of a reply in the place of what a shelf was asked for.
+fn refused_text(alloc: Global, shelf: u32, reply: &Reply) -> Result<Vec<u8>, AllocError>
+    ensures { IfOk result (λ text. text.items ≡ spec.refused_text shelf reply.now) }
 {
     let line = reply_text(alloc, shelf, reply)?;
     let mut text = b"shelf ".to_vec(alloc)?;

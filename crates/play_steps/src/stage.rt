@@ -1,6 +1,6 @@
 ghost use Rattle.std.specs.Prelude.{◌≡◌, ◌≤◌, ℕ, ◌<◌, ◌^◌, List, Bool, true, false, IsTrue, IfOk, IfErr, OnOk, OnErr, IsErrOf};
 ghost use Rattle.web_outside.specs.Causes.{Rose};
-ghost use Rattle.play_steps.specs.Rules.{StageRules, Takes, Publishes, Sweeps, Crashes, Edits, KeepsShelves, RoseOver, StaysAt, StaysFirst, StaysUp, StaysHome};
+ghost use Rattle.play_steps.specs.Rules.{StageRules, Takes, Publishes, Sweeps, Compacts, Crashes, Edits, KeepsShelves, RoseOver, StaysAt, StaysFirst, StaysUp, StaysHome};
 ghost use Rattle.play_steps.specs.Step.{workers};
 ghost use Rattle.play_steps.specs.declared.stage.Reopen.{Reopen};
 
@@ -104,6 +104,19 @@ pub trait Stage {
         requires tick { tick < 2 ^ 62 }
         ensures step { own self.old → Sweeps rules (RoseOver (faults self.old) (faults self.new))
             (state self.old) shelf tick result (state self.new) }
+        ensures shelves { rules.shelves (state self.new) ≡ rules.shelves (state self.old) }
+        ensures sound { sound self.new }
+        ensures own { own self.old → own self.new }
+        ensures home { StaysHome (at_home self.old) (at_home self.new) }
+        ensures later { StaysUp (faults self.old) (faults self.new) };
+
+    /// Puts a file in the place of the shelf's that has no more than the shelf needs, of so many bytes; or the reply
+    /// that says why not.
+    fn compact(&mut self, shelf: u32) -> Result<u64, Reply>
+        requires sound { sound self.old }
+        requires shelf { shelf < rules.shelves (state self.old) }
+        ensures step { own self.old → Compacts rules (RoseOver (faults self.old) (faults self.new))
+            (state self.old) shelf result (state self.new) }
         ensures shelves { rules.shelves (state self.new) ≡ rules.shelves (state self.old) }
         ensures sound { sound self.new }
         ensures own { own self.old → own self.new }

@@ -25,6 +25,8 @@ pub enum Step<'a> {
     Tick { time: u64 },
     /// The shelf's disk crashes, and the shelf is opened again.
     Crash { shelf: u32 },
+    /// The shelf's file gives place to one that has no more than the shelf needs.
+    Compact { shelf: u32 },
     /// The script of this name has this text from now on, or stands behind the others; the crash of
     /// every shelf follows.
     Edit { name: &'a [u8], text: &'a [u8] },
@@ -56,7 +58,8 @@ impl Step<'_> {
             | Step::Publish { .. }
             | Step::Get { .. }
             | Step::Tick { .. }
-            | Step::Crash { .. } => 1,
+            | Step::Crash { .. }
+            | Step::Compact { .. } => 1,
             Step::Edit { text, .. } => newlines(text) + 2,
             Step::CrashEdited { .. } => 0,
         }
@@ -169,6 +172,15 @@ fn crash_of(line: &[u8]) -> Option<Step>
     Some(Step::Crash { shelf })
 }
 
+#[tactic(auto, unfolding(crate::specs::Step::compact_of))]
+fn compact_of(line: &[u8]) -> Option<Step>
+    ensures spelled { option_map meaning result ≡ spec.compact_of line.now }
+    ensures range { IfSome result (λ step. spec.IsStep (meaning step)) }
+{
+    let shelf = shelf_of(behind(b"compact ", line)?)?;
+    Some(Step::Compact { shelf })
+}
+
 // The step that a line is.
 #[tactic(auto, unfolding(crate::specs::Step::step_of))]
 fn parse(line: &[u8]) -> Option<Step>
@@ -187,7 +199,10 @@ fn parse(line: &[u8]) -> Option<Step>
     if let Some(step) = tick_of(line) {
         return Some(step);
     }
-    crash_of(line)
+    if let Some(step) = crash_of(line) {
+        return Some(step);
+    }
+    compact_of(line)
 }
 
 // The name and the length that the head of an edit spells.
@@ -219,7 +234,7 @@ fn edit_with<'a>(name: &'a [u8], length: usize, bytes: &'a [u8]) -> Option<(Step
 
 /// The step at the front of these bytes, and the bytes behind its lines. A step is a line:
 /// `take W TARGET`, `publish W` or `get W TARGET` of a worker below `WORKERS`, `tick T` of a time
-/// below 2^62, in seconds, or `crash S` of a shelf; or the line `edit NAME LENGTH`, so many bytes, at
+/// below 2^62, in seconds, or `crash S` or `compact S` of a shelf; or the line `edit NAME LENGTH`, so many bytes, at
 /// most `TEXT_LIMIT`, and a newline.
 #[tactic(auto, unfolding(crate::specs::Step::first_step), using(crate::proofs::Within::step_within))]
 pub fn read_step(bytes: &[u8]) -> Option<(Step<'_>, &[u8])>

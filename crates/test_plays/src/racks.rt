@@ -5,8 +5,8 @@ use crate::told::Told;
 use std::alloc::{AllocError, Global};
 use web_disk::{MemoryDisk, MemoryRack, Wreck};
 
-// As many disks as there may be shelves.
-const DISKS: u32 = 16;
+// Three disks for each shelf that there may be.
+const DISKS: u32 = 48;
 
 // What a line says of the disk of a number.
 #[derive(Drop)]

@@ -1,4 +1,5 @@
 use Rattle.std.proofs.Common.{arith}
+use Rattle.disk_trio.specs.Trio.{trio_view}
 use Rattle.play_desk.proofs.Beginning.{desk_opened, fit_opened}
 use Rattle.play_desk.proofs.Owning.{own_alone}
 use Rattle.play_desk.proofs.desk_disks.open_desk.Goals as goal
@@ -15,5 +16,5 @@ returns-in-Ok-clause-sound g c = record {
 
 pub returns-in-Ok-clause-own : goal.returns-in-Ok-clause-own
 returns-in-Ok-clause-own g c rack_tells disk_tells =
-    own_alone g.D.Disk.view g.D.Disk.tells c.in-Ok.shelves.items c.no_tickets.result
+    own_alone trio_view g.F.Disk.tells c.in-Ok.shelves.items c.no_tickets.result
     (c.in-Ok.ensures.opened.own rack_tells disk_tells) c.no_tickets.ensures

@@ -1,11 +1,11 @@
 use Rattle.std.proofs.Common.{◌≡◌, [], ◌∷◌, MatchResult, inl, inr, ⊎_elim, ap, subst, rules}
-use Rattle.play_steps.specs.Step.{Step, take, publish, get}
+use Rattle.play_steps.specs.Step.{Step, take, publish, get, compact}
 use Rattle.play_steps.specs.Views.{meaning}
 use Rattle.play_steps.specs.Played.{Performs, spot}
 use Rattle.play_steps.specs.declared.report.Report.{Report}
 use Rattle.play_steps.specs.declared.performing.Halt.{Halt}
 use Rattle.play_steps.specs.declared.performing.Halt.TheVariants as halt
-use Rattle.play_steps.proofs.Performed.{comes_called, took, published, got_number, got_refusal, tells, IsCrashOf, told_either, either_performs}
+use Rattle.play_steps.proofs.Performed.{comes_called, took, published, compacted, got_number, got_refusal, tells, IsCrashOf, told_either, either_performs}
 use Rattle.play_steps.proofs.performing.perform.Goals as goal
 
 pub returns-in-Take-clause-came : goal.returns-in-Take-clause-came
@@ -58,6 +58,18 @@ returns-in-Err-clause-came g c known own =
     (spot r (g.T.Stage.state new) (g.T.Stage.faults new devices))) step
     (tells r (g.T.Stage.left devices) _ _ _ _ c.one-in-Err.result c.one-in-Err.ensures
     (got_refusal r _ _ _ _ _ (comes_called r _ _ _ _ _ (call.step own) (call.later devices) (λ rose. rose devices))))
+
+pub returns-in-Compact-clause-came : goal.returns-in-Compact-clause-came
+returns-in-Compact-clause-came g c known own =
+    let step : compact c.in-Compact.shelf ≡ meaning c.args.step.now = search rules in
+    let r = g.T.Stage.rules in
+    let devices = c.args.devices.now in
+    let new = c.compact-compacted.new.self in
+    let call = c.compact-compacted.ensures in
+    let told = subst (λ (x : Report). MatchResult c.one-in-Compact.result (λ reports. reports.items ≡ x ∷ []) (λ (why : Halt). why ≡ halt.Memory)) c.of_compaction.ensures c.one-in-Compact.ensures in
+    subst (λ (s : Step). Performs r (g.T.Stage.left devices) s c.one-in-Compact.result (spot r (g.T.Stage.state c.args.stage.now) (g.T.Stage.faults c.args.stage.now devices))
+    (spot r (g.T.Stage.state new) (g.T.Stage.faults new devices))) step
+    (tells r (g.T.Stage.left devices) _ _ _ _ c.one-in-Compact.result told (compacted r _ _ _ _ (comes_called r _ _ _ _ _ (call.step own) (call.later devices) (λ rose. rose devices))))
 
 pub returns-in-Crash-clause-came : goal.returns-in-Crash-clause-came
 returns-in-Crash-clause-came g c known own =

@@ -1,0 +1,10 @@
+use Rattle.std.proofs.Common.{◌≡◌, ◌≤◌, take}
+use Rattle.std.specs.Prelude.{count_by}
+use Rattle.measured_run.specs.Tallies as spec
+use Rattle.measured_run.proofs.tally.refusals_in.Given as goal
+
+abbrev pub invariant-loop-report : goal.invariant-loop-report
+invariant-loop-report l = record {
+  counted : l.count ≡ count_by spec.tells_refusal (take l.report-index l.told);
+  few : l.count ≤ l.report-index;
+}
