@@ -2,6 +2,7 @@
 use Rattle.std.proofs.Common.{◌≡◌, ◌≤◌, ◌<◌, ◌⊎◌, ℕ, List, [], length, nat_le, true, false, Option, Some, None, Result, Ok, Err, IfSome, IsTrue, refl, sym, ap, ◌∙◌, subst, inl, inr, ⊎_elim, arith, length-append}
 use Rattle.std.proofs.lemmas.Bool.{le-leb, lt-leb}
 use Rattle.std.specs.Io.KnownBytes.{Consumes}
+use Rattle.trio_rack.specs.Trios.{shelves_of}
 use Rattle.web_outside.specs.Causes.{Rose}
 use Rattle.web_outside.specs.Limits.{most_of_input}
 use Rattle.web_outside.specs.Pieces.{ReadsPast}
@@ -16,7 +17,7 @@ use Rattle.setup_reader.proofs.Sections.{setup_found}
 use Rattle.play_steps.specs.Transcript.{End, done, bad_line}
 use Rattle.server_command.specs.declared.program.Status.{Status}
 use Rattle.server_command.specs.declared.program.Status.TheVariants as status
-use Rattle.server_command.specs.Racks.{Racks, AreTaken, Unfit, first_unfit, unfit_new, unfit_left}
+use Rattle.server_command.specs.Racks.{Racks, AreTaken, Unfit, first_unfit, unfit_new, unfit_left, held_anew}
 use Rattle.server_command.specs.Output.{Chances, output_of, counted, ending_of, ended, finished, served, written, run_of, steps_for, unless_shut, loaded, run_loaded, Sinks, BeforeOpening, at_first, at_crash}
 use Rattle.server_command.specs.Remains.{HasOutgrown, TellsOutgrown}
 use Rattle.measured_run.specs.Drawing.{most_steps}
@@ -144,7 +145,7 @@ tells_served v met bytes chances setup e is read ok settles =
     subst (Settles met.rack) (short.reached ∙ ap (with_setup (Serve v)) ok) settles
 
 opened_due : (v : Service) (met : Met) (bytes : List ℕ) (chances : Chances) (setup : Parsed) → met.input ≡ Some bytes → asked_in met.words ≡ Some (Serve v)
-    → ReadToEnd met → setup_of Input bytes ≡ Ok setup → AreTaken (unfit_left setup.scripts) met.rack.before.holds v.options.shelves chances.disks
+    → ReadToEnd met → setup_of Input bytes ≡ Ok setup → AreTaken (unfit_left setup.scripts) (shelves_of met.rack.before).holds v.options.shelves chances.disks
     × (first_unfit (unfit_left setup.scripts) 0 chances.disks ≡ None) → IsDue 0 met bytes chances
 opened_due v met bytes chances setup e is read ok h =
     served_due v met bytes chances 0 e is read
@@ -153,7 +154,7 @@ opened_due v met bytes chances setup e is read ok h =
 
 shut_due : (v : Service) (met : Met) (bytes : List ℕ) (chances : Chances) (setup : Parsed) (shelf : ℕ) (why : Unfit) → met.input ≡ Some bytes
     → asked_in met.words ≡ Some (Serve v) → ReadToEnd met → setup_of Input bytes ≡ Ok setup
-    → AreTaken (unfit_left setup.scripts) met.rack.before.holds v.options.shelves chances.disks
+    → AreTaken (unfit_left setup.scripts) (shelves_of met.rack.before).holds v.options.shelves chances.disks
     × (first_unfit (unfit_left setup.scripts) 0 chances.disks ≡ Some (shelf, why)) → IsDue 8 met bytes chances
 shut_due v met bytes chances setup shelf why e is read ok h =
     served_due v met bytes chances 8 e is read
@@ -273,13 +274,13 @@ setup_status Check setup chances rack opens taken = inl refl
 setup_status (Play o) setup chances rack opens taken =
     subst (λ f. ((unless_shut f (finished (run_of o setup.scripts (steps_for o setup) chances.fates))).status ≡ 0)
     ⊎ ((unless_shut f (finished (run_of o setup.scripts (steps_for o setup) chances.fates))).status ≡ 4))
-    (sym (fit_opens unfit_new rack.before.holds 0 chances.disks opens.1 taken.held))
+    (sym (fit_opens unfit_new (held_anew rack.before) 0 chances.disks opens.1 taken.held))
     (ended_status _ (run_of o setup.scripts (steps_for o setup) chances.fates).end)
 setup_status (Serve v) setup chances rack opens taken =
     subst (λ f. ((unless_shut f (record { text = []; error = []; status = 0 })).status ≡ 0)
     ⊎ ((unless_shut f (record { text = []; error = []; status = 0 })).status ≡ 4))
-    (sym (fit_opens (unfit_left setup.scripts) rack.before.holds 0 chances.disks opens.1 taken.held)) (inl refl)
-setup_status (Load l) setup chances rack opens taken = inl (opens_fine l chances (fit_opens unfit_new rack.before.holds 0 chances.disks opens.1 taken.held))
+    (sym (fit_opens (unfit_left setup.scripts) (shelves_of rack.before).holds 0 chances.disks opens.1 taken.held)) (inl refl)
+setup_status (Load l) setup chances rack opens taken = inl (opens_fine l chances (fit_opens unfit_new (held_anew rack.before) 0 chances.disks opens.1 taken.held))
 
 not_3 : (n : ℕ) → (n ≡ 0) ⊎ (n ≡ 4) → n ≡ 3 → ⊥
 not_3 n (inl e) h = omega arith
@@ -363,8 +364,8 @@ serving_complete serves v status.Journal met bytes chances same e l opens read w
     let shuts = subst (λ r. Shuts r v p.0.scripts chances.disks p.2.0 p.2.1) same p.2.2 in
     let taken = shuts opens.0 in
     let is = ap (λ (x : Parsed). x.scripts) (same_setup (setup_of Input bytes) p.0 l.setup p.1 (lawful_ok (Serve v) bytes l)) in
-    let fit = subst (λ ss. AreFit (unfit_left ss) met.rack.before.holds) (sym is) opens.1 in
-    let none = fit_opens (unfit_left p.0.scripts) met.rack.before.holds 0 chances.disks fit taken.0.held in
+    let fit = subst (λ ss. AreFit (unfit_left ss) (shelves_of met.rack.before).holds) (sym is) opens.1 in
+    let none = fit_opens (unfit_left p.0.scripts) (shelves_of met.rack.before).holds 0 chances.disks fit taken.0.held in
     absurd (let no : None ≡ Some (p.2.0, p.2.1) = sym none ∙ taken.1 in cc)
 serving_complete serves v status.Door met bytes chances same e l opens read write well h = absurd (well.1 h.1)
 serving_complete serves v status.Key met bytes chances same e l opens read write well h = absurd (well.2 h.1)
@@ -408,14 +409,14 @@ check_complete status.Door met bytes chances e l read write h = absurd h
 check_complete status.Key met bytes chances e l read write h = absurd h
 
 -- a measured run on disks that hold nothing
-loading_complete : (l : LoadOptions) (s : Status) (met : Met) (chances : Chances) → IsTrue met.rack.tells × AreFit unfit_new met.rack.before.holds
+loading_complete : (l : LoadOptions) (s : Status) (met : Met) (chances : Chances) → IsTrue met.rack.tells × AreFit unfit_new (held_anew met.rack.before)
     → (Rose met.output.before met.output.after → ⊥) → (RackFailed met.rack → ⊥) → ComesLoading l chances s met → (code_of s ≡ 0) ⊎ (code_of s ≡ 10)
 loading_complete l status.Done met chances opens write well h = inl refl
 loading_complete l status.Write met chances opens write well h = absurd (write h.1.0)
 loading_complete l status.Disk met chances opens write well h = absurd (well h.1.1.all)
 loading_complete l status.Journal met chances opens write well h =
     let g = (h.1 opens.0).0 in
-    let fine = opens_fine l chances (fit_opens unfit_new met.rack.before.holds 0 chances.disks opens.1 g.taken.held) in
+    let fine = opens_fine l chances (fit_opens unfit_new (held_anew met.rack.before) 0 chances.disks opens.1 g.taken.held) in
     absurd (omega (arith, fine, g.answered.0))
 loading_complete l status.Memory met chances opens write well h = inr refl
 loading_complete l _ met chances opens write well h = absurd h.1

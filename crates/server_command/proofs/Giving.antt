@@ -6,6 +6,7 @@ use Rattle.play_steps.specs.Played.{RoseBy}
 use Rattle.std.proofs.lemmas.List.{append_assoc, length-append}
 use Rattle.std.proofs.lemmas.Option.{slice_get_within}
 use Rattle.web_disk.specs.View.{View, RackView, AreAmong}
+use Rattle.trio_rack.specs.Trios.{shelves_of}
 use Rattle.play_desk.specs.Opening.{FailedFor}
 use Rattle.server_command.specs.Opening.{AreGiven, AreOut, LeavesFrom, TakesBack}
 use Rattle.server_command.proofs.Openings.{Gives, GivesDownTo, gives_before, gives_down, gives_last, same_or_not}
@@ -16,15 +17,15 @@ last_is (z ∷ xs) ys x = last_is xs ys x
 
 -- what a disk that is given back may hold
 pub record Holds (told : Type 0) (before after : RackView) (number : ℕ) (images : List ℕ → Type 0) : Type 0 where
-  pub among : told → before.out number ≡ true → AreAmong (after.holds number) images
-  pub others : (n : ℕ) → n ≢ number → AreAmong (after.holds n) (before.holds n)
+  pub among : told → (shelves_of before).out number ≡ true → AreAmong ((shelves_of after).holds number) images
+  pub others : (n : ℕ) → n ≢ number → AreAmong ((shelves_of after).holds n) ((shelves_of before).holds n)
 
 -- the disks behind these were given back
 pub record GivenAll {D : Type 0} (view : D → View) (told : Type 0) (all front : List D) (before now : RackView) : Type 0 where
   pub back : List D
   pub is : all ≡ front ++ back
   pub down : GivesDownTo before now (length front) (length all)
-  pub held : told → AreOut before (length all) → (k : ℕ) (d : D) → length front ≤ k → slice_get all k ≡ Some d → AreAmong (now.holds k) (view d).images
+  pub held : told → AreOut before (length all) → (k : ℕ) (d : D) → length front ≤ k → slice_get all k ≡ Some d → AreAmong ((shelves_of now).holds k) (view d).images
   pub others : LeavesFrom (length all) before now
   pub faults : (k : ℕ) (d : D) → length front ≤ k → slice_get all k ≡ Some d → 1 ≤ (view d).faults → FailedFor k before now
   pub counts : RoseBy (sum_by (λ d. (view d).faults) back) before.faults now.faults
@@ -50,8 +51,8 @@ given_next {D = D} view told all old front d before now after popped p gives hol
   held = λ t out k x above here. elim (same_or_not k (length front)) [
     | inl e ↦
         let same : d ≡ x = this k x e here in
-        let home : now.out (length front) ≡ true = p.down.lower (length front) (omega (arith, count)) ∙ out (length front) (omega (arith, size, count)) in
-        subst (λ n. AreAmong (after.holds n) (view x).images) (sym e) (subst (λ y. AreAmong (after.holds (length front)) (view y).images) same (holds.among t home))
+        let home : (shelves_of now).out (length front) ≡ true = p.down.lower (length front) (omega (arith, count)) ∙ out (length front) (omega (arith, size, count)) in
+        subst (λ n. AreAmong ((shelves_of after).holds n) (view x).images) (sym e) (subst (λ y. AreAmong ((shelves_of after).holds (length front)) (view y).images) same (holds.among t home))
     | inr ne ↦ λ image h. p.held t out k x (omega (arith, above, ne, count)) here image (holds.others k ne image h)
   ];
   others = λ n le image h. p.others n le image (holds.others n (λ e. omega (arith, e, le, size, count)) image h);

@@ -1,4 +1,5 @@
 pub mod Racks
+pub mod Unfit
 pub mod Endings
 pub mod Causes
 pub mod Playing
@@ -14,3 +15,4 @@ pub mod Room
 pub mod Loads
 pub mod Orders
 pub mod Whole
+pub mod Lent

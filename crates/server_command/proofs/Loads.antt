@@ -3,6 +3,7 @@ use Rattle.std.proofs.Common.{◌≡◌, ◌≤◌, ◌<◌, ◌^◌, ◌+◌, �
 use Rattle.std.specs.Prelude.{count_by, replicate, slice_get}
 use Rattle.std.specs.Io.KnownBytes.{Appends, Keeps}
 use Rattle.std.proofs.lemmas.Option.{same_Some}
+use Rattle.trio_rack.specs.Trios.{shelves_of}
 use Rattle.web_outside.specs.Causes.{Rose}
 use Rattle.web_outside.specs.Pieces.{AppendsUnlessFault}
 use Rattle.web_outside.proofs.Writes.{appends_kept, appends_none}
@@ -18,7 +19,7 @@ use Rattle.play_steps.specs.declared.stage.Reopen.TheVariants as reopen
 use Rattle.web_disk.specs.View.{RackView}
 use Rattle.play_desk.specs.Desk.{Desk, desk_rules, is_fault}
 use Rattle.play_desk.specs.Laws.{TranscriptsAreRuns}
-use Rattle.play_desk.specs.Asking.{AsksForFirst}
+use Rattle.play_desk.specs.Asking.{AsksForFirst, AsksUntil}
 use Rattle.play_desk.specs.Opening.{AllStayKept, HoldTheBooks, IsClosedBy, IsLeft, cause_of}
 use Rattle.play_desk.specs.declared.opening.OpenCause.{OpenCause}
 use Rattle.play_desk.specs.declared.opening.OpenCause.TheVariants as first
@@ -32,7 +33,7 @@ use Rattle.measured_run.specs.Setups.{load_scripts}
 use Rattle.command_words.specs.declared.LoadOptions.{LoadOptions}
 use Rattle.server_command.specs.declared.program.Status.{Status}
 use Rattle.server_command.specs.declared.program.Status.TheVariants as status
-use Rattle.server_command.specs.Racks.{Racks, racks_of, AreTaken, ShelfFailed, disk_line, not_empty, unfit_line, unfit_new}
+use Rattle.server_command.specs.Racks.{Racks, racks_of, AreTaken, ShelfFailed, disk_line, not_empty, unfit_line, unfit_new, held_anew}
 use Rattle.server_command.specs.Output.{Answers, BreaksOff, Chances, Output, Sinks, desk_for, loaded, rules_for, run_loaded, sinks, unless_shut}
 use Rattle.server_command.specs.Loading.{GivesLoad, HasLeft, HasLoaded, IsLoaded, IsLost, IsLostBehind, LoadsEvents, RemainsLoaded, TellsMeasure, at_crash, at_first, told_measure}
 use Rattle.server_command.specs.Remains.{AreAllKept, HaveFailed, IsAny, IsFailed, IsUnopened, lost, performed, unopened}
@@ -66,13 +67,13 @@ pub record Loaded (rack : Racks) (l : LoadOptions) (m : Measure) : Type 0 where
   pub told : List Report
   pub loads : Loads desk_rules most_steps (source_of l.number) told (spot desk_rules start before) (spot desk_rules last after)
   pub is : m ≡ measure_of most_steps told
-  pub left : HoldTheBooks last rack.after.holds
+  pub left : HoldTheBooks last (shelves_of rack.after).holds
   pub from : rack.before.faults ≤ before
   pub to : after ≤ rack.after.faults
 
 pub loaded_by : (rack : Racks) (l : LoadOptions) (lost_so : Desk → ℕ → Reopen → Type 0) (m : Measure) (start last : Desk) (before after : ℕ) → Begins rack l.options load_scripts start
     → Measures desk_rules lost_so most_steps (source_of l.number) (Ok m) (spot desk_rules start before) (spot desk_rules last after)
-    → HoldTheBooks last rack.after.holds → rack.before.faults ≤ before → after ≤ rack.after.faults → Loaded rack l m
+    → HoldTheBooks last (shelves_of rack.after).holds → rack.before.faults ≤ before → after ≤ rack.after.faults → Loaded rack l m
 loaded_by rack l lost_so m start last before after b h left from to = record {
   start = start;
   last = last;
@@ -116,7 +117,7 @@ has_loaded rack l m p =
     let run = run_is l p.start p.loads.fates _ p.begins.first p.loads.is in
     record {
       whole = ap (λ (r : Run desk_rules). r.end) run;
-      books = subst (λ (d : Desk). HoldTheBooks d rack.after.holds) (sym (ap (λ (r : Run desk_rules). r.state) run)) p.left;
+      books = subst (λ (d : Desk). HoldTheBooks d (shelves_of rack.after).holds) (sym (ap (λ (r : Run desk_rules). r.state) run)) p.left;
       counted = have_failed rack p.loads.fates p.before p.after p.from p.loads.risen p.to;
       began = p.begins.began;
     }
@@ -181,20 +182,20 @@ untouched known rack l =
 
 -- a disk holds something
 some_leaves : (rack : Racks) (l : LoadOptions) (shelf : ℕ) (old new : Option (List ℕ)) (before after : ℕ) → (IsTrue rack.tells → HoldsSome rack l.options shelf)
-    → (IsTrue rack.tells → AllStayKept load_scripts rack.before.holds rack.after.holds shelf first.NotEmpty)
+    → (IsTrue rack.tells → AllStayKept load_scripts (shelves_of rack.before).holds (shelves_of rack.after).holds shelf first.NotEmpty)
     → AsksForFirst (shelf + 1) rack.before rack.after → AppendsUnlessFault old new (unfit_line shelf not_empty) before after → HasLeft rack l status.Journal (sinks old new before after)
 some_leaves rack l shelf old new before after full kept asked line =
     decided rack.tells (λ chances. GivesLoad rack l chances 8 (sinks old new before after) × AreAllKept rack load_scripts (length chances.disks)) no_chances
     (λ t. shut (full t) (kept t))
   where
-    shut : HoldsSome rack l.options shelf → AllStayKept load_scripts rack.before.holds rack.after.holds shelf first.NotEmpty
+    shut : HoldsSome rack l.options shelf → AllStayKept load_scripts (shelves_of rack.before).holds (shelves_of rack.after).holds shelf first.NotEmpty
         → (chances : Chances) × (GivesLoad rack l chances 8 (sinks old new before after) × AreAllKept rack load_scripts (length chances.disks))
     shut p stay =
         let images : List (List ℕ) = replicate shelf [] ++ (p.byte ∷ p.bytes) ∷ [] in
         let chances : Chances = record { disks = images; fates = [] } in
         let unfit = some_unfit shelf 0 p.byte p.bytes shelf (omega arith) in
-        let taken : AreTaken unfit_new rack.before.holds l.options.shelves images = record {
-          held = some_held rack.before.holds shelf 0 (p.byte ∷ p.bytes) shelf (omega arith) p.empty p.held;
+        let taken : AreTaken unfit_new (held_anew rack.before) l.options.shelves images = record {
+          held = some_held (held_anew rack.before) shelf 0 (p.byte ∷ p.bytes) shelf (omega arith) p.empty p.held;
           all = λ none. absurd (let no : None ≡ Some (shelf, not_empty) = sym none ∙ unfit in cc);
         } in
         let is : loaded l chances ≡ record { text = []; error = unfit_line shelf not_empty; status = 8 } =
@@ -212,13 +213,13 @@ some_leaves rack l shelf old new before after full kept asked line =
 
 -- the run did not begin
 pub first_leaves : (rack : Racks) (l : LoadOptions) (shelf : ℕ) (why : OpenCause) (s : Status) (old new : Option (List ℕ)) (before after : ℕ)
-    → (IsTrue rack.tells → IsClosedBy rack.before.holds l.options.shelves shelf why) → (why ≡ first.Disk → ShelfFailed rack shelf)
-    → (IsTrue rack.tells → AllStayKept load_scripts rack.before.holds rack.after.holds shelf why) → AsksForFirst (shelf + 1) rack.before rack.after
-    → rack.before.faults ≤ rack.after.faults
+    → (IsTrue rack.tells → IsClosedBy rack.before l.options.shelves shelf why) → (why ≡ first.Disk → ShelfFailed rack shelf)
+    → (IsTrue rack.tells → AllStayKept load_scripts (shelves_of rack.before).holds (shelves_of rack.after).holds shelf why) → AsksUntil (shelf + 1) shelf rack.before rack.after
+    → (why ≡ first.NotEmpty → AsksForFirst (shelf + 1) rack.before rack.after) → rack.before.faults ≤ rack.after.faults
     → TellsUnopened shelf why s (sinks old new before after) → HasLeft rack l s (sinks old new before after)
-first_leaves rack l shelf why s old new before after closed failed kept asked later (untold is line) =
+first_leaves rack l shelf why s old new before after closed failed kept asked all later (untold is line) =
     memory_leaves rack l s old new before after is line (λ t. none_loaded rack l shelf why (is_unopened rack load_scripts l.options.shelves shelf why (closed t) failed (kept t) asked) later)
-first_leaves rack l shelf first.Disk s old new before after closed failed kept asked later (told line is same p) =
+first_leaves rack l shelf first.Disk s old new before after closed failed kept asked all later (told line is same p) =
     subst (λ x. HasLeft rack l x (sinks old new before after)) (sym same) (
       no_chances,
       (
@@ -231,16 +232,16 @@ first_leaves rack l shelf first.Disk s old new before after closed failed kept a
         ),
       ),
     )
-first_leaves rack l shelf first.NotEmpty s old new before after closed failed kept asked later (told line is same p) =
+first_leaves rack l shelf first.NotEmpty s old new before after closed failed kept asked all later (told line is same p) =
     subst (λ x. HasLeft rack l x (sinks old new before after)) (sym same)
-    (some_leaves rack l shelf old new before after (λ t. holds_some rack l.options shelf (closed t)) kept asked (subst (λ w. AppendsUnlessFault old new w before after) (sym (same_Some _ _ is)) p))
-first_leaves rack l shelf (first.Damaged place) s old new before after closed failed kept asked later (told line is same p) =
+    (some_leaves rack l shelf old new before after (λ t. holds_some rack l.options shelf (closed t)) kept (all refl) (subst (λ w. AppendsUnlessFault old new w before after) (sym (same_Some _ _ is)) p))
+first_leaves rack l shelf (first.Damaged place) s old new before after closed failed kept asked all later (told line is same p) =
     subst (λ x. HasLeft rack l x (sinks old new before after)) (sym same) (no_chances, λ t. absurd (closed t))
-first_leaves rack l shelf (first.Other place) s old new before after closed failed kept asked later (told line is same p) =
+first_leaves rack l shelf (first.Other place) s old new before after closed failed kept asked all later (told line is same p) =
     subst (λ x. HasLeft rack l x (sinks old new before after)) (sym same) (no_chances, λ t. absurd (closed t))
-first_leaves rack l shelf (first.Full size) s old new before after closed failed kept asked later (told line is same p) =
+first_leaves rack l shelf (first.Full size) s old new before after closed failed kept asked all later (told line is same p) =
     subst (λ x. HasLeft rack l x (sinks old new before after)) (sym same) (no_chances, λ t. absurd (closed t))
-first_leaves rack l shelf first.Memory s old new before after closed failed kept asked later (told line is same p) = absurd (let no : None ≡ Some line = is in cc)
+first_leaves rack l shelf first.Memory s old new before after closed failed kept asked all later (told line is same p) = absurd (let no : None ≡ Some line = is in cc)
 
 -- what was left by it is left behind the closing too
 unfoldable shelf_with : (left left' : Desk → ℕ → Reopen → Type 0) → ((d : Desk) (k : ℕ) (w : Reopen) → left d k w → left' d k w) → (count : ℕ) (source : Source)
@@ -346,7 +347,7 @@ lost_if rack l left f shelf why result start last before after is b short some h
 -- memory ran out, behind some of the steps
 pub short_load : (rack : Racks) (l : LoadOptions) (left : Desk → ℕ → Reopen → Type 0) → ((d : Desk) (k : ℕ) (w : Reopen) → left d k w → IsLeft rack.after d k w) → (start last : Desk) (before after : ℕ) → Begins rack l.options load_scripts start → AreShort start → 0 < l.options.shelves
     → Measures desk_rules left most_steps (source_of l.number) (Err halt.Memory) (spot desk_rules start before) (spot desk_rules last after)
-    → HoldTheBooks last rack.after.holds → rack.before.faults ≤ before → after ≤ rack.after.faults → (chances : Chances) × RemainsLoaded rack l chances IsAny 0
+    → HoldTheBooks last (shelves_of rack.after).holds → rack.before.faults ≤ before → after ≤ rack.after.faults → (chances : Chances) × RemainsLoaded rack l chances IsAny 0
 short_load rack l left f start last before after b short some (inl h) books from to = (
   chances_of l.options h.loads.fates,
   (
@@ -375,7 +376,7 @@ short_load rack l left f start last before after b short some (inr (shelf, h)) b
 pub short_if : (rack : Racks) (l : LoadOptions) (left : Desk → ℕ → Reopen → Type 0) → ((d : Desk) (k : ℕ) (w : Reopen) → left d k w → IsLeft rack.after d k w) → (result : Result Measure Halt) (start last : Desk) (before after : ℕ) → result ≡ Err halt.Memory
     → Begins rack l.options load_scripts start → AreShort start → 0 < l.options.shelves
     → Measures desk_rules left most_steps (source_of l.number) result (spot desk_rules start before) (spot desk_rules last after)
-    → HoldTheBooks last rack.after.holds → rack.before.faults ≤ before → after ≤ rack.after.faults → (chances : Chances) × RemainsLoaded rack l chances IsAny 0
+    → HoldTheBooks last (shelves_of rack.after).holds → rack.before.faults ≤ before → after ≤ rack.after.faults → (chances : Chances) × RemainsLoaded rack l chances IsAny 0
 short_if rack l left f result start last before after is b short some h books from to =
     short_load rack l left f start last before after b short some
     (subst (λ (r : Result Measure Halt). Measures desk_rules left most_steps (source_of l.number) r (spot desk_rules start before) (spot desk_rules last after)) is h)

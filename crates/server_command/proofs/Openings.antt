@@ -1,10 +1,12 @@
 -- What opening and closing the shelves of a server leaves of its rack.
 use Rattle.std.proofs.Common.{◌≡◌, ◌≢◌, ◌<◌, ◌≤◌, ◌+◌, ◌-◌, ◌^◌, ◌++◌, ◌∷◌, ◌∙◌, ◌⊎◌, ⊎_elim, inl, inr, ℕ, zero, suc, List, [], length, Bool, true, false, IsTrue, Some, refl, sym, ap, subst, arith}
 use Rattle.std.specs.Prelude.{min, slice_get, ◌&&◌}
+use Rattle.std.specs.List.{AllByRecursion}
 use Rattle.std.proofs.lemmas.Bool.{and_parts}
 use Rattle.std.proofs.lemmas.List.{length-append}
 use Rattle.web_outside.specs.Causes.{Rose}
 use Rattle.web_disk.specs.View.{View, RackView, AreAmong}
+use Rattle.trio_rack.specs.Trios.{shelves_of}
 use Rattle.script_nodes.specs.Setup.{Named}
 use Rattle.play_steps.specs.Rules.{StaysUp}
 use Rattle.play_desk.specs.Asking.{AsksForFirst, AsksForNone, AsksForOne, AsksUntil}
@@ -18,13 +20,13 @@ use Rattle.server_command.proofs.Racks.{held_more}
 
 -- ---- what one disk does that is given back
 
--- a disk of this number was given back, with so many faults
+-- the disks of this shelf were given back, with so many faults
 pub record Gives (before after : RackView) (number faults : ℕ) : Type 0 where
-  pub home : after.out number ≡ false
-  pub others_out : (n : ℕ) → n ≢ number → after.out n ≡ before.out n
+  pub home : (shelves_of after).out number ≡ false
+  pub others_out : (n : ℕ) → n ≢ number → (shelves_of after).out n ≡ (shelves_of before).out n
   pub counts : after.faults ≡ min (before.faults + faults) (2 ^ 64 - 1)
-  pub counted : after.failed number ≡ before.failed number + faults
-  pub others_counted : (n : ℕ) → n ≢ number → after.failed n ≡ before.failed n
+  pub counted : (shelves_of before).failed number + faults ≤ (shelves_of after).failed number
+  pub others_counted : (n : ℕ) → n ≢ number → (shelves_of after).failed n ≡ (shelves_of before).failed n
   pub asked : AsksForNone before after
 
 pub same_or_not : (m n : ℕ) → (m ≡ n) ⊎ (m ≢ n)
@@ -36,25 +38,25 @@ same_or_not (suc m) (suc n) = elim (same_or_not m n) [ inl e ↦ inl (ap suc e) 
 keeps_home : (before now after : RackView) (number faults : ℕ) → KeepsHome before now → Gives now after number faults → KeepsHome before after
 keeps_home before now after number faults kept g k home =
     elim (same_or_not k number) [
-      | inl e ↦ subst (λ n. after.out n ≡ false) (sym e) g.home
+      | inl e ↦ subst (λ n. (shelves_of after).out n ≡ false) (sym e) g.home
       | inr d ↦ g.others_out k d ∙ kept k home
     ]
 
 -- no count of a number fell where one more was given back
-counts_up : (before now after : RackView) (number faults : ℕ) → StaysUp before.failed now.failed → Gives now after number faults → StaysUp before.failed after.failed
+counts_up : (before now after : RackView) (number faults : ℕ) → StaysUp (shelves_of before).failed (shelves_of now).failed → Gives now after number faults → StaysUp (shelves_of before).failed (shelves_of after).failed
 counts_up before now after number faults up g k =
     elim (same_or_not k number) [
-      | inl e ↦ subst (λ n. before.failed n ≤ after.failed n) (sym e) (let was = up number in let is = g.counted in omega (arith, was, is))
+      | inl e ↦ subst (λ n. (shelves_of before).failed n ≤ (shelves_of after).failed n) (sym e) (let was = up number in let is = g.counted in omega (arith, was, is))
       | inr d ↦ (let was = up k in let is = g.others_counted k d in omega (arith, was, is))
     ]
 
 -- the numbers from this one up to the count are home, and those below it as they were
 pub record GivesDownTo (before now : RackView) (number count : ℕ) : Type 0 where
   pub home : KeepsHome before now
-  pub back : (k : ℕ) → number ≤ k → k < count → now.out k ≡ false
-  pub lower : (k : ℕ) → k < number → now.out k ≡ before.out k
+  pub back : (k : ℕ) → number ≤ k → k < count → (shelves_of now).out k ≡ false
+  pub lower : (k : ℕ) → k < number → (shelves_of now).out k ≡ (shelves_of before).out k
   pub later : before.faults ≤ now.faults
-  pub failed_later : StaysUp before.failed now.failed
+  pub failed_later : StaysUp (shelves_of before).failed (shelves_of now).failed
   pub asked : AsksForNone before now
   pub low : now.faults ≤ 2 ^ 64 - 1
 
@@ -74,7 +76,7 @@ pub gives_before : (before now after : RackView) (number next count faults : ℕ
 gives_before before now after number next count faults is p g = record {
   home = keeps_home before now after number faults p.home g;
   back = λ k above below. elim (same_or_not k number) [
-    | inl e ↦ subst (λ n. after.out n ≡ false) (sym e) g.home
+    | inl e ↦ subst (λ n. (shelves_of after).out n ≡ false) (sym e) g.home
     | inr d ↦ g.others_out k d ∙ p.back k (omega (arith, above, d, is)) below
   ];
   lower = λ k below. g.others_out k (λ e. omega (arith, e, below)) ∙ p.lower k (omega (arith, below, is));
@@ -100,7 +102,7 @@ pub rose_since : (before mid after : ℕ) → before ≤ mid → Rose mid after 
 rose_since before mid after le rose = omega (arith, le, rose)
 
 -- nor had those of a number, before the calls failed that were made for it
-pub failed_since : (number : ℕ) (before mid after : RackView) → before.faults ≤ mid.faults → StaysUp before.failed mid.failed → FailedFor number mid after
+pub failed_since : (number : ℕ) (before mid after : RackView) → before.faults ≤ mid.faults → StaysUp (shelves_of before).failed (shelves_of mid).failed → FailedFor number mid after
     → FailedFor number before after
 failed_since number before mid after le up failed =
     let here = up number in let rose = failed.here in record { all = rose_since before.faults mid.faults after.faults le failed.all; here = omega (arith, here, rose) }
@@ -134,19 +136,19 @@ all_home told before mid after count images taken back k home =
 
 -- one disk more was taken
 pub record TakesOne (before after : RackView) (number : ℕ) : Type 0 where
-  pub out : after.out number ≡ true
-  pub others_out : (n : ℕ) → n ≢ number → after.out n ≡ before.out n
-  pub others : (n : ℕ) → n ≢ number → AreAmong (after.holds n) (before.holds n)
+  pub out : (shelves_of after).out number ≡ true
+  pub others_out : (n : ℕ) → n ≢ number → (shelves_of after).out n ≡ (shelves_of before).out n
+  pub others : (n : ℕ) → n ≢ number → AreAmong ((shelves_of after).holds n) ((shelves_of before).holds n)
   pub later : before.faults ≤ after.faults
-  pub failed : after.failed number ≡ before.failed number
-  pub others_failed : (n : ℕ) → n ≢ number → after.failed n ≡ before.failed n
+  pub failed : (shelves_of after).failed number ≡ (shelves_of before).failed number
+  pub others_failed : (n : ℕ) → n ≢ number → (shelves_of after).failed n ≡ (shelves_of before).failed n
   pub asked : AsksForOne number before after
 
 -- so many were taken; those above are as they were
 pub record TakesUpTo (told : Type 0) (before now : RackView) (number : ℕ) (images : List (List ℕ)) : Type 0 where
   pub taken : HasTaken told before now number images
-  pub above : (n : ℕ) → number ≤ n → AreAmong (now.holds n) (before.holds n)
-  pub home : (n : ℕ) → number ≤ n → now.out n ≡ before.out n
+  pub above : (n : ℕ) → number ≤ n → AreAmong ((shelves_of now).holds n) ((shelves_of before).holds n)
+  pub home : (n : ℕ) → number ≤ n → (shelves_of now).out n ≡ (shelves_of before).out n
 
 one_longer : (xs : List (List ℕ)) (image : List ℕ) (n : ℕ) → length xs ≡ n → length (xs ++ image ∷ []) ≡ n + 1
 one_longer xs image n e = omega (arith, e, length-append xs (image ∷ []))
@@ -168,20 +170,20 @@ takes_none told before = record {
 }
 
 pub takes_next : (told : Type 0) (before now after : RackView) (number : ℕ) (images : List (List ℕ)) (image : List ℕ) → TakesUpTo told before now number images
-    → TakesOne now after number → (told → now.holds number image) → TakesUpTo told before after (number + 1) (images ++ image ∷ [])
+    → TakesOne now after number → (told → (shelves_of now).holds number image) → TakesUpTo told before after (number + 1) (images ++ image ∷ [])
 takes_next told before now after number images image p one here = record {
   taken = record {
     many = one_longer images image number p.taken.many;
-    held = λ t. held_more before.holds 0 number images image (omega (arith, p.taken.many)) (p.taken.held t) (p.above number (omega arith) image (here t));
+    held = λ t. held_more (shelves_of before).holds 0 number images image (omega (arith, p.taken.many)) (p.taken.held t) (p.above number (omega arith) image (here t));
     out = λ k below. elim (same_or_not k number) [
-      | inl e ↦ subst (λ n. after.out n ≡ true) (sym e) one.out
+      | inl e ↦ subst (λ n. (shelves_of after).out n ≡ true) (sym e) one.out
       | inr d ↦ one.others_out k d ∙ p.taken.out k (omega (arith, d, below))
     ];
     others = λ k above home. one.others_out k (λ e. omega (arith, e, above)) ∙ (p.home k (omega (arith, above)) ∙ home);
     rest = λ n le x h. p.above n (omega (arith, le)) x (one.others n (λ e. omega (arith, e, le)) x h);
     later = omega (arith, p.taken.later, one.later);
     failed_later = λ n. elim (same_or_not n number) [
-      | inl e ↦ subst (λ m. before.failed m ≤ after.failed m) (sym e) (let was = p.taken.failed_later number in let is = one.failed in omega (arith, was, is))
+      | inl e ↦ subst (λ m. (shelves_of before).failed m ≤ (shelves_of after).failed m) (sym e) (let was = p.taken.failed_later number in let is = one.failed in omega (arith, was, is))
       | inr d ↦ (let was = p.taken.failed_later n in let is = one.others_failed n d in omega (arith, was, is))
     ];
     asked =
@@ -208,19 +210,24 @@ each_more K [] x all new (suc k) y e = absurd (cc e)
 each_more K (z ∷ xs) x all new zero y e = all zero y e
 each_more K (z ∷ xs) x all new (suc k) y e = each_more (λ j q. K (suc j) q) xs x (λ j q f. all (suc j) q f) new k y e
 
+-- what holds of all, and of one more
+pub all_more : {A : Type 0} (K : A → Type 0) (xs : List A) (x : A) → AllByRecursion K xs → K x → AllByRecursion K (xs ++ x ∷ [])
+all_more K [] x all new = (new, tt)
+all_more K (y ∷ xs) x all new = (all.0, all_more K xs x all.1 new)
+
 -- disks that were taken came home, where one of them was not taken
 pub some_home : (told : Type 0) (before mid after last : RackView) (count : ℕ) (images : List (List ℕ)) → TakesUpTo told before mid count images
-    → ((n : ℕ) → after.out n ≡ mid.out n) → TakesBack after last 0 count → KeepsHome before last
+    → KeepsHome mid after → TakesBack after last 0 count → KeepsHome before last
 some_home told before mid after last count images p same back k home =
     elim (below_or_not k count) [
       | inl below ↦ back.back k (omega arith) (omega (arith, below))
-      | inr above ↦ back.home k (same k ∙ (p.home k above ∙ home))
+      | inr above ↦ back.home k (same k (p.home k above ∙ home))
     ]
 
 -- disks that were taken came home as they were, and no other was touched
 pub kept_home : {D : Type 0} (view : D → View) (told : Type 0) (before mid after last : RackView) (count : ℕ) (images : List (List ℕ)) (disks : List D)
-    → TakesUpTo told before mid count images → length disks ≡ count → AreFrom view before disks → ((n : ℕ) → AreAmong (after.holds n) (mid.holds n))
-    → ((k : ℕ) (d : D) → slice_get disks k ≡ Some d → AreAmong (last.holds k) (view d).images) → LeavesFrom (length disks) after last
+    → TakesUpTo told before mid count images → length disks ≡ count → AreFrom view before disks → ((n : ℕ) → AreAmong ((shelves_of after).holds n) ((shelves_of mid).holds n))
+    → ((k : ℕ) (d : D) → slice_get disks k ≡ Some d → AreAmong ((shelves_of last).holds k) (view d).images) → LeavesFrom (length disks) after last
     → LeavesFrom 0 before last
 kept_home {D = D} view told before mid after last count images disks p many from same held others n le image h =
     elim (below_or_not n (length disks)) [

@@ -1,5 +1,5 @@
 -- In which order the outside was asked, by what the parts of a command say.
-use Rattle.std.proofs.Common.{◌≡◌, ◌⊎◌, inl, inr, ℕ, List, Bool, Option, Some, None, Result, Ok, Err, refl, sym, subst}
+use Rattle.std.proofs.Common.{◌≡◌, ◌⊎◌, ◌+◌, arith, inl, inr, ℕ, List, Bool, Option, Some, None, Result, Ok, Err, refl, sym, subst}
 use Rattle.web_disk.specs.View.{RackView}
 use Rattle.web_outside.specs.declared.source.InputFault.{InputFault}
 use Rattle.web_outside.specs.declared.source.InputFault.TheVariants as faults
@@ -16,7 +16,7 @@ use Rattle.server_command.specs.declared.serving.ServeFault.TheVariants as fault
 use Rattle.play_desk.specs.declared.opening.OpenCause.{OpenCause}
 use Rattle.play_desk.specs.declared.opening.OpenCause.TheVariants as cause
 use Rattle.play_desk.specs.declared.opening.OpenFault.{OpenFault}
-use Rattle.play_desk.specs.Asking.{AsksForAll, AsksForFirst, AsksForNone}
+use Rattle.play_desk.specs.Asking.{AsksForAll, AsksForFirst, AsksForNone, AsksUntil}
 use Rattle.server_command.specs.Opening.{AsksByCause}
 use Rattle.server_command.specs.Racks.{Racks, AtRest, racks_of}
 use Rattle.server_command.specs.Output.{Sinks}
@@ -200,3 +200,7 @@ unworded_order asks rack asked s is undrawn shut rest = subst (AsksInOrder asks 
     by_words (Some (Play o)) = (undrawn, shut, inl rest.asked)
     by_words (Some (Serve s)) = inl rest.asked
     by_words (Some (Load l)) = (undrawn, shut, inl rest.asked)
+
+-- the disks up to those of a shelf, of so many shelves or of the first up to that one
+pub until_own : (count shelf : ℕ) (old new : RackView) → AsksUntil count shelf old new → AsksUntil (shelf + 1) shelf old new
+until_own count shelf old new p = record { low = omega arith; numbers = p.numbers; first = p.first; asked = p.asked }

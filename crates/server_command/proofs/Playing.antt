@@ -4,6 +4,8 @@ use Rattle.std.specs.Prelude.{count_by, replicate}
 use Rattle.std.proofs.lemmas.List.{length-append, length-replicate}
 use Rattle.std.specs.Fmt.{decimal}
 use Rattle.std.specs.Io.KnownBytes.{Appends, Keeps}
+use Rattle.web_disk.specs.View.{RackView}
+use Rattle.trio_rack.specs.Trios.{MayBeBare, shelves_of}
 use Rattle.web_outside.specs.Causes.{Rose}
 use Rattle.web_outside.specs.Pieces.{AppendsUnlessFault}
 use Rattle.web_outside.proofs.Writes.{appends_kept, appends_none}
@@ -24,11 +26,11 @@ use Rattle.play_steps.specs.Played as played
 use Rattle.play_steps.specs.Played.{Plays, Halts, HasRisen, RoseBy, Waits}
 use Rattle.play_desk.specs.Desk.{Desk, desk_rules, is_fault}
 use Rattle.play_desk.specs.Laws.{TranscriptsAreRuns}
-use Rattle.play_desk.specs.Asking.{AsksForFirst}
+use Rattle.play_desk.specs.Asking.{AsksForFirst, AsksUntil}
 use Rattle.play_desk.specs.Opening.{AllStayKept, HoldTheBooks, IsClosedBy, IsLeft}
 use Rattle.play_desk.specs.declared.opening.OpenCause.{OpenCause}
 use Rattle.play_desk.specs.declared.opening.OpenCause.TheVariants as cause
-use Rattle.server_command.specs.Racks.{Racks, AreHeld, AreTaken, HaveBegun, ShelfFailed, full, not_empty, first_unfit, unfit_new, disk_line, unfit_line}
+use Rattle.server_command.specs.Racks.{Racks, AreHeld, AreTaken, HaveBegun, ShelfFailed, full, not_empty, first_unfit, unfit_new, disk_line, unfit_line, held_anew}
 use Rattle.server_command.specs.Output.{Chances, Output, output_of, desk_for, run_of, steps_for, finished, ended, sinks, Tells, BreaksOff, at_line, replies, at_first, at_crash, unless_shut}
 use Rattle.server_command.specs.Remains.{AreAllKept, HaveFailed, IsAny, IsBehind, IsFailed, IsLostBehind, IsUnopened, Loses, Pauses, Remains, RemainsShut, RemainsUnwritten, TellsOutgrown, unopened, performed, lost}
 use Rattle.server_command.specs.Command.{Gives, Known, LeavesShut, Outputs, PlaysEvents, Settles, StandFor, TakesDisks, TellsLine, with_setup}
@@ -73,9 +75,9 @@ so_many zero x = refl
 so_many (suc n) x = ap suc (so_many n x)
 
 pub are_taken : (rack : Racks) (o : Options) (scripts : List Named) (d : Desk) → Begins rack o scripts d
-    → AreTaken unfit_new rack.before.holds o.shelves (replicate o.shelves [])
+    → AreTaken unfit_new (held_anew rack.before) o.shelves (replicate o.shelves [])
 are_taken rack o scripts d b = record {
-  held = all_held rack.before.holds o.shelves 0 o.shelves (omega arith) b.began.empty;
+  held = all_held (held_anew rack.before) o.shelves 0 o.shelves (omega arith) b.began.empty;
   all = λ none. so_many o.shelves [];
 }
 
@@ -110,12 +112,12 @@ plays_events law o bytes setup chances is none =
     }
 
 stand_for : (rack : Racks) (o : Options) (bytes : List ℕ) (setup : Parsed) (d e : Desk) (fates : List Fate) (run : Run desk_rules) → setup_of Steps bytes ≡ Ok setup
-    → d ≡ desk_for o setup.scripts → transcript desk_rules d 1 (steps_for o setup) fates ≡ run → run.state ≡ e → HoldTheBooks e rack.after.holds
+    → d ≡ desk_for o setup.scripts → transcript desk_rules d 1 (steps_for o setup) fates ≡ run → run.state ≡ e → HoldTheBooks e (shelves_of rack.after).holds
     → HaveFailed rack fates 0 → HaveBegun rack o.shelves → StandFor rack (Play o) (setup_of Steps bytes) (chances_of o fates)
 stand_for rack o bytes setup d e fates run h first is last l counted began =
     let same = ap (λ (x : Desk). (transcript desk_rules x 1 (steps_for o setup) fates).state) (sym first) ∙ (ap (λ (r : Run desk_rules). r.state) is ∙ last) in
     subst (λ (r : Result Parsed Fault). StandFor rack (Play o) r (chances_of o fates)) (sym h)
-    (subst (λ (x : Desk). HoldTheBooks x rack.after.holds) (sym same) l, counted, began)
+    (subst (λ (x : Desk). HoldTheBooks x (shelves_of rack.after).holds) (sym same) l, counted, began)
 
 -- the count of a rack, by that of the stage before and behind the events of these fates
 pub have_failed : (rack : Racks) (fates : List Fate) (before after : ℕ) → rack.before.faults ≤ before → HasRisen desk_rules fates before after
@@ -165,7 +167,7 @@ pub record Ran (rack : Racks) (o : Options) (scripts : List Named) (steps : List
   pub before : ℕ
   pub after : ℕ
   pub plays : Plays desk_rules steps end (played.scene desk_rules old first before) (played.scene desk_rules mid last after)
-  pub left : HoldTheBooks last rack.after.holds
+  pub left : HoldTheBooks last (shelves_of rack.after).holds
   pub from : rack.before.faults ≤ before
   pub to : after ≤ rack.after.faults
 
@@ -257,7 +259,7 @@ pub record Halted (rack : Racks) (o : Options) (scripts : List Named) (steps : L
   pub before : ℕ
   pub after : ℕ
   pub halts : Halts desk_rules steps shown (played.scene desk_rules old first before) (played.scene desk_rules mid last after)
-  pub left : HoldTheBooks last rack.after.holds
+  pub left : HoldTheBooks last (shelves_of rack.after).holds
   pub from : rack.before.faults ≤ before
   pub to : after ≤ rack.after.faults
 
@@ -303,7 +305,7 @@ pub record Waiting (rack : Racks) (o : Options) (scripts : List Named) (steps : 
   pub before : ℕ
   pub after : ℕ
   pub waits : Waits desk_rules steps (played.scene desk_rules old first before) (played.scene desk_rules mid last after)
-  pub left : HoldTheBooks last rack.after.holds
+  pub left : HoldTheBooks last (shelves_of rack.after).holds
   pub from : rack.before.faults ≤ before
   pub to : after ≤ rack.after.faults
 
@@ -503,19 +505,19 @@ unread_outputs rack o bytes setup shelf old new before after h failed kept told 
 )
 
 -- the disks before the first that is not opened may hold nothing
-pub closed_before : (holds : ℕ → List ℕ → Type 0) (count shelf : ℕ) (why : OpenCause) → IsClosedBy holds count shelf why → (k : ℕ) → k < shelf → holds k []
-closed_before holds count shelf cause.NotEmpty h = h.1.before
-closed_before holds count shelf (cause.Damaged place) h = absurd h
-closed_before holds count shelf (cause.Other place) h = absurd h
-closed_before holds count shelf (cause.Full length) h = absurd h
-closed_before holds count shelf cause.Disk h = h.1
-closed_before holds count shelf cause.Memory h = h.1
+pub closed_before : (rack : RackView) (count shelf : ℕ) (why : OpenCause) → IsClosedBy rack count shelf why → (k : ℕ) → k < shelf → MayBeBare rack k
+closed_before rack count shelf cause.NotEmpty h = h.1.before
+closed_before rack count shelf (cause.Damaged place) h = absurd h
+closed_before rack count shelf (cause.Other place) h = absurd h
+closed_before rack count shelf (cause.Full length) h = absurd h
+closed_before rack count shelf cause.Disk h = h.1
+closed_before rack count shelf cause.Memory h = h.1
 
-pub is_unopened : (rack : Racks) (scripts : List Named) (count shelf : ℕ) (why : OpenCause) → IsClosedBy rack.before.holds count shelf why
-    → (why ≡ cause.Disk → ShelfFailed rack shelf) → AllStayKept scripts rack.before.holds rack.after.holds shelf why
-    → AsksForFirst (shelf + 1) rack.before rack.after → IsUnopened rack scripts shelf why
+pub is_unopened : (rack : Racks) (scripts : List Named) (count shelf : ℕ) (why : OpenCause) → IsClosedBy rack.before count shelf why
+    → (why ≡ cause.Disk → ShelfFailed rack shelf) → AllStayKept scripts (shelves_of rack.before).holds (shelves_of rack.after).holds shelf why
+    → AsksUntil (shelf + 1) shelf rack.before rack.after → IsUnopened rack scripts shelf why
 is_unopened rack scripts count shelf why closed failed kept asked =
-    record { asked = inl asked; before = closed_before rack.before.holds count shelf why closed; failed = failed; kept = kept }
+    record { asked = inl asked; before = closed_before rack.before count shelf why closed; failed = failed; kept = kept }
 
 -- memory ran out, or was not there to tell why a shelf was not opened
 pub unopened_early : (rack : Racks) (o : Options) (bytes : List ℕ) (setup : Parsed) (shelf : ℕ) (why : OpenCause) (s : Status) (old new : Option (List ℕ)) (before after : ℕ)
@@ -531,10 +533,10 @@ unopened_early rack o bytes setup shelf why s old new before after h kept later 
 -- the disks before this one are empty, and this one holds something
 pub record HoldsSome (rack : Racks) (o : Options) (shelf : ℕ) : Type 0 where
   pub within : shelf < o.shelves
-  pub empty : (k : ℕ) → k < shelf → rack.before.holds k []
+  pub empty : (k : ℕ) → k < shelf → MayBeBare rack.before k
   pub byte : ℕ
   pub bytes : List ℕ
-  pub held : rack.before.holds shelf (byte ∷ bytes)
+  pub held : held_anew rack.before shelf (byte ∷ bytes)
 
 some_chances : (rack : Racks) (o : Options) (shelf : ℕ) → HoldsSome rack o shelf → Chances
 some_chances rack o shelf p = record { disks = replicate shelf [] ++ (p.byte ∷ p.bytes) ∷ []; fates = [] }
@@ -550,7 +552,7 @@ some_held holds (suc n) k image m is each here =
     (each k (omega (arith, is)), some_held holds n (k + 1) image m (omega (arith, is)) each here)
 
 -- nothing was lost where one disk is not empty, and those behind it were not taken
-pub all_stay : (rack : Racks) (scripts : List Named) (shelf : ℕ) (image : List ℕ) → AllStayKept scripts rack.before.holds rack.after.holds shelf cause.NotEmpty
+pub all_stay : (rack : Racks) (scripts : List Named) (shelf : ℕ) (image : List ℕ) → AllStayKept scripts (shelves_of rack.before).holds (shelves_of rack.after).holds shelf cause.NotEmpty
     → AsksForFirst (shelf + 1) rack.before rack.after → AreAllKept rack scripts (length (replicate shelf [] ++ image ∷ []))
 all_stay rack scripts shelf image stay asked = record {
   asked =
@@ -565,20 +567,20 @@ all_stay rack scripts shelf image stay asked = record {
 
 pub some_outputs : (rack : Racks) (o : Options) (bytes : List ℕ) (setup : Parsed) (shelf : ℕ) (old new : Option (List ℕ)) (before after : ℕ)
     → setup_of Steps bytes ≡ Ok setup → (IsTrue rack.tells → HoldsSome rack o shelf)
-    → (IsTrue rack.tells → AllStayKept setup.scripts rack.before.holds rack.after.holds shelf cause.NotEmpty)
+    → (IsTrue rack.tells → AllStayKept setup.scripts (shelves_of rack.before).holds (shelves_of rack.after).holds shelf cause.NotEmpty)
     → AsksForFirst (shelf + 1) rack.before rack.after → AppendsUnlessFault old new (unfit_line shelf not_empty) before after → Outputs rack (Play o) bytes status.Journal (sinks old new before after)
 some_outputs rack o bytes setup shelf old new before after h held kept asked told =
     by_tells rack o bytes setup h (λ chances. LeavesShut rack (Play o) bytes chances (sinks old new before after))
     (λ t. let x = shut (held t) (kept t) in (x.0, inl x.1))
   where
-    shut : HoldsSome rack o shelf → AllStayKept setup.scripts rack.before.holds rack.after.holds shelf cause.NotEmpty
+    shut : HoldsSome rack o shelf → AllStayKept setup.scripts (shelves_of rack.before).holds (shelves_of rack.after).holds shelf cause.NotEmpty
         → (chances : Chances) × (Gives rack (Play o) bytes chances 8 (sinks old new before after) × RemainsShut rack (Play o) (setup_of Steps bytes) chances)
     shut p stay =
         let images : List (List ℕ) = replicate shelf [] ++ (p.byte ∷ p.bytes) ∷ [] in
         let chances : Chances = record { disks = images; fates = [] } in
         let unfit = some_unfit shelf 0 p.byte p.bytes shelf (omega arith) in
-        let taken : AreTaken unfit_new rack.before.holds o.shelves images = record {
-          held = some_held rack.before.holds shelf 0 (p.byte ∷ p.bytes) shelf (omega arith) p.empty p.held;
+        let taken : AreTaken unfit_new (held_anew rack.before) o.shelves images = record {
+          held = some_held (held_anew rack.before) shelf 0 (p.byte ∷ p.bytes) shelf (omega arith) p.empty p.held;
           all = λ none. absurd (let no : None ≡ Some (shelf, not_empty) = sym none ∙ unfit in cc);
         } in
         let is : output_of (Play o) bytes chances ≡ record { text = []; error = unfit_line shelf not_empty; status = 8 } =

@@ -21,7 +21,7 @@ use Rattle.replay_spec.proofs.Reopened.{same_self}
 use Rattle.web_disk.specs.View.{RackView}
 use Rattle.play_steps.specs.Rules.{Call, answered, event}
 use Rattle.play_steps.specs.Step as steps
-use Rattle.play_steps.specs.Step.{Step, is_edit, lines_in}
+use Rattle.play_steps.specs.Step.{Step, lines_in}
 use Rattle.play_steps.specs.Transcript as run
 use Rattle.play_steps.specs.Transcript.{Run, End, done, bad_line, called, crashed, first_fate, fits, goes_on, got, later_fates, performed, published, stopped as halted, transcript, went}
 use Rattle.play_steps.specs.Reports.{sweep_report, take_report}
@@ -29,7 +29,6 @@ use Rattle.play_steps.specs.declared.report.Report.TheVariants.{Replied, Reopene
 use Rattle.play_steps.specs.declared.stage.Reopen.TheVariants as reopen
 use Rattle.measured_run.specs.Drawing.{drawn_over, run_drawn, source_past, step_over, steps_drawn}
 use Rattle.measured_run.specs.Generator.{Source, choice_of, drawn, lot_of, next_step, step_of, visit_of, visit_target, worker_of}
-use Rattle.measured_run.proofs.Fitting.{none_edits}
 use Rattle.measured_run.specs.Lines.{played}
 use Rattle.measured_run.specs.declared.step.LoadStep.{LoadStep}
 use Rattle.measured_run.specs.declared.step.LoadStep.TheVariants as load
@@ -339,6 +338,20 @@ crash_below shelves holds source r some =
     (one_of (CrashesBelow shelves) (holds w) (load.Publish w) made tt
     (one_of (CrashesBelow shelves) (lot_of r % 2 == 0) (load.Take w target) (load.Get w target) tt tt)))
 
+-- whether a step changes a setup or compacts a journal
+abbrev rewrites : Step → Bool
+rewrites (steps.edit name text) = true
+rewrites (steps.compact shelf) = true
+rewrites _ = false
+
+-- no drawn step does
+none_rewrites : (step : LoadStep) → rewrites (played step) ≡ false
+none_rewrites (load.Crash shelf) = refl
+none_rewrites (load.Tick time) = refl
+none_rewrites (load.Publish worker) = refl
+none_rewrites (load.Take worker target) = refl
+none_rewrites (load.Get worker target) = refl
+
 -- a drawn crash is one of a shelf of the desk
 drawn_crash : (source : Source) (d : Desk) (shelf : ℕ) → 0 < length d.shelves → step_over desk_rules source d ≡ steps.crash shelf → shelf < length d.shelves
 unfolding next_step
@@ -422,7 +435,7 @@ module _ (scripts : List Named) (count : ℕ) where
       called_keeps (IsRoomy scripts count) (desk_crash d shelf) d fates (λ lives. went desk_rules (Reopened shelf lives ∷ [])) h
       (crash_roomy d shelf (slice_get d.shelves shelf) refl h) (λ a e fs x. x)
 
-  performed_roomy : (step : Step) (d : Desk) (fates : List Fate) → is_edit step ≡ false → IsRoomy scripts count d → IsRoomy scripts count (performed desk_rules step d fates).state
+  performed_roomy : (step : Step) (d : Desk) (fates : List Fate) → rewrites step ≡ false → IsRoomy scripts count d → IsRoomy scripts count (performed desk_rules step d fates).state
   performed_roomy (steps.take worker target) d fates unedited h =
       called_keeps (IsRoomy scripts count) (desk_take d worker target) d fates (λ x. went desk_rules (take_report worker x ∷ [])) h
       (desk_take_roomy d worker target h) (λ a e fs x. x)
@@ -433,6 +446,7 @@ module _ (scripts : List Named) (count : ℕ) where
   performed_roomy (steps.tick time) d fates unedited h = ticked_roomy time (length d.shelves) 0 d fates h
   performed_roomy (steps.crash shelf) d fates unedited h = crash_run_roomy shelf d fates h
   performed_roomy (steps.edit name text) d fates unedited h = absurd (let no : ⊥ = cc unedited in no)
+  performed_roomy (steps.compact shelf) d fates unedited h = absurd (let no : ⊥ = cc unedited in no)
   performed_roomy (steps.crash_edited shelf) d fates unedited h = crash_run_roomy shelf d fates h
 
   goes_roomy : (end : End) (first second : Run desk_rules) → IsRoomy scripts count first.state → IsRoomy scripts count second.state
@@ -440,11 +454,11 @@ module _ (scripts : List Named) (count : ℕ) where
   goes_roomy done first second h k = k
   goes_roomy (bad_line number) first second h k = h
 
-  -- none of the steps is an edit
+  -- none of the steps changes a setup or compacts a journal
   abbrev ArePlain : List (Option Step) → Type 0
   ArePlain [] = ⊤
   ArePlain (None ∷ steps) = ⊤
-  ArePlain (Some step ∷ steps) = (is_edit step ≡ false) × ArePlain steps
+  ArePlain (Some step ∷ steps) = (rewrites step ≡ false) × ArePlain steps
 
   if_roomy : (t : Bool) (x y : Run desk_rules) → IsRoomy scripts count x.state → IsRoomy scripts count y.state → IsRoomy scripts count (if t then x else y).state
   if_roomy true x y h k = h
@@ -467,7 +481,7 @@ module _ (scripts : List Named) (count : ℕ) where
   drawn_plain zero source d fates = tt
   drawn_plain (suc times) source d fates =
       let x = performed desk_rules (step_over desk_rules source d) d fates in
-      (none_edits (drawn_over desk_rules source d).0, drawn_plain times (source_past desk_rules source d x.told) x.state x.fates)
+      (none_rewrites (drawn_over desk_rules source d).0, drawn_plain times (source_past desk_rules source d x.told) x.state x.fates)
 
   -- a measured run leaves room in its journals
   pub drawn_roomy : (times : ℕ) (source : Source) (d : Desk) (fates : List Fate) → IsRoomy scripts count d
@@ -483,7 +497,7 @@ module _ (scripts : List Named) (count : ℕ) where
   last_within (suc times) source d fates shelf some h is =
       let x = performed desk_rules (step_over desk_rules source d) d fates in
       last_within times (source_past desk_rules source d x.told) x.state x.fates shelf some
-      (performed_roomy (step_over desk_rules source d) d fates (none_edits (drawn_over desk_rules source d).0) h) (same_tail _ _ _ _ is)
+      (performed_roomy (step_over desk_rules source d) d fates (none_rewrites (drawn_over desk_rules source d).0) h) (same_tail _ _ _ _ is)
 
   -- there was room for the setup that a shelf of such a desk was to be opened with
   pub no_overflow : (rack : RackView) (d : Desk) (shelf size : ℕ) (s : Shelf) → IsRoomy scripts count d → slice_get d.shelves shelf ≡ Some s

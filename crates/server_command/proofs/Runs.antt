@@ -1,6 +1,7 @@
 -- What a run of steps on a desk leaves, by what its opening, its steps and its closing tell.
 use Rattle.web_outside.specs.Causes.{Rose}
-use Rattle.std.proofs.Common.{◌≡◌, ◌<◌, ◌≤◌, ◌∙◌, inl, inr, ℕ, List, [], length, Option, Some, ap, subst}
+use Rattle.std.proofs.Common.{◌≡◌, ◌<◌, ◌≤◌, ◌∙◌, inl, inr, ℕ, List, length, Option, Some, ap, subst}
+use Rattle.trio_rack.specs.Trios.{MayBeBare, shelves_of}
 use Rattle.command_words.specs.declared.Options.{Options}
 use Rattle.journal_spec.specs.Lengths.{journal_rules}
 use Rattle.script_nodes.specs.Setup.{Named}
@@ -35,11 +36,11 @@ desk_asked o scripts r a =
 
 -- a desk that was opened is the first of a run
 pub begins : (rack : Racks) (o : Options) (scripts : List Named) (r : Rules) (d : Desk) → AreAsked o r → d ≡ first_desk (rules_at r) scripts r.shelves
-    → ((k : ℕ) → k < r.shelves → rack.before.holds k []) → AsksForAll r.shelves rack.before rack.after → Begins rack o scripts d
+    → ((k : ℕ) → k < r.shelves → MayBeBare rack.before k) → AsksForAll r.shelves rack.before rack.after → Begins rack o scripts d
 begins rack o scripts r d a is empty asked = record {
   first = is ∙ desk_asked o scripts r a;
   began = record {
-    empty = subst (λ n. (k : ℕ) → k < n → rack.before.holds k []) a.shelves empty;
+    empty = subst (λ n. (k : ℕ) → k < n → MayBeBare rack.before k) a.shelves empty;
     asked = subst (λ n. AsksForAll n rack.before rack.after) a.shelves asked;
   };
 }
@@ -82,7 +83,7 @@ on_first o scripts first text P is h = subst (λ (d : Desk). P (played_on desk_r
 pub ran : (rack : Racks) (o : Options) (scripts : List Named) (text : List ℕ) (end : End) (old mid : Option (List ℕ)) (first last : Desk) (before after : ℕ)
     → Begins rack o scripts first
     → Plays desk_rules (played_on desk_rules first text) end (played.scene desk_rules old first before) (played.scene desk_rules mid last after)
-    → HoldTheBooks last rack.after.holds → rack.before.faults ≤ before → after ≤ rack.after.faults → Ran rack o scripts (steps_on o scripts text) end old mid
+    → HoldTheBooks last (shelves_of rack.after).holds → rack.before.faults ≤ before → after ≤ rack.after.faults → Ran rack o scripts (steps_on o scripts text) end old mid
 ran rack o scripts text end old mid first last before after b h left from to = record {
   first = first;
   last = last;
@@ -102,7 +103,7 @@ Unwritten rack o scripts steps old mid = (shown : List ℕ) × (p : Halted rack 
 pub halted : (rack : Racks) (o : Options) (scripts : List Named) (text : List ℕ) (old mid : Option (List ℕ)) (first last : Desk) (before after : ℕ)
     → Begins rack o scripts first
     → Leaves desk_rules (λ d k w. ⊥) (played_on desk_rules first text) Write (played.scene desk_rules old first before) (played.scene desk_rules mid last after)
-    → HoldTheBooks last rack.after.holds → rack.before.faults ≤ before → after ≤ rack.after.faults → Unwritten rack o scripts (steps_on o scripts text) old mid
+    → HoldTheBooks last (shelves_of rack.after).holds → rack.before.faults ≤ before → after ≤ rack.after.faults → Unwritten rack o scripts (steps_on o scripts text) old mid
 halted rack o scripts text old mid first last before after b h left from to = by_steps h
   where
     here : List (Option Step) → Type 0
@@ -137,7 +138,7 @@ lost rack o scripts text shelf why old mid first last before after b left f h fr
 pub paused : (rack : Racks) (o : Options) (scripts : List Named) (text : List ℕ) (old mid : Option (List ℕ)) (first last : Desk) (before after : ℕ)
     → Begins rack o scripts first → (left : Desk → ℕ → Reopen → Type 0) → ((d : Desk) (k : ℕ) (w : Reopen) → left d k w → IsLeft rack.after d k w)
     → RunsOut desk_rules left (played_on desk_rules first text) (played.scene desk_rules old first before) (played.scene desk_rules mid last after)
-    → HoldTheBooks last rack.after.holds → rack.before.faults ≤ before → after ≤ rack.after.faults → RanOut rack o scripts (steps_on o scripts text) old mid
+    → HoldTheBooks last (shelves_of rack.after).holds → rack.before.faults ≤ before → after ≤ rack.after.faults → RanOut rack o scripts (steps_on o scripts text) old mid
 paused rack o scripts text old mid first last before after b left f h books from to =
     by_steps (on_first o scripts first text
     (λ steps. RunsOut desk_rules left steps (played.scene desk_rules old first before) (played.scene desk_rules mid last after)) b.first h)

@@ -2,6 +2,7 @@
 use Rattle.std.proofs.Common.{◌≡◌, ◌≢◌, ◌∙◌, [], inl, inr, ap, subst, sym, ℕ, List, length, Option, Some, None, IfSome, IsTrue, Result, Ok, refl, arith, codes}
 use Rattle.std.specs.Prelude.{Err, IsErrOf, slice_get, sum_by}
 use Rattle.std.proofs.lemmas.Option.{same_Some, slice_get_within}
+use Rattle.trio_rack.specs.Trios.{shelves_of}
 use Rattle.lock_row.proofs.Places.{get_there}
 use Rattle.play_steps.specs.Played.{RoseBy}
 use Rattle.web_disk.specs.View.{RackView, AreAmong}
@@ -55,7 +56,7 @@ pub serves_of : {D P L N : Type 0} (o : Outside D P L N) (s : Service) (scripts 
     (disks : List D) (result : Result Tally ServingFault) → length sources ≡ s.options.shelves → IfSome (o.seeds.gives s.options.shelves) (λ given. given ≡ sources)
     → (p : OpensOn o.views.disk o.views.told (IsTrue o.rack.tells) o.views.nonce (rules_for s.options) scripts sources o.rack.before middle openings)
     → (IsTrue o.rack.tells → IsTrue o.views.told) → length disks ≡ length sources
-    → (IsTrue o.rack.tells → (k : ℕ) (d : D) → slice_get disks k ≡ Some d → AreAmong (o.rack.after.holds k) (o.views.disk d).images)
+    → (IsTrue o.rack.tells → (k : ℕ) (d : D) → slice_get disks k ≡ Some d → AreAmong ((shelves_of o.rack.after).holds k) (o.views.disk d).images)
     → LeavesFrom (length disks) middle o.rack.after → RoseBy (sum_by (λ d. (o.views.disk d).faults) disks) middle.faults o.rack.after.faults
     → ComesTo o.views (opened_as o.views.disk o.views.told o.views.nonce openings) o.before o.after o.past (watch_of s) disks result
     → ServesBy (serves_over o) s scripts p.images (told_as result)
@@ -91,8 +92,8 @@ serves_of {D = D} {P = P} {L = L} {N = N} o s scripts sources middle openings di
           let rose = counts in
           omega (arith, sum, later, rose);
       stands = λ t k x h x_is h_is. stands_from o.views.disk o.views.told (IsTrue o.rack.tells) o.views.nonce (rules_for s.options) scripts 0 s.workers
-          o.rack.after.holds p.images sources openings disks kept.histories (tells t) p.opened left.served.shelves
-          (λ i j d at d_is. subst (λ m. AreAmong (o.rack.after.holds m) (o.views.disk d).images) (let same : i ≡ j = omega (arith, at) in same) (held t i d d_is))
+          (shelves_of o.rack.after).holds p.images sources openings disks kept.histories (tells t) p.opened left.served.shelves
+          (λ i j d at d_is. subst (λ m. AreAmong ((shelves_of o.rack.after).holds m) (o.views.disk d).images) (let same : i ≡ j = omega (arith, at) in same) (held t i d d_is))
           k k x h (omega arith) x_is h_is;
     }
 
@@ -114,7 +115,7 @@ undrawn o s scripts why none same door shelf = by_why why door shelf
     keeps t = record {
       held = tt;
       read = λ k read left none is. absurd (let no : ⊥ = cc none in no);
-      unread = λ k left le is. subst (λ (r : RackView). r.holds k left) same is;
+      unread = λ k left le is. subst (λ (r : RackView). (shelves_of r).holds k left) same is;
     }
 
     by_why : (w : ServeFault) → (w ≡ fault.Door → ⊥) → ((x : OpenFault) → w ≡ fault.Shelf x → ⊥) → ServesBy (serves_over o) s scripts [] (Err w)
@@ -139,8 +140,8 @@ refuses_of o s scripts f none p = (none, by_why f.why p.refused p.in_order p.kep
   where
     Keeps : OpenCause → Type 0
     Keeps w =
-        IsTrue o.rack.tells → (k : ℕ) (read left : List ℕ) → slice_get p.images k ≡ Some read → o.rack.after.holds k left → (w ≡ cause.Disk → k ≢ f.shelf)
-        → IsKept scripts k (o.rack.before.holds k) read left
+        IsTrue o.rack.tells → (k : ℕ) (read left : List ℕ) → slice_get p.images k ≡ Some read → (shelves_of o.rack.after).holds k left → (w ≡ cause.Disk → k ≢ f.shelf)
+        → IsKept scripts k ((shelves_of o.rack.before).holds k) read left
 
     all_kept : (w : OpenCause) → IsTrue o.rack.tells → Keeps w → (w ≡ cause.Disk → ⊥) → NoneIsLost o.rack scripts p.images
     all_kept w t kept not = record {

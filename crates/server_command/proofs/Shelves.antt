@@ -1,16 +1,22 @@
 -- The shelves of a site: opened one behind the other, and standing when they were given back.
-use Rattle.std.proofs.Common.{◌≡◌, ◌≢◌, ◌<◌, ◌≤◌, ◌+◌, ◌-◌, ◌^◌, ◌++◌, ◌∷◌, ◌∙◌, inl, inr, ℕ, append-nil, zero, suc, List, [], length, Bool, IsTrue, Some, None, refl, sym, ap, subst, arith}
+use Rattle.std.proofs.Common.{◌≡◌, ◌≢◌, ◌<◌, ◌≤◌, ◌+◌, ◌-◌, ◌^◌, ◌++◌, ◌∷◌, ◌∙◌, ◌⊎◌, inl, inr, ℕ, append-nil, zero, suc, List, [], length, Bool, IsTrue, Some, None, refl, sym, ap, subst, arith}
 use Rattle.std.specs.Prelude.{min, slice_get, sum_by, take}
 use Rattle.std.proofs.lemmas.List.Sums.{sum_by-cons}
 use Rattle.std.proofs.lemmas.Option.{same_Some, slice_get_within}
 use Rattle.lock_row.specs.Spots.{Home}
 use Rattle.web_disk.specs.View.{View, RackView, AreAmong}
+use Rattle.trio_rack.specs.Trios.{shelves_of}
 use Rattle.script_nodes.specs.Setup.{Named}
 use Rattle.setup_reader.specs.Texts.{setup_of_texts}
 use Rattle.replay_spec.specs.Book.{Book}
 use Rattle.replay_spec.specs.Rules as spec
-use Rattle.page_journal.specs.Records.{at_rest, stored}
-use Rattle.journal_spec.specs.Making.{book_in_bytes}
+use Rattle.page_journal.specs.Opened.{TellsFormat}
+use Rattle.page_journal.specs.Records.{at_rest, format_of, stored}
+use Rattle.journal_spec.specs.Bytes.{book_in_bytes}
+use Rattle.journal_spec.specs.Making.{Making}
+use Rattle.journal_spec.specs.Opening.{opened_on}
+use Rattle.site_serving.specs.Shelves.{IsTooLongAnew}
+use Rattle.site_serving.specs.Shelves.{HoldsAtRest, IsTooLongBehind, bodies_after, now_in_bytes}
 use Rattle.journal_spec.specs.Standing.{Stands}
 use Rattle.lock_row.proofs.Places.{get_there, map_get}
 use Rattle.site_serving.specs.Shelves as site
@@ -24,28 +30,36 @@ use Rattle.play_desk.specs.declared.opening.OpenCause.TheVariants as cause
 use Rattle.server_command.specs.Opening.{AreAsked, IsRefused, RefusesInOrder, seen_on}
 use Rattle.server_command.specs.Output.{rules_for}
 use Rattle.play_desk.specs.Asking.{AsksForFirst}
-use Rattle.play_desk.specs.Opening.{IsKept, cause_of, reopen_of}
-use Rattle.server_command.specs.Racks.{AreBare, IsBare, Unfit, found_unfit, first_unfit, unfit_left, unfit_making, damaged, other, full}
+use Rattle.play_desk.specs.Opening.{IsKept, IsReadAtRest, cause_of, reopen_of}
+use Rattle.server_command.specs.Racks.{AreBare, IsBare, Unfit, found_unfit, first_unfit, unfit_file, unfit_left, unfit_made, unfit_read, damaged, other, full}
 use Rattle.server_command.specs.Serving.{AreOpened, AreOwn, IsOpened, StandsBehind}
-use Rattle.server_command.proofs.Racks.{long_made, made_fits}
+use Rattle.server_command.proofs.Unfit.{long_anew, long_behind, made_fits}
 
 -- ---- opened
+
+-- a disk that was left as it is, or with the records that were read
+as_read : (read left : List ℕ) (new : View) → ((f : ℕ) × (TellsFormat read f × HoldsAtRest f (stored read) new)) → new.images left → IsReadAtRest read left
+as_read read left new h is = (h.0, h.1.0, h.1.1.1 left is ∙ h.1.1.0)
 
 -- a disk on which nothing was lost, and what may be left of it
 nothing_lost : (scripts : List Named) (k : ℕ) (old new : View) (held : List ℕ → Type 0) → held old.seen → AreAmong old.images held
     → site.LosesNothing scripts k old new
     → (left : List ℕ) → new.images left → IsKept scripts k held old.seen left
 nothing_lost scripts k old new held reads among (inl (inl u)) left is = inl (among left (u.1.1 left is))
-nothing_lost scripts k old new held reads among (inl (inr (intact, h))) left is =
-    inr (reads, intact, inl (h.1 left is ∙ (h.0 ∙ ap at_rest (append-nil (stored old.seen)))))
+nothing_lost scripts k old new held reads among (inl (inr (intact, inl h))) left is =
+    inr (reads, intact, inr (inl (h.1 left is ∙ (h.0 ∙ ap at_rest (append-nil (bodies_after k old.seen))))))
+nothing_lost scripts k old new held reads among (inl (inr (intact, inr (none, h)))) left is = inr (reads, intact, inl (as_read old.seen left new h is))
 nothing_lost scripts k old new held reads among (inr (inl u)) left is = inl (among left (u.1.1 left is))
-nothing_lost scripts k old new held reads among (inr (inr (intact, h))) left is = inr (reads, intact, inr (h.1 left is ∙ h.0))
+nothing_lost scripts k old new held reads among (inr (inr (intact, inl h))) left is = inr (reads, intact, inr (inr (h.1 left is ∙ h.0)))
+nothing_lost scripts k old new held reads among (inr (inr (intact, inr (none, h)))) left is = inr (reads, intact, inl (as_read old.seen left new h is))
 
 -- a disk to whose records nothing was added, and what may be left of it
-nothing_added : (old new : View) (held : List ℕ → Type 0) → held old.seen → AreAmong old.images held → site.KeepsRecords [] old new → (left : List ℕ) → new.images left
-    → IsBare held old.seen left
-nothing_added old new held reads among (inl u) left is = inl (among left (u.1.1 left is))
-nothing_added old new held reads among (inr (intact, h)) left is = inr (reads, intact, h.1 left is ∙ (h.0 ∙ ap at_rest (append-nil (stored old.seen))))
+nothing_added : (k : ℕ) (old new : View) (held : List ℕ → Type 0) → held old.seen → AreAmong old.images held → site.KeepsRecords k [] old new → (left : List ℕ)
+    → new.images left → IsBare k held old.seen left
+nothing_added k old new held reads among (inl u) left is = inl (among left (u.1.1 left is))
+nothing_added k old new held reads among (inr (intact, inl h)) left is =
+    inr (reads, intact, inr (h.1 left is ∙ (h.0 ∙ ap at_rest (append-nil (bodies_after k old.seen)))))
+nothing_added k old new held reads among (inr (intact, inr (none, h))) left is = inr (reads, intact, inl (as_read old.seen left new h is))
 
 -- the limits that were asked for, with the number of a shelf
 asked_rules : (o : Options) (r : Rules) (k : ℕ) → AreAsked o r → rules_of (site.rules_for r k) ≡ rules_for o k
@@ -60,6 +74,7 @@ module _ {D N : Type 0} (view : D → View) (tells : Bool) (told : Type 0) (nonc
     number = ap (λ (r : Rules). r.number) b.shelf.rules_are;
     book = λ t. b.shelf.book (knows t);
     short = b.shelf.in_order.sound;
+    fits = λ t. b.shelf.fits (knows t);
     opened = b.shelf.opened.again;
     stream = λ j. ap (λ (x : N). nonce x j) b.shelf.nonces_are ∙ ap (nonce n) (let same : j ≡ 0 + j = omega arith in same);
     own = λ t image. b.shelf.own (knows t) image;
@@ -114,19 +129,20 @@ pub opened_fits : {D N : Type 0} (view : D → View) (tells : Bool) (told : Type
     (openings : List (Opening D N)) → AreOpened view tells told nonce rules scripts k images sources openings → told → first_unfit (unfit_left scripts) k images ≡ None
 opened_fits view tells told nonce rules scripts k [] sources openings opened t = refl
 opened_fits view tells told nonce rules scripts k (i ∷ images) (z ∷ sources) (x ∷ openings) opened t =
-    rw (made_fits scripts k _ (book_in view x.shelf.value) (opened.0.book t) opened.0.short) (opened_fits view tells told nonce rules scripts (k + 1) images sources openings opened.1 t)
+    rw (made_fits scripts k i (book_in view x.shelf.value) (opened.0.book t) opened.0.short (opened.0.fits t)) (opened_fits view tells told nonce rules scripts (k + 1) images sources openings opened.1 t)
 opened_fits view tells told nonce rules scripts k (i ∷ images) [] openings opened t = absurd opened
 opened_fits view tells told nonce rules scripts k (i ∷ images) (z ∷ sources) [] opened t = absurd opened
 
 -- ---- the first that is not opened
 
--- the disk makes a book that is not too long
+-- the disk makes a book that is not too long, nor is its file in front of the setup
 abbrev Opens : {D : Type 0} → (D → View) → List Named → ℕ → D → Type 0
-Opens view scripts k d = (b : Book) × (MakesBook scripts k (view d) b × (b.length ≤ 2 ^ 30))
+Opens view scripts k d =
+    (b : Book) × (MakesBook scripts k (view d) b × (b.length ≤ 2 ^ 30) × (length (at_rest (bodies_after k (view d).seen)) ≤ 2 ^ 30))
 
 -- such a disk is fit
 opens_fit : {D : Type 0} (view : D → View) (scripts : List Named) (k : ℕ) (d : D) → Opens view scripts k d → unfit_left scripts k (view d).seen ≡ None
-opens_fit view scripts k d (b, (is, short)) = made_fits scripts k (book_in_bytes setup_of_texts k (view d).seen) b is short
+opens_fit view scripts k d (b, (is, short, fits)) = made_fits scripts k (view d).seen b is short fits
 
 -- behind disks that make books, one that makes none
 pub first_bad : {D : Type 0} (view : D → View) (scripts : List Named) (k i n : ℕ) (disks : List D) (d : D) (why : Unfit) → n ≡ k + i
@@ -165,11 +181,23 @@ refused_at {D = D} view tells scripts told disks nonces f risen knows not rises 
     why_not : told → (e : BeginFault) → f.fault ≡ e → IsFaultOf scripts f.shelf (view there.0) e
     why_not t e is = subst (IsFaultOf scripts f.shelf (view there.0)) is (not.disks_back.why (knows t) there.0 there.1)
 
+    unread_at : {x : Making} → book_in_bytes setup_of_texts f.shelf (view there.0).seen ≡ x
+        → unfit_left scripts f.shelf (view there.0).seen ≡ unfit_read x (unfit_file (bodies_after f.shelf (view there.0).seen)
+        (unfit_made (opened_on f.shelf scripts (now_in_bytes f.shelf (view there.0).seen))))
+    unread_at read =
+        ap (λ m. unfit_read m (unfit_file (bodies_after f.shelf (view there.0).seen)
+        (unfit_made (opened_on f.shelf scripts (now_in_bytes f.shelf (view there.0).seen))))) read
+
+    too_long : (size : ℕ) → IsTooLongAnew (format_of (view there.0).seen) f.shelf (stored (view there.0).seen) size ⊎ IsTooLongBehind scripts f.shelf (view there.0).seen size
+        → unfit_left scripts f.shelf (view there.0).seen ≡ Some (full size)
+    too_long size (inl anew) = long_anew scripts f.shelf (view there.0).seen size anew
+    too_long size (inr behind) = long_behind scripts f.shelf (view there.0).seen size behind
+
     by_fault : (e : BeginFault) → f.fault ≡ e → IsRefused told (λ k. (k < length disks) × risen k) scripts (seen_on view disks) f.shelf (cause_of (reopen_of e))
-    by_fault (fault.Damaged place) is = λ t. found t (damaged place) (ap (unfit_making scripts f.shelf) (why_not t (fault.Damaged place) is))
-    by_fault (fault.Other place) is = λ t. found t (other place) (ap (unfit_making scripts f.shelf) (why_not t (fault.Other place) is))
+    by_fault (fault.Damaged place) is = λ t. found t (damaged place) (unread_at (why_not t (fault.Damaged place) is))
+    by_fault (fault.Other place) is = λ t. found t (other place) (unread_at (why_not t (fault.Other place) is))
     by_fault (fault.Full size) is = λ t.
-        found t (full size) (long_made scripts f.shelf (book_in_bytes setup_of_texts f.shelf (view there.0).seen) size (why_not t (fault.Full size) is))
+        found t (full size) (too_long size (why_not t (fault.Full size) is))
     by_fault fault.DiskFault is =
         let rose = not.disks_back.cause is there.0 back.0 there.1 back.1 in (not.disks_back.within, rises f.shelf back.0 back.1 (omega (arith, rose)))
     by_fault fault.Memory is = tt
@@ -189,22 +217,22 @@ fit_front view scripts k (suc i) (x ∷ disks) fit =
 -- nothing was added to the records on the disks of a site that was not begun, from the shelf on that was not opened, or behind it
 bare_at : {D N : Type 0} (view : D → View) (tells : Bool) (scripts : List Named) (disks : List D) (nonces : List N) (f : SiteFault D N)
     (before after : RackView) → IsTrue tells → ((d : D) → (view d).images (view d).seen) → IsNotBegun view tells scripts disks nonces f
-    → ((k : ℕ) (d : D) → slice_get disks k ≡ Some d → AreAmong (view d).images (before.holds k))
-    → ((k : ℕ) (e : D) → slice_get f.disks.items k ≡ Some e → AreAmong (after.holds k) (view e).images)
+    → ((k : ℕ) (d : D) → slice_get disks k ≡ Some d → AreAmong (view d).images ((shelves_of before).holds k))
+    → ((k : ℕ) (e : D) → slice_get f.disks.items k ≡ Some e → AreAmong ((shelves_of after).holds k) (view e).images)
     → f.fault ≢ fault.Memory → (first : ℕ) → f.shelf ≤ first → (first ≡ f.shelf → f.fault ≢ fault.DiskFault) → AreBare before after (seen_on view disks) first
 bare_at view tells scripts disks nonces f before after t reads not held given why first low sound k read left from read_is left_is =
     let d = map_get (λ x. (view x).seen) disks k read read_is in
     let within = slice_get_within disks k d.0 d.1 in
     let e = get_there f.disks.items k (let size = not.disks_back.returned.many in omega (arith, within, size)) in
     let keeps = not.disks_back.bare t why k d.0 e.0 (omega (arith, low, from)) d.1 e.1 (λ here. sound (omega (arith, low, from, here))) in
-    subst (λ r. IsBare (before.holds k) r left) d.2
-    (nothing_added (view d.0) (view e.0) (before.holds k) (held k d.0 d.1 (view d.0).seen (reads d.0)) (held k d.0 d.1) keeps left (given k e.0 e.1 left left_is))
+    subst (λ r. IsBare k ((shelves_of before).holds k) r left) d.2
+    (nothing_added k (view d.0) (view e.0) ((shelves_of before).holds k) (held k d.0 d.1 (view d.0).seen (reads d.0)) (held k d.0 d.1) keeps left (given k e.0 e.1 left left_is))
 
 -- a site was not begun, of which all disks had been taken
 pub refused_in_order : {D N : Type 0} (view : D → View) (tells : Bool) (scripts : List Named) (disks : List D) (nonces : List N) (f : SiteFault D N)
     (before after : RackView) (count : ℕ) → IsTrue tells → ((d : D) → (view d).images (view d).seen) → IsNotBegun view tells scripts disks nonces f → length (seen_on view disks) ≡ count
-    → ((k : ℕ) (d : D) → slice_get disks k ≡ Some d → AreAmong (view d).images (before.holds k))
-    → ((k : ℕ) (e : D) → slice_get f.disks.items k ≡ Some e → AreAmong (after.holds k) (view e).images)
+    → ((k : ℕ) (d : D) → slice_get disks k ≡ Some d → AreAmong (view d).images ((shelves_of before).holds k))
+    → ((k : ℕ) (e : D) → slice_get f.disks.items k ≡ Some e → AreAmong ((shelves_of after).holds k) (view e).images)
     → AsksForFirst count before after → RefusesInOrder scripts before after count (seen_on view disks) f.shelf (cause_of (reopen_of f.fault))
 refused_in_order view tells scripts disks nonces f before after count t reads not many held given asked = by_fault f.fault refl
   where

@@ -15,6 +15,7 @@ use Rattle.web_outside.specs.Causes.{Rose}
 use Rattle.web_outside.specs.Limits.{most_of_input}
 use Rattle.web_outside.specs.Pieces.{ConsumesSome, HandsAllOn, HandsOn, ReadsPast, ReadsUpTo}
 use Rattle.web_outside.specs.View.{DoorView, SeedsView, SinkView, SourceView}
+use Rattle.trio_rack.specs.Trios.{shelves_of}
 use Rattle.script_nodes.specs.Setup.{Named}
 use Rattle.command_words.specs.App.{app}
 use Rattle.command_words.specs.Plain.{IsPlain}
@@ -34,7 +35,7 @@ use Rattle.server_command.specs.declared.program.Status.{Status}
 use Rattle.server_command.specs.declared.program.Status.TheVariants as status
 use Rattle.server_command.specs.declared.jobs.Job.{Job}
 use Rattle.server_command.specs.declared.jobs.Job.TheVariants as job
-use Rattle.server_command.specs.Racks.{Racks, AreTaken, AtRest, HaveBegun, ShelfFailed, Unfit, first_unfit, unfit_new, unfit_left}
+use Rattle.server_command.specs.Racks.{Racks, AreTaken, AtRest, HaveBegun, ShelfFailed, Unfit, first_unfit, held_anew, unfit_new, unfit_left}
 use Rattle.server_command.specs.Serving.{Serves, Faults, HaveRisen, RackFailed, LeavesInput, faults_of, outside, serves_over}
 use Rattle.server_command.specs.Order.{Asks, AsksInOrder, Both, asks_of}
 use Rattle.site_serving.specs.Serving.{Pasts, Views}
@@ -189,9 +190,9 @@ reached_by (Some asked) bytes =
 
 -- the command takes disks, which hold these
 abbrev pub TakesDisks : Racks → Option (Command × Parsed) → List (List ℕ) → Type 0
-TakesDisks rack (Some (Play o, setup)) disks = AreTaken unfit_new rack.before.holds o.shelves disks
-TakesDisks rack (Some (Serve s, setup)) disks = AreTaken (unfit_left setup.scripts) rack.before.holds s.options.shelves disks
-TakesDisks rack (Some (Load l, setup)) disks = AreTaken unfit_new rack.before.holds l.options.shelves disks
+TakesDisks rack (Some (Play o, setup)) disks = AreTaken unfit_new (held_anew rack.before) o.shelves disks
+TakesDisks rack (Some (Serve s, setup)) disks = AreTaken (unfit_left setup.scripts) (shelves_of rack.before).holds s.options.shelves disks
+TakesDisks rack (Some (Load l, setup)) disks = AreTaken unfit_new (held_anew rack.before) l.options.shelves disks
 TakesDisks rack _ disks = ⊤
 
 -- the command takes no disks, or they tell their bytes
@@ -209,7 +210,7 @@ Known rack asked bytes P = Settles rack (with_setup asked (setup_of (ending_of a
 -- counted; a check asked for no disk
 abbrev pub StandFor : Racks → Command → Result Parsed Fault → Chances → Type 0
 StandFor rack (Play o) (Ok setup) chances =
-    HoldTheBooks (run_of o setup.scripts (steps_for o setup) chances.fates).state rack.after.holds
+    HoldTheBooks (run_of o setup.scripts (steps_for o setup) chances.fates).state (shelves_of rack.after).holds
     × HaveFailed rack chances.fates 0 × HaveBegun rack o.shelves
 StandFor rack Check setup chances = AtRest rack
 StandFor rack asked setup chances = ⊤
@@ -345,7 +346,7 @@ ReadsInput _ = ⊤
 -- the status of a measured run is the one that is due, by the disks that were taken
 pub record IsDueLoad (status : ℕ) (met : Met) (l : LoadOptions) (chances : Chances) : Type 0 where
   pub same : status ≡ (loaded l chances).status
-  pub taken : AreTaken unfit_new met.rack.before.holds l.options.shelves chances.disks
+  pub taken : AreTaken unfit_new (held_anew met.rack.before) l.options.shelves chances.disks
 
 -- the status of a measured run is the one that is due, or that of an output or a rack that failed, or that of want of memory
 abbrev pub EndsAsLoad : (status : ℕ) → Met → LoadOptions → Chances → Type 0
@@ -392,9 +393,9 @@ AreFit unfit holds = (shelf : ℕ) (image : List ℕ) → holds shelf image → 
 
 abbrev pub JournalsOpen : Command → List Named → Racks → Type 0
 JournalsOpen Check scripts rack = ⊤
-JournalsOpen (Play o) scripts rack = IsTrue rack.tells × AreFit unfit_new rack.before.holds
-JournalsOpen (Load l) scripts rack = IsTrue rack.tells × AreFit unfit_new rack.before.holds
-JournalsOpen (Serve s) scripts rack = IsTrue rack.tells × AreFit (unfit_left scripts) rack.before.holds
+JournalsOpen (Play o) scripts rack = IsTrue rack.tells × AreFit unfit_new (held_anew rack.before)
+JournalsOpen (Load l) scripts rack = IsTrue rack.tells × AreFit unfit_new (held_anew rack.before)
+JournalsOpen (Serve s) scripts rack = IsTrue rack.tells × AreFit (unfit_left scripts) (shelves_of rack.before).holds
 
 -- neither the rack nor the door nor the seeds failed, where they are asked for
 abbrev pub GoesWell : Command → Met → Type 0

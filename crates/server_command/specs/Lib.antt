@@ -4,6 +4,7 @@ pub mod Serving
 pub mod Opening
 pub mod Remains
 pub mod Order
+pub mod Outside
 pub mod Command
 pub mod Telling
 pub mod Loading

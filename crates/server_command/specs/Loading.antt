@@ -1,6 +1,7 @@
 -- What a measured run leaves.
 use Rattle.std.specs.Prelude.{◌≡◌, ◌≤◌, ℕ, List, [], length, map, Some, IsTrue}
 use Rattle.web_outside.specs.Causes.{Rose}
+use Rattle.trio_rack.specs.Trios.{shelves_of}
 use Rattle.replay_spec.specs.Step.{Fate, Reply}
 use Rattle.play_steps.specs.Played.{Spot, spot}
 use Rattle.play_steps.specs.declared.stage.Reopen.{Reopen}
@@ -19,7 +20,7 @@ use Rattle.measured_run.specs.Setups.{load_scripts}
 use Rattle.command_words.specs.declared.LoadOptions.{LoadOptions}
 use Rattle.server_command.specs.declared.program.Status.{Status}
 use Rattle.server_command.specs.declared.program.Status.TheVariants as status
-use Rattle.server_command.specs.Racks.{Racks, AreTaken, HaveBegun, ShelfFailed, disk_line, unfit_new}
+use Rattle.server_command.specs.Racks.{Racks, AreTaken, HaveBegun, ShelfFailed, disk_line, held_anew, unfit_new}
 use Rattle.server_command.specs.Remains.{AreAllKept, AreLeft, HaveFailed, IsAny, IsFailed}
 use Rattle.server_command.specs.Output.{memory_line, Answers, BreaksOff, Chances, Output, PrintsTo, Sinks, desk_for, loaded, run_loaded}
 
@@ -37,13 +38,13 @@ TellsMeasure m _ out = ⊥
 -- the output that is due to a measured run has this status, by the disks that were taken for it
 pub record GivesLoad (rack : Racks) (l : LoadOptions) (chances : Chances) (status : ℕ) (out : Sinks) : Type 0 where
   pub answered : Answers (loaded l chances) status out
-  pub taken : AreTaken unfit_new rack.before.holds l.options.shelves chances.disks
+  pub taken : AreTaken unfit_new (held_anew rack.before) l.options.shelves chances.disks
 
 -- All steps of a measured run fit, the disks that were given back stand for the books that they left, and each fault of one was counted. All
 -- shelves had been begun.
 pub record HasLoaded (rack : Racks) (l : LoadOptions) (chances : Chances) : Type 0 where
   pub whole : (run_loaded l chances.fates).end ≡ done
-  pub books : HoldTheBooks (run_loaded l chances.fates).state rack.after.holds
+  pub books : HoldTheBooks (run_loaded l chances.fates).state (shelves_of rack.after).holds
   pub counted : HaveFailed rack chances.fates 0
   pub began : HaveBegun rack l.options.shelves
 

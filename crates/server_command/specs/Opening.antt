@@ -1,6 +1,7 @@
 -- What opening the shelves of a server comes to.
 use Rattle.std.specs.Prelude.{⊤, ◌≡◌, ◌≢◌, ◌⊎◌, ◌≤◌, ◌<◌, ◌+◌, ℕ, Bool, true, false, List, map, length, sum_by, Some, slice_get}
 use Rattle.web_disk.specs.View.{View, RackView, AreAmong}
+use Rattle.trio_rack.specs.Trios.{shelves_of}
 use Rattle.script_nodes.specs.Setup.{Named}
 use Rattle.replay_spec.specs.Rules.{Rules}
 use Rattle.journal_records.specs.Records.{IsInGrammar, begin_of}
@@ -23,11 +24,11 @@ seen_on view disks = map (λ d. (view d).seen) disks
 
 -- the disks of so many numbers, from this one on, are home
 abbrev pub AreHome : RackView → (first count : ℕ) → Type 0
-AreHome rack first count = (k : ℕ) → first ≤ k → k < first + count → rack.out k ≡ false
+AreHome rack first count = (k : ℕ) → first ≤ k → k < first + count → (shelves_of rack).out k ≡ false
 
 -- the disks of so many numbers, from 0 on, are out
 abbrev pub AreOut : RackView → (count : ℕ) → Type 0
-AreOut rack count = (k : ℕ) → k < count → rack.out k ≡ true
+AreOut rack count = (k : ℕ) → k < count → (shelves_of rack).out k ≡ true
 
 -- the record that a journal begins with can be written, of so many shelves
 abbrev pub CanBegin : (count : ℕ) → List Named → Type 0
@@ -50,27 +51,27 @@ pub record TakesBack (before after : RackView) (first count : ℕ) : Type 0 wher
   pub home : KeepsHome before after
   pub back : AreHome after first count
   pub later : before.faults ≤ after.faults
-  pub failed_later : StaysUp before.failed after.failed
+  pub failed_later : StaysUp (shelves_of before).failed (shelves_of after).failed
   pub asked : AsksForNone before after
 
 -- the disks of the numbers from this one on may hold nothing that they might not hold
 abbrev pub LeavesFrom : (first : ℕ) → (before after : RackView) → Type 0
-LeavesFrom first before after = (n : ℕ) → first ≤ n → AreAmong (after.holds n) (before.holds n)
+LeavesFrom first before after = (n : ℕ) → first ≤ n → AreAmong ((shelves_of after).holds n) ((shelves_of before).holds n)
 
 -- The disks of so many numbers were asked for and taken, from 0 on and in order, and hold these, where the rack and its disks tell that.
 pub record HasTaken (told : Type 0) (before after : RackView) (count : ℕ) (images : List (List ℕ)) : Type 0 where
   pub many : length images ≡ count
-  pub held : told → AreHeld before.holds 0 images
+  pub held : told → AreHeld (shelves_of before).holds 0 images
   pub out : AreOut after count
-  pub others : (k : ℕ) → count ≤ k → before.out k ≡ false → after.out k ≡ false
+  pub others : (k : ℕ) → count ≤ k → (shelves_of before).out k ≡ false → (shelves_of after).out k ≡ false
   pub rest : LeavesFrom count before after
   pub later : before.faults ≤ after.faults
-  pub failed_later : StaysUp before.failed after.failed
+  pub failed_later : StaysUp (shelves_of before).failed (shelves_of after).failed
   pub asked : AsksForFirst count before after
 
 -- each of these disks holds what the disk of its number might hold in the rack
 abbrev pub AreFrom : {D : Type 0} → (D → View) → RackView → List D → Type 0
-AreFrom view before disks = (k : ℕ) (d : _) → slice_get disks k ≡ Some d → AreAmong (view d).images (before.holds k)
+AreFrom view before disks = (k : ℕ) (d : _) → slice_get disks k ≡ Some d → AreAmong (view d).images ((shelves_of before).holds k)
 
 -- the shelf of this number was not opened for this
 abbrev pub unopened_by : (shelf : ℕ) → BeginFault → OpenFault
@@ -125,7 +126,7 @@ AsksByCause before after count shelf why = AsksForFirst count before after
 -- each of these disks was given back to the place of its number: the rack holds what a crash may leave on it, where both tell
 -- that; and a fault of one is a fault of the rack, counted for its number
 pub record AreGiven {D : Type 0} (view : D → View) (told : Type 0) (before after : RackView) (disks : List D) : Type 0 where
-  pub held : told → AreOut before (length disks) → (k : ℕ) (d : D) → slice_get disks k ≡ Some d → AreAmong (after.holds k) (view d).images
+  pub held : told → AreOut before (length disks) → (k : ℕ) (d : D) → slice_get disks k ≡ Some d → AreAmong ((shelves_of after).holds k) (view d).images
   pub others : LeavesFrom (length disks) before after
   pub faults : (k : ℕ) (d : D) → slice_get disks k ≡ Some d → 1 ≤ (view d).faults → FailedFor k before after
   pub counts : RoseBy (sum_by (λ d. (view d).faults) disks) before.faults after.faults
@@ -138,17 +139,17 @@ pub record OpensOn {D N : Type 0} (view : D → View) (tells : Bool) (told : Typ
   pub taken : HasTaken told before after (length sources) images
   pub opened : AreOpened view tells told nonce rules scripts 0 images sources openings
   pub kept : told → (k : ℕ) (o : Opening D N) (read left : List ℕ) → slice_get openings k ≡ Some o → slice_get images k ≡ Some read
-      → (view o.shelf.value.journal.disk).images left → IsKept scripts k (before.holds k) read left
+      → (view o.shelf.value.journal.disk).images left → IsKept scripts k ((shelves_of before).holds k) read left
 
 -- A shelf was not opened, in the order of the disks. Nothing was lost on any disk, but on the one of which a call failed; a disk of which
 -- nothing was read holds what it might hold.
 pub record RefusesOn (told : Type 0) (scripts : List Named) (count : ℕ) (before after : RackView) (f : OpenFault) : Type 0 where
   pub images : List (List ℕ)
-  pub held : told → AreHeld before.holds 0 images
+  pub held : told → AreHeld (shelves_of before).holds 0 images
   pub refused : IsRefused told (FailsAt count before after) scripts images f.shelf f.why
   pub in_order : told → RefusesInOrder scripts before after count images f.shelf f.why
-  pub kept : told → (k : ℕ) (read left : List ℕ) → slice_get images k ≡ Some read → after.holds k left → (f.why ≡ cause.Disk → k ≢ f.shelf)
-      → IsKept scripts k (before.holds k) read left
+  pub kept : told → (k : ℕ) (read left : List ℕ) → slice_get images k ≡ Some read → (shelves_of after).holds k left → (f.why ≡ cause.Disk → k ≢ f.shelf)
+      → IsKept scripts k ((shelves_of before).holds k) read left
   pub unread : told → LeavesFrom (length images) before after
   pub home : KeepsHome before after
   pub asked : AsksByCause before after count f.shelf f.why

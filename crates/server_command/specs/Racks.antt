@@ -1,18 +1,23 @@
--- What the disks of a rack are to the shelves that stand on them.
+-- What the disks of a rack are to the shelves that stand on them. A shelf has three, and its disk is what these are together: the file that its
+-- root names (`shelves_of`). What is asked for, and what is home, is said of each disk of the rack.
 use Rattle.std.specs.Prelude.{⊤, ◌≡◌, ◌≤◌, ◌<◌, ◌⊎◌, ℕ, ◌+◌, ◌^◌, ◌++◌, ◌∷◌, List, [], length, Bool, false, Option, Some, None, slice_get, take, nat_le, codes, if◌then◌else◌}
 use Rattle.std.specs.Fmt.{decimal}
 use Rattle.web_disk.specs.View.{RackView, AreAmong}
+use Rattle.trio_rack.specs.Numbers.{IsOneOfThree}
+use Rattle.trio_rack.specs.Trios.{MayBeBare, shelves_of}
 use Rattle.script_nodes.specs.Setup.{Named}
 use Rattle.setup_reader.specs.Texts.{setup_of_texts}
 use Rattle.page_journal.specs.Records.{Intact, records, at_rest, stored}
 use Rattle.replay_spec.specs.Book.{Book}
 use Rattle.journal_spec.specs.Before.{Made}
 use Rattle.journal_spec.specs.Making as making
-use Rattle.journal_spec.specs.Making.{Making, book_in_bytes}
+use Rattle.journal_spec.specs.Making.{Making}
+use Rattle.journal_spec.specs.Bytes.{book_in_bytes}
 use Rattle.journal_spec.specs.Opening.{opened_on}
 use Rattle.journal_spec.specs.Standing.{Between, HoldIn, if_kept}
+use Rattle.site_serving.specs.Shelves.{bodies_after, now_in_bytes}
 use Rattle.play_desk.specs.Asking.{AsksForAll, AsksForFirst, AsksForNone, AsksUntil}
-use Rattle.play_desk.specs.Opening.{AreHome, FailedFor, IsKept}
+use Rattle.play_desk.specs.Opening.{AreHome, FailedFor, IsKept, IsReadAtRest}
 
 -- a rack and its disks: whether they tell their bytes, and what contracts see of the rack before and after
 pub record Racks : Type 1 where
@@ -42,7 +47,12 @@ pub record AreBack (old new : RackView) : Type 0 where
 
 -- each disk that is home stays so, or comes back
 abbrev pub KeepsHome : (before after : RackView) → Type 0
-KeepsHome before after = (number : ℕ) → before.out number ≡ false → after.out number ≡ false
+KeepsHome before after = (number : ℕ) → (shelves_of before).out number ≡ false → (shelves_of after).out number ≡ false
+
+-- What may stand on the disks of a shelf that is to begin anew: nothing on any of the three; or these bytes on one of them.
+abbrev pub held_anew : RackView → (shelf : ℕ) → List ℕ → Type 0
+held_anew rack shelf [] = MayBeBare rack shelf
+held_anew rack shelf (b ∷ bytes) = (number : ℕ) × IsOneOfThree shelf number × rack.holds number (b ∷ bytes)
 
 -- the disks of the numbers from this one on may hold these
 abbrev pub AreHeld : (ℕ → List ℕ → Type 0) → ℕ → List (List ℕ) → Type 0
@@ -71,16 +81,23 @@ abbrev pub unfit_made : Option Made → Option Unfit
 unfit_made None = None
 unfit_made (Some m) = unfit_length m.book.length
 
--- why a shelf that is served with this setup is not opened, if so: it goes on with what the records of its journal make, and has written
--- its setup there, where that is another than the last one
-abbrev pub unfit_making : List Named → (shelf : ℕ) → Making → Option Unfit
-unfit_making scripts shelf (making.damaged place) = Some (damaged place)
-unfit_making scripts shelf (making.other place) = Some (other place)
-unfit_making scripts shelf m = unfit_made (opened_on shelf scripts m)
+-- why the file of these bodies is too long for a journal, if so; else this
+abbrev pub unfit_file : List (List ℕ) → Option Unfit → Option Unfit
+unfit_file bodies why = if nat_le (length (at_rest bodies)) (2 ^ 30) then why else Some (full (length (at_rest bodies)))
 
--- why a shelf that is served with this setup is not opened on these bytes, if so
+-- why no shelf goes on with what is read, which makes this, if so; else this
+abbrev pub unfit_read : Making → Option Unfit → Option Unfit
+unfit_read (making.damaged place) why = Some (damaged place)
+unfit_read (making.other place) why = Some (other place)
+unfit_read m why = why
+
+-- Why a shelf that is served with this setup is not opened on these bytes, if so. It goes on with what the records make, of an older format with
+-- those that stay, and has written its setup there, where that is another than the last one: the file of the records may be too long, and so may
+-- it be with the setup.
 abbrev pub unfit_left : List Named → (shelf : ℕ) → List ℕ → Option Unfit
-unfit_left scripts shelf image = unfit_making scripts shelf (book_in_bytes setup_of_texts shelf image)
+unfit_left scripts shelf image =
+    unfit_read (book_in_bytes setup_of_texts shelf image)
+    (unfit_file (bodies_after shelf image) (unfit_made (opened_on shelf scripts (now_in_bytes shelf image))))
 
 -- the shelf of this number where it is not opened, and why; else what is found of the later ones
 abbrev pub found_unfit : ℕ → Option Unfit → Option (ℕ × Unfit) → Option (ℕ × Unfit)
@@ -94,7 +111,7 @@ first_unfit unfit k (image ∷ images) = found_unfit k (unfit k image) (first_un
 
 -- the disks of so many shelves were asked for, in order, before any was asked for again, and each may have held nothing
 pub record HaveBegun (rack : Racks) (count : ℕ) : Type 0 where
-  pub empty : (k : ℕ) → k < count → rack.before.holds k []
+  pub empty : (k : ℕ) → k < count → MayBeBare rack.before k
   pub asked : AsksForAll count rack.before rack.after
 
 -- these are what the disks of so many shelves hold when they are taken: of all, unless one of the shelves is not opened
@@ -109,23 +126,28 @@ StandsForSome shelf images = (b : Book) × ((n : ℕ) × ((t : Between setup_of_
 -- nothing was lost on any disk of which something was read
 abbrev pub AreKept : List Named → (before after : RackView) → (images : List (List ℕ)) → Type 0
 AreKept scripts before after images =
-    (k : ℕ) (read left : List ℕ) → slice_get images k ≡ Some read → after.holds k left → IsKept scripts k (before.holds k) read left
+    (k : ℕ) (read left : List ℕ) → slice_get images k ≡ Some read → (shelves_of after).holds k left
+    → IsKept scripts k ((shelves_of before).holds k) read left
 
 -- What may be left of a disk to whose records nothing was added, and of which this was read: what it might hold before; or, where it might
--- hold what was read, the records that were read, at rest.
-abbrev pub IsBare : (held : List ℕ → Type 0) → (read left : List ℕ) → Type 0
-IsBare held read left = held left ⊎ (held read × ((records read ≡ Intact (stored read)) ⊎ (read ≡ [])) × (left ≡ at_rest (stored read)))
+-- hold what was read, the records that were read, at rest; or those of them that stay, in the newest format.
+abbrev pub IsBare : (shelf : ℕ) → (held : List ℕ → Type 0) → (read left : List ℕ) → Type 0
+IsBare shelf held read left =
+    held left
+    ⊎ (held read × ((records read ≡ Intact (stored read)) ⊎ (read ≡ []))
+    × (IsReadAtRest read left ⊎ (left ≡ at_rest (bodies_after shelf read))))
 
 -- nothing was added to the records on the disks of which these were read, from this number on
 abbrev pub AreBare : (before after : RackView) → (images : List (List ℕ)) → (first : ℕ) → Type 0
 AreBare before after images first =
-    (k : ℕ) (read left : List ℕ) → first ≤ k → slice_get images k ≡ Some read → after.holds k left → IsBare (before.holds k) read left
+    (k : ℕ) (read left : List ℕ) → first ≤ k → slice_get images k ≡ Some read → (shelves_of after).holds k left
+    → IsBare k ((shelves_of before).holds k) read left
 
 -- The disk of this shelf failed when it was taken, no other behind it was asked for, and nothing was written on any disk; or all disks had
 -- been asked for and taken, the shelves before this one were opened, and nothing was added to the records on the disks behind it.
 abbrev pub FailsInOrder : List Named → (before after : RackView) → (count : ℕ) → (images : List (List ℕ)) → (shelf : ℕ) → Type 0
 FailsInOrder scripts before after count images shelf =
-    (AsksUntil count shelf before after × ((number : ℕ) → AreAmong (after.holds number) (before.holds number)))
+    (AsksUntil count shelf before after × ((number : ℕ) → AreAmong ((shelves_of after).holds number) ((shelves_of before).holds number)))
     ⊎ (AsksForFirst count before after × (length images ≡ count) × (first_unfit (unfit_left scripts) 0 (take shelf images) ≡ None)
     × AreBare before after images (shelf + 1))
 

@@ -3,6 +3,7 @@ use Rattle.std.specs.Prelude.{⊤, ◌≡◌, ◌⊎◌, ◌≤◌, ◌<◌, ℕ
 use Rattle.std.specs.Io.KnownBytes.{Appends}
 use mathlib.Core.List.{IsPrefix}
 use Rattle.web_disk.specs.View.{AreAmong}
+use Rattle.trio_rack.specs.Trios.{MayBeBare, shelves_of}
 use Rattle.script_nodes.specs.Setup.{Named}
 use Rattle.replay_spec.specs.Step.{Fate}
 use Rattle.setup_reader.specs.Setup.{Parsed, Fault, setup_of}
@@ -12,7 +13,7 @@ use Rattle.play_steps.specs.declared.stage.Reopen.TheVariants as reopen
 use Rattle.play_steps.specs.Played.{RoseBy}
 use Rattle.play_steps.specs.Transcript.{text_of}
 use Rattle.play_desk.specs.Desk.{Desk, is_fault}
-use Rattle.play_desk.specs.Asking.{AsksForFirst, AsksForNone}
+use Rattle.play_desk.specs.Asking.{AsksForFirst, AsksForNone, AsksUntil}
 use Rattle.play_desk.specs.Opening.{AllKept, AllStayKept, HoldTheBooks, IsLeft, cause_of}
 use Rattle.play_desk.specs.declared.opening.OpenCause.{OpenCause}
 use Rattle.play_desk.specs.declared.opening.OpenCause.TheVariants as cause
@@ -29,21 +30,22 @@ HaveFailed rack fates more = RoseBy (count_by is_fault fates + more) rack.before
 -- nothing was lost on any disk, and so many were asked for, each once and in order; nothing was written on those behind them
 pub record AreAllKept (rack : Racks) (scripts : List Named) (taken : ℕ) : Type 0 where
   pub asked : AsksForFirst taken rack.before rack.after
-  pub kept : (n : ℕ) → AllKept scripts n (rack.before.holds n) [] (rack.after.holds n)
-  pub behind : (n : ℕ) → taken ≤ n → AreAmong (rack.after.holds n) (rack.before.holds n)
+  pub kept : (n : ℕ) → AllKept scripts n ((shelves_of rack.before).holds n) [] ((shelves_of rack.after).holds n)
+  pub behind : (n : ℕ) → taken ≤ n → AreAmong ((shelves_of rack.after).holds n) ((shelves_of rack.before).holds n)
 
--- the disks up to that of this shelf were asked for, each once and in order, and no other; or none was, for want of memory
+-- the disks of the shelves before this one and its own up to one of them were asked for, each once and in order, and no other; or none was,
+-- for want of memory
 abbrev pub AsksForShelf : Racks → (shelf : ℕ) → OpenCause → Type 0
 AsksForShelf rack shelf why =
-    AsksForFirst (shelf + 1) rack.before rack.after ⊎ ((why ≡ cause.Memory) × AsksForNone rack.before rack.after)
+    AsksUntil (shelf + 1) shelf rack.before rack.after ⊎ ((why ≡ cause.Memory) × AsksForNone rack.before rack.after)
 
 -- a shelf was not opened at first, for this, and no step was performed: no disk behind its own was asked for, those before it may hold
 -- nothing, and nothing was lost on any, but on the one of which a call failed
 pub record IsUnopened (rack : Racks) (scripts : List Named) (shelf : ℕ) (why : OpenCause) : Type 0 where
   pub asked : AsksForShelf rack shelf why
-  pub before : (k : ℕ) → k < shelf → rack.before.holds k []
+  pub before : (k : ℕ) → k < shelf → MayBeBare rack.before k
   pub failed : why ≡ cause.Disk → ShelfFailed rack shelf
-  pub kept : AllStayKept scripts rack.before.holds rack.after.holds shelf why
+  pub kept : AllStayKept scripts (shelves_of rack.before).holds (shelves_of rack.after).holds shelf why
 
 -- What is left on the disks of so many shelves, by which one is told, and for which cause: that one was not opened at first; or none has to
 -- be told, and each disk stands for the book of its shelf, as the last of some steps left it; or that one crashed, and was not opened again:
@@ -52,7 +54,7 @@ pub data AreLeft (rack : Racks) (count : ℕ) (scripts : List Named) (text : Lis
     (IsLost : ℕ → Reopen → Desk → Type 0) : Type 0 where
   unopened : (shelf : ℕ) (why : OpenCause) → IsTold shelf why → text ≡ [] → IsUnopened rack scripts shelf why
       → AreLeft rack count scripts text IsTold IsLast IsLost
-  performed : (last : Desk) → ((shelf : ℕ) (why : OpenCause) → IsTold shelf why) → IsLast last → HoldTheBooks last rack.after.holds
+  performed : (last : Desk) → ((shelf : ℕ) (why : OpenCause) → IsTold shelf why) → IsLast last → HoldTheBooks last (shelves_of rack.after).holds
       → HaveBegun rack count → AreLeft rack count scripts text IsTold IsLast IsLost
   lost : (shelf : ℕ) (why : Reopen) (last : Desk) → IsTold shelf (cause_of why) → IsLost shelf why last → IsLeft rack.after last shelf why
       → HaveBegun rack count → AreLeft rack count scripts text IsTold IsLast IsLost
@@ -93,7 +95,7 @@ Remains rack asked setup chances text IsTold more = ⊤
 -- what remains where a text could not be written: the books of the steps of which so much was written, or more
 abbrev pub RemainsUnwritten : Racks → Command → Result Parsed Fault → Chances → (old new : Option (List ℕ)) → Type 0
 RemainsUnwritten rack (Play o) (Ok setup) chances old new =
-    (text : List ℕ) × (last : Desk) × Appends old new text × IsBehind o setup chances.fates text last × HoldTheBooks last rack.after.holds
+    (text : List ℕ) × (last : Desk) × Appends old new text × IsBehind o setup chances.fates text last × HoldTheBooks last (shelves_of rack.after).holds
     × HaveFailed rack chances.fates 0 × HaveBegun rack o.shelves
 RemainsUnwritten rack Check setup chances old new = AtRest rack
 RemainsUnwritten rack asked setup chances old new = ⊤

@@ -4,6 +4,7 @@ use Rattle.std.specs.Fmt.{decimal}
 use Rattle.web_outside.specs.Causes.{Rose}
 use Rattle.web_outside.specs.View.{DoorView, SeedsView}
 use Rattle.web_disk.specs.View.{View}
+use Rattle.trio_rack.specs.Trios.{shelves_of}
 use Rattle.play_steps.specs.Played.{RoseBy}
 use Rattle.play_desk.specs.Asking.{AsksForFirst}
 use Rattle.play_desk.specs.Opening.{HoldsTheBook, IsKept}
@@ -11,10 +12,9 @@ use Rattle.script_nodes.specs.Setup.{Named}
 use Rattle.command_words.specs.declared.Service.{Service}
 use Rattle.setup_reader.specs.declared.setup.Ending.TheVariants.{Input}
 use Rattle.setup_reader.specs.Setup.{Parsed, setup_of}
-use Rattle.setup_reader.specs.Texts.{setup_of_texts}
 use Rattle.replay_spec.specs.Book.{reopened}
+use Rattle.page_journal.specs.Records.{at_rest}
 use Rattle.replay_spec.specs.Rules.{Rules}
-use Rattle.journal_spec.specs.Making.{book_in_bytes}
 use Rattle.journal_spec.specs.Opening.{opened_on}
 use Rattle.journal_spec.specs.Standing.{IsMadeBook}
 use Rattle.request_workers.specs.Counting.{Count}
@@ -23,7 +23,7 @@ use Rattle.request_workers.specs.declared.tally.Tally.{Tally}
 use Rattle.request_workers.specs.declared.tally.WorkEnd.{WorkEnd}
 use Rattle.request_workers.specs.declared.tally.WorkEnd.TheVariants as ends
 use Rattle.site_serving.specs.Totals.{total}
-use Rattle.site_serving.specs.Shelves.{HasGiven, IsOwnImage, IsOwnOpening, KeptEntry, Opening, book_in, book_then, entries_of, rules_of, scripts_in}
+use Rattle.site_serving.specs.Shelves.{HasGiven, IsOwnImage, bodies_after, now_in_bytes, IsOwnOpening, KeptEntry, Opening, book_in, book_then, entries_of, rules_of, scripts_in}
 use Rattle.site_serving.specs.declared.serving.Watch.{Watch}
 use Rattle.site_serving.specs.declared.serving.ServingFault.{ServingFault}
 use Rattle.site_serving.specs.declared.serving.ServingFault.TheVariants as faults
@@ -81,15 +81,17 @@ abbrev pub watch_of : Service → Watch
 watch_of s = record { port = s.port; workers = s.workers; connections = s.connections; requests = s.requests }
 
 -- The shelf of this number was opened with this setup and under these rules, with nonces of this source: its book is what the bytes of
--- its disk make, opened again with this setup, whatever setup they told last; and empty where they have no record. Where the records are
+-- its disk make, of an older format what those make that stay, opened again with this setup, whatever setup they told last; and empty where they
+-- have no record. The file of these records is not too long. Where the records are
 -- own ones, it was opened as an own shelf; on a disk that tells no bytes it was where its book had no instance.
 pub record IsOpened {D N : Type 0} (view : D → View) (tells : Bool) (told : Type 0) (nonce : N → ℕ → ℕ) (rules : Rules)
     (scripts : List Named) (k : ℕ) (image : List ℕ) (source : N) (o : Opening D N) : Type 0 where
   pub setup : scripts_in o ≡ scripts
   pub limits : rules_of o.shelf.value.rules ≡ rules
   pub number : o.shelf.value.rules.number ≡ k
-  pub book : told → IsMadeBook (opened_on k scripts (book_in_bytes setup_of_texts k image)) (book_in view o.shelf.value)
+  pub book : told → IsMadeBook (opened_on k scripts (now_in_bytes k image)) (book_in view o.shelf.value)
   pub short : (book_in view o.shelf.value).length ≤ 2 ^ 30
+  pub fits : told → length (at_rest (bodies_after k image)) ≤ 2 ^ 30
   pub opened : book_in view o.shelf.value ≡ reopened (book_in view o.shelf.value)
   pub stream : HasGiven (nonce source) 0 (nonce o.shelf.value.nonces)
   pub own : told → IsOwnImage k image → IsOwnOpening view tells o
@@ -136,7 +138,7 @@ pub record Served {D P L N : Type 0} (o : Outside D P L N) (s : Service) (script
   pub opened : AreOpened o.views.disk o.views.told (IsTrue o.rack.tells) o.views.nonce (rules_for s.options) scripts 0 images sources openings
   pub leaves : Leaves o.views (opened_as o.views.disk o.views.told o.views.nonce openings) o.before o.after o.past (watch_of s) disks end kept
   pub counted : AreOwn o.views.disk o.views.told openings → HaveRisenBy (faults_told kept.histories) o.rack
-  pub stands : IsTrue o.rack.tells → AllStand o.views.disk o.views.told o.views.nonce o.rack.after.holds openings kept.histories
+  pub stands : IsTrue o.rack.tells → AllStand o.views.disk o.views.told o.views.nonce (shelves_of o.rack.after).holds openings kept.histories
 
 -- serving links from the shelves of a setup ended so, and this was counted
 pub record ServedSo {D P L N : Type 0} (o : Outside D P L N) (s : Service) (scripts : List Named) (images : List (List ℕ)) (end : WorkEnd)
@@ -164,14 +166,14 @@ serves_over o = record {
 -- each shelf was opened on what its disk held
 abbrev pub Opens : Racks → Service → List Named → List (List ℕ) → Type 0
 Opens rack s scripts images =
-    IsTrue rack.tells → AreTaken (unfit_left scripts) rack.before.holds s.options.shelves images × (first_unfit (unfit_left scripts) 0 images ≡ None)
+    IsTrue rack.tells → AreTaken (unfit_left scripts) (shelves_of rack.before).holds s.options.shelves images × (first_unfit (unfit_left scripts) 0 images ≡ None)
 
 -- Nothing was lost on any disk. Of those that were read, each held what was read; of the others each may hold nothing that it might not
 -- hold.
 pub record NoneIsLost (rack : Racks) (scripts : List Named) (images : List (List ℕ)) : Type 0 where
-  pub held : AreHeld rack.before.holds 0 images
+  pub held : AreHeld (shelves_of rack.before).holds 0 images
   pub read : AreKept scripts rack.before rack.after images
-  pub unread : (k : ℕ) (left : List ℕ) → length images ≤ k → rack.after.holds k left → rack.before.holds k left
+  pub unread : (k : ℕ) (left : List ℕ) → length images ≤ k → (shelves_of rack.after).holds k left → (shelves_of rack.before).holds k left
 
 -- where the disks tell what they hold, nothing was lost on any
 abbrev pub KeepsAll : Racks → List Named → List (List ℕ) → Type 0
@@ -181,7 +183,7 @@ KeepsAll rack scripts images = IsTrue rack.tells → NoneIsLost rack scripts ima
 -- was added to the records on its own and on those behind it.
 abbrev pub Shuts : Racks → Service → List Named → List (List ℕ) → (shelf : ℕ) → Unfit → Type 0
 Shuts rack s scripts images shelf why =
-    IsTrue rack.tells → AreTaken (unfit_left scripts) rack.before.holds s.options.shelves images
+    IsTrue rack.tells → AreTaken (unfit_left scripts) (shelves_of rack.before).holds s.options.shelves images
     × (first_unfit (unfit_left scripts) 0 images ≡ Some (shelf, why)) × NoneIsLost rack scripts images
     × AsksForFirst s.options.shelves rack.before rack.after × (length images ≡ s.options.shelves) × AreBare rack.before rack.after images shelf
 
@@ -204,9 +206,9 @@ RackFailed rack = Rose rack.before.faults rack.after.faults
 
 -- nothing was lost on any disk but on this shelf's, of which a call failed
 pub record AreKeptBut (rack : Racks) (scripts : List Named) (images : List (List ℕ)) (shelf : ℕ) : Type 0 where
-  pub read : (k : ℕ) (read left : List ℕ) → slice_get images k ≡ Some read → rack.after.holds k left → k ≢ shelf
-      → IsKept scripts k (rack.before.holds k) read left
-  pub unread : (k : ℕ) (left : List ℕ) → length images ≤ k → rack.after.holds k left → rack.before.holds k left
+  pub read : (k : ℕ) (read left : List ℕ) → slice_get images k ≡ Some read → (shelves_of rack.after).holds k left → k ≢ shelf
+      → IsKept scripts k ((shelves_of rack.before).holds k) read left
+  pub unread : (k : ℕ) (left : List ℕ) → length images ≤ k → (shelves_of rack.after).holds k left → (shelves_of rack.before).holds k left
 
 -- nothing was lost on any disk, or on one alone, of which a call failed
 abbrev pub KeepsAllBut : Racks → List Named → List (List ℕ) → Type 0

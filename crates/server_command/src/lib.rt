@@ -4,8 +4,8 @@
 mod jobs;
 mod loading;
 mod opening;
+mod outside;
 mod program;
-mod service;
 mod serving;
 mod telling;
 

@@ -1,9 +1,11 @@
 ghost use Rattle.std.specs.Prelude.{◌&&◌, ◌≡◌, ◌≤◌, ◌<◌, ◌+◌, length, Some, IsTrue, IfOk, IfErr, OnErr};
+ghost use Rattle.disk_trio.specs.Trio.{trio_view};
+ghost use Rattle.trio_rack.specs.Trios.{shelves_of};
 ghost use Rattle.script_nodes.specs.Views.{scripts_of};
 ghost use Rattle.server_limits.specs.Limits.{most_shelves};
 ghost use Rattle.setup_reader.specs.Texts.{IsReadSetup};
 ghost use Rattle.site_serving.specs.Shelves as shelves;
-ghost use Rattle.site_serving.specs.Shelves.{IsReady};
+ghost use Rattle.site_serving.specs.Shelves.{AreNew, IsReady};
 ghost use Rattle.site_serving.specs.Serving.{openings_of};
 ghost use Rattle.command_words.specs.Plain.{AreInRange};
 ghost use Rattle.server_command.specs.Output.{rules_for};
@@ -11,11 +13,13 @@ ghost use Rattle.server_command.specs.Racks.{KeepsHome};
 ghost use Rattle.server_command.specs.Opening.{AreAsked, AreFrom, AreGiven, AsksAsTaken, FailsAt, AreRulesFor, AreUntaken, CanBegin, HasTaken, LeavesFrom, OpensOn, RefusesOn, TakesBack, seen_on, unopened_by};
 
 use command_words::Options;
+use disk_trio::Disks;
 use play_desk::{OpenCause, OpenFault};
 use script_nodes::Setup;
 use site_serving::{BeginFault, Rules, Site, SiteFault};
 use std::alloc::Global;
 use std::sync::Wait;
+use trio_rack::{give_trio, take_trio};
 use web_disk::{Disk, Rack, RackFault};
 use web_outside::Nonces;
 
@@ -48,35 +52,37 @@ pub fn rules_of(options: &Options, number: u32) -> Rules
     }
 }
 
-/// Gives back disks, of which that of place 0 has the number 0. Their faults count as the rack's.
-pub fn give_all<D: Disk, R: Rack<D>>(rack: &mut R, disks: Vec<D>)
+/// Gives back the disks of shelves, of which those of place 0 are of shelf 0. Their faults count as the rack's.
+pub fn give_all<D: Disk, R: Rack<D>>(rack: &mut R, disks: Vec<Disks<D>>)
     requires few { length disks.items ≤ most_shelves }
     ensures back { TakesBack (R.view rack.old) (R.view rack.new) 0 (length disks.items) }
-    ensures given { AreGiven D.view (IsTrue R.tells)
+    ensures given { AreGiven trio_view (IsTrue (R.tells && D.tells))
         (R.view rack.old) (R.view rack.new) disks.items }
 {
     let mut disks = disks;
     // A count is below 2^64, so it does not fall where that of a disk is added.
     let _count = rack.faults();
-    'giving: while let Some(disk) = disks.pop() {
-        rack.give(disks.len() as u32, disk);
+    'giving: while let Some(three) = disks.pop() {
+        give_trio(rack, disks.len() as u32, three);
     }
     disks.destroy_empty();
 }
 
-// Takes the disks of so many numbers, from 0 on.
+// Takes the disks of so many shelves, from 0 on.
 fn take_all<D: Disk, R: Rack<D>>(
     alloc: Global,
     rack: &mut R,
     directory: &str,
     count: u32,
-) -> Result<Vec<D>, OpenFault>
+) -> Result<Vec<Disks<D>>, OpenFault>
     requires { count ≤ most_shelves }
     ensures taken { IfOk result (λ disks. HasTaken (IsTrue (R.tells && D.tells))
-        (R.view rack.old) (R.view rack.new) count (seen_on D.view disks.items)) }
+        (R.view rack.old) (R.view rack.new) count (seen_on trio_view disks.items)) }
+    ensures fresh { IfOk result (λ disks. AreNew disks.items) }
     ensures from { IsTrue R.tells →
-        IfOk result (λ disks. AreFrom D.view (R.view rack.old) disks.items) }
-    ensures kept { IsTrue R.tells → OnErr result (LeavesFrom 0 (R.view rack.old) (R.view rack.new)) }
+        IfOk result (λ disks. AreFrom trio_view (R.view rack.old) disks.items) }
+    ensures kept { IsTrue (R.tells && D.tells) →
+        OnErr result (LeavesFrom 0 (R.view rack.old) (R.view rack.new)) }
     ensures home { OnErr result (KeepsHome (R.view rack.old) (R.view rack.new)) }
     ensures refused { IfErr result
         (AreUntaken (FailsAt count (R.view rack.old) (R.view rack.new))) }
@@ -91,8 +97,8 @@ fn take_all<D: Disk, R: Rack<D>>(
         });
     };
     'taking: for number in 0..count {
-        match rack.take(alloc, directory, number) {
-            Ok(disk) => disks.push_reserved(disk),
+        match take_trio(rack, alloc, directory, number) {
+            Ok(three) => disks.push_reserved(three),
             Err(fault) => {
                 give_all(rack, disks);
                 let why = match fault {
@@ -106,7 +112,7 @@ fn take_all<D: Disk, R: Rack<D>>(
     Ok(disks)
 }
 
-/// Opens a site with this setup on the disks of a directory, with a source of nonces for each shelf. All disks are taken first;
+/// Opens a site with this setup on the disks of a directory, three for each shelf, with a source of nonces for each. All disks are taken first;
 /// where a shelf is not opened, all are given back.
 pub fn open_site<W: Wait, D: Disk, R: Rack<D>, N: Nonces + Drop>(
     rt: &W,
@@ -115,12 +121,12 @@ pub fn open_site<W: Wait, D: Disk, R: Rack<D>, N: Nonces + Drop>(
     sources: Vec<N>,
     setup: Setup,
     options: &Options,
-) -> Result<Site<D, N>, OpenFault>
+) -> Result<Site<Disks<D>, N>, OpenFault>
     requires range { AreInRange options.now }
     requires read { IsReadSetup (scripts_of setup) }
     requires begins { CanBegin options.now.shelves (scripts_of setup) }
     requires sources { length sources.items ≡ options.now.shelves }
-    ensures opened { IfOk result (λ site. OpensOn D.view D.tells (IsTrue (R.tells && D.tells))
+    ensures opened { IfOk result (λ site. OpensOn trio_view D.tells (IsTrue (R.tells && D.tells))
         N.nonce (rules_for options.now) (scripts_of setup) sources.items
         (R.view rack.old) (R.view rack.new) (openings_of site.row.homes)) }
     ensures count { IfOk result (λ site. length site.row.homes ≡ options.now.shelves) }

@@ -1,24 +1,20 @@
-ghost use Rattle.std.specs.Prelude.{◌&&◌, ◌≡◌, ◌≤◌};
+ghost use Rattle.std.specs.Prelude.{◌&&◌, ◌≡◌};
+ghost use Rattle.disk_trio.specs.Trio.{trio_view};
 ghost use Rattle.play_desk.specs.Opening.{AreHome};
 ghost use Rattle.site_serving.specs.Serving.{pasts_of, views};
 ghost use Rattle.server_command.specs.Command as spec;
-ghost use Rattle.server_command.specs.Command.{Ends, Explained, IsTidy, HasCause, IsComplete, asked_in, around, met_in, serves_in, texts};
-ghost use Rattle.server_command.specs.Order.{AsksInOrder, asks_of, both};
-ghost use Rattle.server_command.specs.Output.{Hands};
-ghost use Rattle.server_command.specs.Racks.{AreBack, racks_of};
+ghost use Rattle.server_command.specs.Command.{Ends, HasCause, IsComplete, IsTidy, around, met_in, texts};
+ghost use Rattle.server_command.specs.Order.{both};
+ghost use Rattle.server_command.specs.Racks.{racks_of};
 
-use crate::jobs::{Job, run_job};
-use crate::loading::load_all;
-use crate::service::run_service;
-use crate::telling::no_memory;
-use command_words::{Command, WordsFault, read_words};
+use crate::outside::Outside;
 use play_desk::transcripts_are_runs;
 use site_serving::Past;
 use std::alloc::Global;
 use std::sync::Wait;
 use std::thread::Threads;
 use web_disk::{Disk, Rack};
-use web_outside::{Clock, Door, Gate, Link, Nonces, Porch, Seeds, Sink, Source, write_or_drop};
+use web_outside::{Clock, Door, Gate, Link, Nonces, Porch, Seeds, Sink, Source};
 
 /// How a command ended.
 #[derive(Clone, Copy, Debug, PartialEq, Eq)]
@@ -69,70 +65,6 @@ fn code_of(status: Status) -> u8
     }
 }
 
-// Reads the words, and does what they ask for.
-fn run<
-    W: Threads + Wait + Sync,
-    I: Source,
-    O: Sink,
-    D: Disk + Send + Sync,
-    R: Rack<D>,
-    A: Door,
-    C: Clock + Sync,
-    N: Nonces + Drop + Send + Sync,
-    S: Seeds<N>,
-    G: Gate + Sync,
-    P: Past,
->(
-    rt: &W,
-    alloc: Global,
-    words: &[&str],
-    input: &mut I,
-    output: &mut O,
-    rack: &mut R,
-    door: &mut A,
-    clock: &C,
-    seeds: &mut S,
-    gate: &G,
-    past: &mut P,
-) -> Status
-where
-    A::Porch: Send,
-    <A::Porch as Porch>::Link: Send,
-    <<A::Porch as Porch>::Link as Link>::Input: Send,
-    <<A::Porch as Porch>::Link as Link>::Output: Send,
-    requires home { AreHome (R.view rack.old).out }
-    ensures explained { let a = (around (texts words.now)
-        (views D.view D.tells A.Porch.Link.view A.Porch.view N.nonce (C.shows clock.now))
-        (both (I.view input.old) (I.view input.new)) (both (O.view output.old) (O.view output.new))
-        (racks_of (R.tells && D.tells) (R.view rack.old) (R.view rack.new))
-        (both (A.view door.old) (A.view door.new)) (both (S.view seeds.old) (S.view seeds.new))
-        (pasts_of (P.told past.old) (P.told past.new))) in
-        Explained (serves_in a) result (met_in a) }
-    ensures order { AsksInOrder (asks_of (both (A.view door.old) (A.view door.new))
-        (both (S.view seeds.old) (S.view seeds.new)) (pasts_of (P.told past.old) (P.told past.new)))
-        (racks_of (R.tells && D.tells) (R.view rack.old) (R.view rack.new))
-        (asked_in (texts words.now)) result }
-    ensures hands { Hands result (O.view output.old) (O.view output.new) }
-    ensures back { AreBack (R.view rack.old) (R.view rack.new) }
-    ensures input_later { (I.view input.old).faults ≤ (I.view input.new).faults }
-    ensures door_later { (A.view door.old).faults ≤ (A.view door.new).faults }
-    ensures seeds_later { (S.view seeds.old).faults ≤ (S.view seeds.new).faults }
-{
-    match read_words(alloc, words) {
-        Ok(Command::Check) => run_job(alloc, &Job::Check, input, output, rack),
-        Ok(Command::Play(options)) => run_job(alloc, &Job::Play(options), input, output, rack),
-        Ok(Command::Load(options)) => load_all(alloc, &options, output, rack),
-        Ok(Command::Serve(service)) => run_service(
-            rt, alloc, &service, input, output, rack, door, clock, seeds, gate, past,
-        ),
-        Err(WordsFault::Usage) => {
-            write_or_drop(output, b"error 2 usage\n");
-            Status::Usage
-        }
-        Err(WordsFault::Memory) => no_memory(output),
-    }
-}
-
 /// Does what the words ask for with the setup and the steps that the input has, or performs a measured run, which reads
 /// no input; writes what is due, and answers the process's status.
 ///
@@ -175,35 +107,38 @@ where
     requires home { AreHome (R.view rack.old).out }
     // How it ended and why, what was written, what is left on the disks, and in which order the outside was asked.
     ensures ended { Ends result (around (texts words.now)
-        (views D.view D.tells A.Porch.Link.view A.Porch.view N.nonce (C.shows clock.now))
+        (views (trio_view {G = ⟦<D as Disk>⟧}) D.tells A.Porch.Link.view A.Porch.view N.nonce
+        (C.shows clock.now))
         (both (I.view input.old) (I.view input.new)) (both (O.view output.old) (O.view output.new))
         (racks_of (R.tells && D.tells) (R.view rack.old) (R.view rack.new))
         (both (A.view door.old) (A.view door.new)) (both (S.view seeds.old) (S.view seeds.new))
         (pasts_of (P.told past.old) (P.told past.new))) }
     // Plain words over a lawful input end well, at a step that does not fit, at an edit that outgrows a journal, or for want of memory, where nothing outside fails.
     ensures complete { IsComplete result (met_in (around (texts words.now)
-        (views D.view D.tells A.Porch.Link.view A.Porch.view N.nonce (C.shows clock.now))
+        (views (trio_view {G = ⟦<D as Disk>⟧}) D.tells A.Porch.Link.view A.Porch.view N.nonce
+        (C.shows clock.now))
         (both (I.view input.old) (I.view input.new)) (both (O.view output.old) (O.view output.new))
         (racks_of (R.tells && D.tells) (R.view rack.old) (R.view rack.new))
         (both (A.view door.old) (A.view door.new)) (both (S.view seeds.old) (S.view seeds.new))
         (pasts_of (P.told past.old) (P.told past.new)))) }
     // A status that tells a fault of the outside comes only where a call of that failed, and 2 only of words that are no command.
     ensures cause { HasCause result (met_in (around (texts words.now)
-        (views D.view D.tells A.Porch.Link.view A.Porch.view N.nonce (C.shows clock.now))
+        (views (trio_view {G = ⟦<D as Disk>⟧}) D.tells A.Porch.Link.view A.Porch.view N.nonce
+        (C.shows clock.now))
         (both (I.view input.old) (I.view input.new)) (both (O.view output.old) (O.view output.new))
         (racks_of (R.tells && D.tells) (R.view rack.old) (R.view rack.new))
         (both (A.view door.old) (A.view door.new)) (both (S.view seeds.old) (S.view seeds.new))
         (pasts_of (P.told past.old) (P.told past.new)))) }
     // Whatever it came to: what was written was handed on, each disk is home again, and no count of faults fell.
     ensures leaves { IsTidy result (around (texts words.now)
-        (views D.view D.tells A.Porch.Link.view A.Porch.view N.nonce (C.shows clock.now))
+        (views (trio_view {G = ⟦<D as Disk>⟧}) D.tells A.Porch.Link.view A.Porch.view N.nonce
+        (C.shows clock.now))
         (both (I.view input.old) (I.view input.new)) (both (O.view output.old) (O.view output.new))
         (racks_of (R.tells && D.tells) (R.view rack.old) (R.view rack.new))
         (both (A.view door.old) (A.view door.new)) (both (S.view seeds.old) (S.view seeds.new))
         (pasts_of (P.told past.old) (P.told past.new))) }
 {
     transcripts_are_runs();
-    code_of(run(
-        rt, alloc, words, input, output, rack, door, clock, seeds, gate, past,
-    ))
+    let mut outside = Outside::new(rt, alloc, rack, door, clock, seeds, gate, past);
+    code_of(outside.run(words, input, output))
 }

@@ -58,11 +58,25 @@ fn long_disk(alloc: Global) -> Result<RepeatDisk, AllocError>
     Ok(RepeatDisk::new(first, record, 1_023, gate))
 }
 
-// A rack whose one disk, of number 0, is empty when it is taken first, and nearly full when it is taken again.
+// The file of the shelf: nearly full where it was taken before, and else empty.
+fn file_of(alloc: Global, taken: bool) -> Result<RepeatDisk, AllocError>
+    ensures { IfOk result (λ disk. (repeat_view disk).faults ≡ 0) }
+{
+    if taken {
+        long_disk(alloc)
+    } else {
+        Ok(empty_disk(alloc))
+    }
+}
+
+// A rack of the three disks of shelf 0: the one of number 0 is empty when it is taken first, and nearly full when it is taken again; the
+// other file and the root are always empty.
 #[derive(Drop)]
 struct FillingRack {
     taken: bool,
-    lent: bool,
+    file_is_lent: bool,
+    other_is_lent: bool,
+    root_is_lent: bool,
     faults: u64,
     failed: Failures,
     asked: Asked,
@@ -70,11 +84,15 @@ struct FillingRack {
 
 impl FillingRack {
     fn new() -> FillingRack
-        ensures lent { result.lent ≡ false }
+        ensures file { result.file_is_lent ≡ false }
+        ensures other { result.other_is_lent ≡ false }
+        ensures root { result.root_is_lent ≡ false }
     {
         FillingRack {
             taken: false,
-            lent: false,
+            file_is_lent: false,
+            other_is_lent: false,
+            root_is_lent: false,
             faults: 0,
             failed: Failures::new(),
             asked: Asked::new(),
@@ -83,7 +101,7 @@ impl FillingRack {
 }
 
 impl Rack<RepeatDisk> for FillingRack {
-    ghost use Rattle.std.specs.Prelude.{false, ◌==◌, ◌&&◌};
+    ghost use Rattle.std.specs.Prelude.{false, ◌==◌, ◌&&◌, ◌||◌};
     ghost use Rattle.web_disk.specs.Asked.{asked_in};
     ghost use Rattle.web_disk.specs.Failures.{failed_in};
 
@@ -92,7 +110,8 @@ impl Rack<RepeatDisk> for FillingRack {
     // Nothing is told of what a disk may hold.
     ghost view = { λ rack. record {
       holds = λ n image. ⊥;
-      out = λ n. rack.lent && (n == 0);
+      out = λ n. (rack.file_is_lent && (n == 0))
+          || ((rack.other_is_lent && (n == 16)) || (rack.root_is_lent && (n == 32)));
       faults = rack.faults;
       failed = λ n. failed_in rack.failed n;
       asked = asked_in rack.asked;
@@ -109,20 +128,23 @@ impl Rack<RepeatDisk> for FillingRack {
         number: u32,
     ) -> Result<RepeatDisk, RackFault> {
         self.asked.note(number);
-        if number != 0 || self.lent {
-            return Err(RackFault::Memory);
+        if number == 0 && !self.file_is_lent {
+            let Ok(disk) = file_of(alloc, self.taken) else {
+                return Err(RackFault::Memory);
+            };
+            self.taken = true;
+            self.file_is_lent = true;
+            return Ok(disk);
         }
-        let disk = if self.taken {
-            long_disk(alloc)
-        } else {
-            Ok(empty_disk(alloc))
-        };
-        let Ok(disk) = disk else {
-            return Err(RackFault::Memory);
-        };
-        self.taken = true;
-        self.lent = true;
-        Ok(disk)
+        if number == 16 && !self.other_is_lent {
+            self.other_is_lent = true;
+            return Ok(empty_disk(alloc));
+        }
+        if number == 32 && !self.root_is_lent {
+            self.root_is_lent = true;
+            return Ok(empty_disk(alloc));
+        }
+        Err(RackFault::Memory)
     }
 
     fn give(&mut self, number: u32, disk: RepeatDisk) {
@@ -130,7 +152,11 @@ impl Rack<RepeatDisk> for FillingRack {
         self.faults = self.faults.saturating_add(faults);
         self.failed.count(number, faults);
         if number == 0 {
-            self.lent = false;
+            self.file_is_lent = false;
+        } else if number == 16 {
+            self.other_is_lent = false;
+        } else if number == 32 {
+            self.root_is_lent = false;
         }
     }
 }

@@ -1,5 +1,6 @@
 use Rattle.std.proofs.Common.{ap, inl, inr, refl, subst, arith}
 use Rattle.std.specs.Prelude.{◌&&◌}
+use Rattle.trio_rack.proofs.Homes.{disks_home, shelves_home}
 use Rattle.script_nodes.specs.Views.{scripts_of}
 use Rattle.play_steps.specs.Step.{steps_of}
 use Rattle.play_steps.specs.Transcript.{bad_line, done}
@@ -14,7 +15,7 @@ use Rattle.server_command.specs.Telling.{TellsUnopened}
 use Rattle.measured_run.proofs.Going.{told_by}
 use Rattle.server_command.proofs.Opened.{again_outputs, first_outputs}
 use Rattle.server_command.proofs.Openings.{both_tell}
-use Rattle.server_command.proofs.Orders.{done_asked, line_asked, memory_asked, unopened_asked}
+use Rattle.server_command.proofs.Orders.{done_asked, line_asked, memory_asked, unopened_asked, until_own}
 use Rattle.server_command.proofs.Playing.{done_outputs, line_outputs, memory_outputs, write_outputs}
 use Rattle.server_command.proofs.Runs.{begins, halted, lost, loses, paused, ran}
 use Rattle.server_command.proofs.jobs.play_all.Goals as goal
@@ -30,9 +31,9 @@ returns-in-Err-clause-outputs g c = λ bytes h.
     first_outputs rack o bytes (record { scripts = scripts_of c.args.setup; steps = c.args.steps.now }) fault.shelf fault.why c.tell_unopened.result
     old.written new.written old.faults new.faults h
     (λ t. let b = both_tell g.R.Rack.tells g.D.Disk.tells t in
-    subst (λ n. IsClosedBy rack.before.holds n fault.shelf fault.why) c.rules_of-rules.ensures.asked.shelves (c.in-Err.ensures.closed b.0 b.1))
+    subst (λ n. IsClosedBy rack.before n fault.shelf fault.why) c.rules_of-rules.ensures.asked.shelves (c.in-Err.ensures.closed b.0 b.1))
     c.in-Err.ensures.disk
-    (λ t. let b = both_tell g.R.Rack.tells g.D.Disk.tells t in c.in-Err.ensures.keeps b.0 b.1) c.in-Err.ensures.asked_until.1 c.in-Err.ensures.later
+    (λ t. let b = both_tell g.R.Rack.tells g.D.Disk.tells t in c.in-Err.ensures.keeps b.0 b.1) (until_own _ _ _ _ c.in-Err.ensures.asked_until) c.in-Err.ensures.asked_shut c.in-Err.ensures.later
     c.tell_unopened.ensures.tells
 
 pub returns-in-Done-clause-outputs : goal.returns-in-Done-clause-outputs
@@ -193,20 +194,27 @@ returns-in-Reopen-clause-asked g c =
 
 pub returns-in-Done-clause-back : goal.returns-in-Done-clause-back
 returns-in-Done-clause-back g c =
-    record { home = c.close.ensures.home; later = omega (arith, c.in-Ok.ensures.later_open, c.in-Done.ensures.devices_later, c.close.ensures.later) }
+    record { home = disks_home (g.R.Rack.view c.close.new.rack) c.close.ensures.home; later = omega (arith, c.in-Ok.ensures.later_open, c.in-Done.ensures.devices_later, c.close.ensures.later) }
 
 pub returns-in-Line-clause-back : goal.returns-in-Line-clause-back
 returns-in-Line-clause-back g c =
-    record { home = c.close.ensures.home; later = omega (arith, c.in-Ok.ensures.later_open, c.in-Line.ensures.devices_later, c.close.ensures.later) }
+    record { home = disks_home (g.R.Rack.view c.close.new.rack) c.close.ensures.home; later = omega (arith, c.in-Ok.ensures.later_open, c.in-Line.ensures.devices_later, c.close.ensures.later) }
 
 pub returns-in-Write-clause-back : goal.returns-in-Write-clause-back
 returns-in-Write-clause-back g c =
-    record { home = c.close.ensures.home; later = omega (arith, c.in-Ok.ensures.later_open, c.in-Write.ensures.devices_later, c.close.ensures.later) }
+    record { home = disks_home (g.R.Rack.view c.close.new.rack) c.close.ensures.home; later = omega (arith, c.in-Ok.ensures.later_open, c.in-Write.ensures.devices_later, c.close.ensures.later) }
 
 pub returns-in-Memory-clause-back : goal.returns-in-Memory-clause-back
 returns-in-Memory-clause-back g c =
-    record { home = c.close.ensures.home; later = omega (arith, c.in-Ok.ensures.later_open, c.in-Memory.ensures.devices_later, c.close.ensures.later) }
+    record { home = disks_home (g.R.Rack.view c.close.new.rack) c.close.ensures.home; later = omega (arith, c.in-Ok.ensures.later_open, c.in-Memory.ensures.devices_later, c.close.ensures.later) }
 
 pub returns-in-Reopen-clause-back : goal.returns-in-Reopen-clause-back
 returns-in-Reopen-clause-back g c =
-    record { home = c.close.ensures.home; later = omega (arith, c.in-Ok.ensures.later_open, c.in-Reopen.ensures.devices_later, c.close.ensures.later) }
+    record { home = disks_home (g.R.Rack.view c.close.new.rack) c.close.ensures.home; later = omega (arith, c.in-Ok.ensures.later_open, c.in-Reopen.ensures.devices_later, c.close.ensures.later) }
+
+pub returns-in-Err-clause-back : goal.returns-in-Err-clause-back
+returns-in-Err-clause-back g c =
+    record { home = disks_home (g.R.Rack.view c.open_desk.new.rack) c.in-Err.ensures.all_home; later = c.in-Err.ensures.later }
+
+pub open_desk-requires-clause-home : goal.open_desk-requires-clause-home
+open_desk-requires-clause-home g c = shelves_home (g.R.Rack.view c.args.rack.now) c.requires.home

@@ -1,7 +1,10 @@
 use Rattle.std.proofs.Common.{◌≡◌, ◌≤◌, ◌^◌, Err, inl, inr, refl, subst, List, arith, rules}
 use Rattle.std.specs.Prelude.{◌&&◌}
 use Rattle.std.proofs.lemmas.List.{length-map}
+use Rattle.trio_rack.specs.Trios.{shelves_of}
 use Rattle.lock_row.proofs.Places.{map_get}
+use Rattle.disk_trio.specs.Trio.{trio_view}
+use Rattle.trio_rack.proofs.Homes.{disks_home, shelves_home}
 use Rattle.script_nodes.specs.Setup.{Named}
 use Rattle.replay_spec.specs.Runs.{Shelf}
 use Rattle.script_nodes.specs.Views.{scripts_of}
@@ -17,7 +20,7 @@ use Rattle.server_command.specs.Racks.{racks_of}
 use Rattle.server_command.specs.Telling.{TellsUnopened}
 use Rattle.server_command.proofs.Loads.{again_leaves, error_is, first_leaves, loaded_by, lost_if, measure_leaves, memory_leaves, short_if, untouched}
 use Rattle.server_command.proofs.Openings.{both_tell}
-use Rattle.server_command.proofs.Orders.{measure_asked, memory_asked, unopened_asked}
+use Rattle.server_command.proofs.Orders.{measure_asked, memory_asked, unopened_asked, until_own}
 use Rattle.server_command.proofs.Playing.{Begins}
 use Rattle.server_command.proofs.Runs.{begins}
 use Rattle.server_command.proofs.loading.load_all.Goals as goal
@@ -29,7 +32,7 @@ returns-in_default-clause-leaves g c = memory_leaves _ c.args.options.now _ _ _ 
 pub load-end-requires-clause-some : goal.load-end-requires-clause-some
 load-end-requires-clause-some g c =
     let shelves = c.in-Ok-open_desk.desk.staff.shelves.items in
-    let as_many = length-map shelves (shelf_at g.D.Disk.view) in
+    let as_many = length-map shelves (shelf_at (trio_view {G = g.D.Disk})) in
     omega (arith, as_many, c.in-Ok-open_desk.ensures.count, c.rules_of-rules.ensures.asked.shelves, c.requires.range.options.shelves.0)
 
 pub returns-in-Err-clause-leaves : goal.returns-in-Err-clause-leaves
@@ -40,11 +43,11 @@ returns-in-Err-clause-leaves g c =
     let new = g.O.Sink.view c.tell_unopened.new.output in
     first_leaves rack c.args.options.now fault.shelf fault.why c.tell_unopened.result old.written new.written old.faults new.faults
     (λ t. let b = both_tell g.R.Rack.tells g.D.Disk.tells t in
-    subst (λ n. IsClosedBy rack.before.holds n fault.shelf fault.why) c.rules_of-rules.ensures.asked.shelves (c.in-Err.ensures.closed b.0 b.1))
+    subst (λ n. IsClosedBy rack.before n fault.shelf fault.why) c.rules_of-rules.ensures.asked.shelves (c.in-Err.ensures.closed b.0 b.1))
     c.in-Err.ensures.disk
     (λ t. let b = both_tell g.R.Rack.tells g.D.Disk.tells t in
-    subst (λ (ss : List Named). AllStayKept ss rack.before.holds rack.after.holds fault.shelf fault.why) c.in-Ok.ensures.scripts (c.in-Err.ensures.keeps b.0 b.1))
-    c.in-Err.ensures.asked_until.1 c.in-Err.ensures.later
+    subst (λ (ss : List Named). AllStayKept ss (shelves_of rack.before).holds (shelves_of rack.after).holds fault.shelf fault.why) c.in-Ok.ensures.scripts (c.in-Err.ensures.keeps b.0 b.1))
+    (until_own _ _ _ _ c.in-Err.ensures.asked_until) c.in-Err.ensures.asked_shut c.in-Err.ensures.later
     c.tell_unopened.ensures.tells
 
 pub returns-in-Ok-end-clause-leaves : goal.returns-in-Ok-end-clause-leaves
@@ -55,11 +58,11 @@ returns-in-Ok-end-clause-leaves g c =
     let last = c.load-end.new.stage in
     measure_leaves rack l c.in-Ok-end.measure c.tell_measure.result (sinks_of (g.O.Sink.view c.args.output.now) (g.O.Sink.view c.tell_measure.new.output))
     (λ t. let b = both_tell g.R.Rack.tells g.D.Disk.tells t in
-    loaded_by rack l (IsLeft (g.R.Rack.view c.load-end.new.devices)) c.in-Ok-end.measure (desk_of g.D.Disk.view (scripts_of first.setup) first.staff) (desk_of g.D.Disk.view (scripts_of last.setup) last.staff)
-    (total (g.R.Rack.view c.open_desk.new.rack).faults (faults_in g.D.Disk.view first.staff.shelves.items))
-    (total (g.R.Rack.view c.load-end.new.devices).faults (faults_in g.D.Disk.view last.staff.shelves.items))
-    (subst (λ (ss : List Named). Begins rack l.options ss (desk_of g.D.Disk.view (scripts_of first.setup) first.staff)) c.in-Ok.ensures.scripts
-    (begins rack l.options (scripts_of c.in-Ok.setup) c.rules_of-rules.result (desk_of g.D.Disk.view (scripts_of first.setup) first.staff) c.rules_of-rules.ensures.asked
+    loaded_by rack l (IsLeft (g.R.Rack.view c.load-end.new.devices)) c.in-Ok-end.measure (desk_of (trio_view {G = g.D.Disk}) (scripts_of first.setup) first.staff) (desk_of (trio_view {G = g.D.Disk}) (scripts_of last.setup) last.staff)
+    (total (g.R.Rack.view c.open_desk.new.rack).faults (faults_in (trio_view {G = g.D.Disk}) first.staff.shelves.items))
+    (total (g.R.Rack.view c.load-end.new.devices).faults (faults_in (trio_view {G = g.D.Disk}) last.staff.shelves.items))
+    (subst (λ (ss : List Named). Begins rack l.options ss (desk_of (trio_view {G = g.D.Disk}) (scripts_of first.setup) first.staff)) c.in-Ok.ensures.scripts
+    (begins rack l.options (scripts_of c.in-Ok.setup) c.rules_of-rules.result (desk_of (trio_view {G = g.D.Disk}) (scripts_of first.setup) first.staff) c.rules_of-rules.ensures.asked
     (c.in-Ok-open_desk.ensures.desk b.0 b.1) (c.in-Ok-open_desk.ensures.empty b.0 b.1)
     (asked_through c.rules_of-rules.result.shelves rack.before (g.R.Rack.view c.open_desk.new.rack) (g.R.Rack.view c.load-end.new.devices) rack.after c.in-Ok-open_desk.ensures.asked c.in-Ok-end.ensures.asked c.close.ensures.asked)))
     (c.in-Ok-end.ensures.measured t (c.in-Ok-open_desk.ensures.own b.0 b.1)) (c.close.ensures.books b.0 b.1 (c.in-Ok-end.ensures.own t (c.in-Ok-open_desk.ensures.own b.0 b.1)))
@@ -77,14 +80,14 @@ returns-in-Err-Memory-clause-leaves g c =
     (λ t. let b = both_tell g.R.Rack.tells g.D.Disk.tells t in
     short_if rack l (IsLeft (g.R.Rack.view c.load-end.new.devices))
     (λ d k w. left_home last.staff.shelves.items (g.R.Rack.view c.load-end.new.devices) rack.after d k w c.load-end.ensures.home c.close.ensures.others c.close.ensures.home)
-    c.load-end.result (desk_of g.D.Disk.view (scripts_of first.setup) first.staff) (desk_of g.D.Disk.view (scripts_of last.setup) last.staff)
-    (total (g.R.Rack.view c.open_desk.new.rack).faults (faults_in g.D.Disk.view first.staff.shelves.items))
-    (total (g.R.Rack.view c.load-end.new.devices).faults (faults_in g.D.Disk.view last.staff.shelves.items)) is
-    (subst (λ (ss : List Named). Begins rack l.options ss (desk_of g.D.Disk.view (scripts_of first.setup) first.staff)) c.in-Ok.ensures.scripts
-    (begins rack l.options (scripts_of c.in-Ok.setup) c.rules_of-rules.result (desk_of g.D.Disk.view (scripts_of first.setup) first.staff) c.rules_of-rules.ensures.asked
+    c.load-end.result (desk_of (trio_view {G = g.D.Disk}) (scripts_of first.setup) first.staff) (desk_of (trio_view {G = g.D.Disk}) (scripts_of last.setup) last.staff)
+    (total (g.R.Rack.view c.open_desk.new.rack).faults (faults_in (trio_view {G = g.D.Disk}) first.staff.shelves.items))
+    (total (g.R.Rack.view c.load-end.new.devices).faults (faults_in (trio_view {G = g.D.Disk}) last.staff.shelves.items)) is
+    (subst (λ (ss : List Named). Begins rack l.options ss (desk_of (trio_view {G = g.D.Disk}) (scripts_of first.setup) first.staff)) c.in-Ok.ensures.scripts
+    (begins rack l.options (scripts_of c.in-Ok.setup) c.rules_of-rules.result (desk_of (trio_view {G = g.D.Disk}) (scripts_of first.setup) first.staff) c.rules_of-rules.ensures.asked
     (c.in-Ok-open_desk.ensures.desk b.0 b.1) (c.in-Ok-open_desk.ensures.empty b.0 b.1)
     (asked_through c.rules_of-rules.result.shelves rack.before (g.R.Rack.view c.open_desk.new.rack) (g.R.Rack.view c.load-end.new.devices) rack.after c.in-Ok-open_desk.ensures.asked c.load-end.ensures.asked c.close.ensures.asked)))
-    (λ k s e. let x = map_get (shelf_at g.D.Disk.view) first.staff.shelves.items k s e in
+    (λ k s e. let x = map_get (shelf_at (trio_view {G = g.D.Disk})) first.staff.shelves.items k s e in
     subst (λ (z : Shelf). z.book.length ≤ 2 ^ 30) x.2 (c.in-Ok-open_desk.ensures.sound.fit.in_order k x.0 x.1).sound)
     c.requires.range.options.shelves.0
     (c.load-end.ensures.measured t (c.in-Ok-open_desk.ensures.own b.0 b.1))
@@ -106,14 +109,14 @@ returns-in-Err-Reopen-clause-leaves g c =
     (λ t. let b = both_tell g.R.Rack.tells g.D.Disk.tells t in
     lost_if rack l (IsLeft (g.R.Rack.view c.load-end.new.devices))
     (λ d k w. left_home last.staff.shelves.items (g.R.Rack.view c.load-end.new.devices) rack.after d k w c.load-end.ensures.home c.close.ensures.others c.close.ensures.home)
-    shelf why c.load-end.result (desk_of g.D.Disk.view (scripts_of first.setup) first.staff) (desk_of g.D.Disk.view (scripts_of last.setup) last.staff)
-    (total (g.R.Rack.view c.open_desk.new.rack).faults (faults_in g.D.Disk.view first.staff.shelves.items))
-    (total (g.R.Rack.view c.load-end.new.devices).faults (faults_in g.D.Disk.view last.staff.shelves.items)) is
-    (subst (λ (ss : List Named). Begins rack l.options ss (desk_of g.D.Disk.view (scripts_of first.setup) first.staff)) c.in-Ok.ensures.scripts
-    (begins rack l.options (scripts_of c.in-Ok.setup) c.rules_of-rules.result (desk_of g.D.Disk.view (scripts_of first.setup) first.staff) c.rules_of-rules.ensures.asked
+    shelf why c.load-end.result (desk_of (trio_view {G = g.D.Disk}) (scripts_of first.setup) first.staff) (desk_of (trio_view {G = g.D.Disk}) (scripts_of last.setup) last.staff)
+    (total (g.R.Rack.view c.open_desk.new.rack).faults (faults_in (trio_view {G = g.D.Disk}) first.staff.shelves.items))
+    (total (g.R.Rack.view c.load-end.new.devices).faults (faults_in (trio_view {G = g.D.Disk}) last.staff.shelves.items)) is
+    (subst (λ (ss : List Named). Begins rack l.options ss (desk_of (trio_view {G = g.D.Disk}) (scripts_of first.setup) first.staff)) c.in-Ok.ensures.scripts
+    (begins rack l.options (scripts_of c.in-Ok.setup) c.rules_of-rules.result (desk_of (trio_view {G = g.D.Disk}) (scripts_of first.setup) first.staff) c.rules_of-rules.ensures.asked
     (c.in-Ok-open_desk.ensures.desk b.0 b.1) (c.in-Ok-open_desk.ensures.empty b.0 b.1)
     (asked_through c.rules_of-rules.result.shelves rack.before (g.R.Rack.view c.open_desk.new.rack) (g.R.Rack.view c.load-end.new.devices) rack.after c.in-Ok-open_desk.ensures.asked c.load-end.ensures.asked c.close.ensures.asked)))
-    (λ k s e. let x = map_get (shelf_at g.D.Disk.view) first.staff.shelves.items k s e in
+    (λ k s e. let x = map_get (shelf_at (trio_view {G = g.D.Disk})) first.staff.shelves.items k s e in
     subst (λ (z : Shelf). z.book.length ≤ 2 ^ 30) x.2 (c.in-Ok-open_desk.ensures.sound.fit.in_order k x.0 x.1).sound)
     c.requires.range.options.shelves.0
     (c.load-end.ensures.measured t (c.in-Ok-open_desk.ensures.own b.0 b.1)) c.in-Ok-open_desk.ensures.later_open c.close.ensures.later)
@@ -130,15 +133,15 @@ returns-in-Err-Reopen-clause-leaves g c =
 
 pub returns-in-Ok-end-clause-back : goal.returns-in-Ok-end-clause-back
 returns-in-Ok-end-clause-back g c =
-    record { home = c.close.ensures.home; later = omega (arith, c.in-Ok-open_desk.ensures.later_open, c.in-Ok-end.ensures.later, c.close.ensures.later) }
+    record { home = disks_home (g.R.Rack.view c.close.new.rack) c.close.ensures.home; later = omega (arith, c.in-Ok-open_desk.ensures.later_open, c.in-Ok-end.ensures.later, c.close.ensures.later) }
 
 pub returns-in-Err-Memory-clause-back : goal.returns-in-Err-Memory-clause-back
 returns-in-Err-Memory-clause-back g c =
-    record { home = c.close.ensures.home; later = omega (arith, c.in-Ok-open_desk.ensures.later_open, c.load-end.ensures.later, c.close.ensures.later) }
+    record { home = disks_home (g.R.Rack.view c.close.new.rack) c.close.ensures.home; later = omega (arith, c.in-Ok-open_desk.ensures.later_open, c.load-end.ensures.later, c.close.ensures.later) }
 
 pub returns-in-Err-Reopen-clause-back : goal.returns-in-Err-Reopen-clause-back
 returns-in-Err-Reopen-clause-back g c =
-    record { home = c.close.ensures.home; later = omega (arith, c.in-Ok-open_desk.ensures.later_open, c.load-end.ensures.later, c.close.ensures.later) }
+    record { home = disks_home (g.R.Rack.view c.close.new.rack) c.close.ensures.home; later = omega (arith, c.in-Ok-open_desk.ensures.later_open, c.load-end.ensures.later, c.close.ensures.later) }
 
 -- ---- what was asked of the rack
 
@@ -172,3 +175,10 @@ returns-in-Err-Reopen-clause-asked g c =
     let all = subst (λ n. AsksForAll n rack.before rack.after) c.rules_of-rules.ensures.asked.shelves
     (asked_through c.rules_of-rules.result.shelves rack.before (g.R.Rack.view c.open_desk.new.rack) (g.R.Rack.view c.load-end.new.devices) rack.after c.in-Ok-open_desk.ensures.asked c.load-end.ensures.asked c.close.ensures.asked) in
     unopened_asked rack c.args.options.now.options.shelves c.in-Err-Reopen.shelf _ c.tell_unopened-in-Err-Reopen.result _ c.tell_unopened-in-Err-Reopen.ensures.tells (inr all)
+
+pub returns-in-Err-clause-back : goal.returns-in-Err-clause-back
+returns-in-Err-clause-back g c =
+    record { home = disks_home (g.R.Rack.view c.open_desk.new.rack) c.in-Err.ensures.all_home; later = c.in-Err.ensures.later }
+
+pub open_desk-requires-clause-home : goal.open_desk-requires-clause-home
+open_desk-requires-clause-home g c = shelves_home (g.R.Rack.view c.args.rack.now) c.requires.home

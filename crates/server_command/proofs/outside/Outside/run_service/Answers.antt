@@ -1,6 +1,8 @@
 use Rattle.std.proofs.Common.{◌≡◌, Err, rules, refl, sym, subst, arith}
 use Rattle.std.specs.Prelude.{◌&&◌}
 use Rattle.script_nodes.specs.Views.{scripts_of}
+use Rattle.trio_rack.proofs.Homes.{disks_home, shelves_home}
+use Rattle.disk_trio.specs.Trio.{trio_view}
 use Rattle.site_serving.specs.Serving.{pasts_of, views}
 use Rattle.server_command.specs.Command.{IsSetupOf, TellsNoSetup, around, met_in, serves_in}
 use Rattle.server_command.specs.Order.{asks_of, both}
@@ -13,15 +15,15 @@ use Rattle.server_command.proofs.Endings.{at_rest}
 use Rattle.server_command.proofs.Orders.{idle, outcome_order, setup_order, unread_order}
 use Rattle.server_command.proofs.Servings.{input_served, told_left, unread_left}
 use Rattle.server_command.proofs.Short.{can_begin}
-use Rattle.server_command.proofs.service.run_service.Goals as goal
+use Rattle.server_command.proofs.outside.Outside.run_service.Goals as goal
 
 pub returns-in-Err-clause-comes : goal.returns-in-Err-clause-comes
 returns-in-Err-clause-comes g c = λ words.
-    let a = around words (views g.D.Disk.view g.D.Disk.tells g.A.Porch.Link.Link.view g.A.Porch.Porch.view g.N.Nonces.nonce (g.C.Clock.shows c.args.clock.now))
+    let a = around words (views (trio_view {G = g.D.Disk}) g.D.Disk.tells g.A.Porch.Link.Link.view g.A.Porch.Porch.view g.N.Nonces.nonce (g.C.Clock.shows c.args.self.now.clock.now))
     (both (g.I.Source.view c.args.input.now) (g.I.Source.view c.read_all.new.source)) (both (g.O.Sink.view c.args.output.now) (g.O.Sink.view c.tell_unread.new.output))
-    (racks_of (g.R.Rack.tells && g.D.Disk.tells) (g.R.Rack.view c.args.rack.now) (g.R.Rack.view c.args.rack.now))
-    (both (g.A.Door.view c.args.door.now) (g.A.Door.view c.args.door.now)) (both (g.S.Seeds.view c.args.seeds.now) (g.S.Seeds.view c.args.seeds.now))
-    (pasts_of (g.P.Past.told c.args.past.now) (g.P.Past.told c.args.past.now)) in
+    (racks_of (g.R.Rack.tells && g.D.Disk.tells) (g.R.Rack.view c.args.self.now.rack.now) (g.R.Rack.view c.args.self.now.rack.now))
+    (both (g.A.Door.view c.args.self.now.door.now) (g.A.Door.view c.args.self.now.door.now)) (both (g.S.Seeds.view c.args.self.now.seeds.now) (g.S.Seeds.view c.args.self.now.seeds.now))
+    (pasts_of (g.P.Past.told c.args.self.now.past.now) (g.P.Past.told c.args.self.now.past.now)) in
     let is : c.read_all.result ≡ Err c.in-Err.fault = search rules in
     unread_served (serves_in a) c.args.service.now c.tell_unread.result (met_in a) c.in-Err.fault c.tell_unread.ensures.status
     (unread_by (met_in a) c.read_all.result c.in-Err.fault is c.tell_unread.ensures.line c.read_all.ensures.long c.read_all.ensures.failed
@@ -30,19 +32,19 @@ returns-in-Err-clause-comes g c = λ words.
 
 pub returns-in-Err-clause-order : goal.returns-in-Err-clause-order
 returns-in-Err-clause-order g c =
-    let asks = asks_of (both (g.A.Door.view c.args.door.now) (g.A.Door.view c.args.door.now)) (both (g.S.Seeds.view c.args.seeds.now) (g.S.Seeds.view c.args.seeds.now))
-    (pasts_of (g.P.Past.told c.args.past.now) (g.P.Past.told c.args.past.now)) in
-    let rack = racks_of (g.R.Rack.tells && g.D.Disk.tells) (g.R.Rack.view c.args.rack.now) (g.R.Rack.view c.args.rack.now) in
+    let asks = asks_of (both (g.A.Door.view c.args.self.now.door.now) (g.A.Door.view c.args.self.now.door.now)) (both (g.S.Seeds.view c.args.self.now.seeds.now) (g.S.Seeds.view c.args.self.now.seeds.now))
+    (pasts_of (g.P.Past.told c.args.self.now.past.now) (g.P.Past.told c.args.self.now.past.now)) in
+    let rack = racks_of (g.R.Rack.tells && g.D.Disk.tells) (g.R.Rack.view c.args.self.now.rack.now) (g.R.Rack.view c.args.self.now.rack.now) in
     unread_order asks rack c.args.service.now.options.shelves c.in-Err.fault c.tell_unread.result c.tell_unread.ensures.status
     (idle asks _ _ refl (refl, refl))
 
 pub returns-in-Err-parse_setup-clause-comes : goal.returns-in-Err-parse_setup-clause-comes
 returns-in-Err-parse_setup-clause-comes g c = λ words.
-    let a = around words (views g.D.Disk.view g.D.Disk.tells g.A.Porch.Link.Link.view g.A.Porch.Porch.view g.N.Nonces.nonce (g.C.Clock.shows c.args.clock.now))
+    let a = around words (views (trio_view {G = g.D.Disk}) g.D.Disk.tells g.A.Porch.Link.Link.view g.A.Porch.Porch.view g.N.Nonces.nonce (g.C.Clock.shows c.args.self.now.clock.now))
     (both (g.I.Source.view c.args.input.now) (g.I.Source.view c.read_all.new.source)) (both (g.O.Sink.view c.args.output.now) (g.O.Sink.view c.parse_setup.new.output))
-    (racks_of (g.R.Rack.tells && g.D.Disk.tells) (g.R.Rack.view c.args.rack.now) (g.R.Rack.view c.args.rack.now))
-    (both (g.A.Door.view c.args.door.now) (g.A.Door.view c.args.door.now)) (both (g.S.Seeds.view c.args.seeds.now) (g.S.Seeds.view c.args.seeds.now))
-    (pasts_of (g.P.Past.told c.args.past.now) (g.P.Past.told c.args.past.now)) in
+    (racks_of (g.R.Rack.tells && g.D.Disk.tells) (g.R.Rack.view c.args.self.now.rack.now) (g.R.Rack.view c.args.self.now.rack.now))
+    (both (g.A.Door.view c.args.self.now.door.now) (g.A.Door.view c.args.self.now.door.now)) (both (g.S.Seeds.view c.args.self.now.seeds.now) (g.S.Seeds.view c.args.self.now.seeds.now))
+    (pasts_of (g.P.Past.told c.args.self.now.past.now) (g.P.Past.told c.args.self.now.past.now)) in
     let out = (met_in a).output in
     let none = subst (λ bytes. TellsNoSetup bytes out c.in-Err-parse_setup.status) c.deref.ensures.value c.in-Err-parse_setup.ensures.none in
     served_came (serves_in a) c.args.service.now c.in-Err-parse_setup.status (met_in a) c.in-Ok.bytes.items refl c.in-Ok.ensures.whole c.in-Ok.ensures.end
@@ -52,9 +54,9 @@ returns-in-Err-parse_setup-clause-comes g c = λ words.
 
 pub returns-in-Err-parse_setup-clause-order : goal.returns-in-Err-parse_setup-clause-order
 returns-in-Err-parse_setup-clause-order g c =
-    let asks = asks_of (both (g.A.Door.view c.args.door.now) (g.A.Door.view c.args.door.now)) (both (g.S.Seeds.view c.args.seeds.now) (g.S.Seeds.view c.args.seeds.now))
-    (pasts_of (g.P.Past.told c.args.past.now) (g.P.Past.told c.args.past.now)) in
-    let rack = racks_of (g.R.Rack.tells && g.D.Disk.tells) (g.R.Rack.view c.args.rack.now) (g.R.Rack.view c.args.rack.now) in
+    let asks = asks_of (both (g.A.Door.view c.args.self.now.door.now) (g.A.Door.view c.args.self.now.door.now)) (both (g.S.Seeds.view c.args.self.now.seeds.now) (g.S.Seeds.view c.args.self.now.seeds.now))
+    (pasts_of (g.P.Past.told c.args.self.now.past.now) (g.P.Past.told c.args.self.now.past.now)) in
+    let rack = racks_of (g.R.Rack.tells && g.D.Disk.tells) (g.R.Rack.view c.args.self.now.rack.now) (g.R.Rack.view c.args.self.now.rack.now) in
     setup_order asks rack c.args.service.now.options.shelves _ _ c.in-Err-parse_setup.status c.in-Err-parse_setup.ensures.none
     (idle asks _ _ refl (refl, refl))
 
@@ -65,11 +67,11 @@ serve-outcome-requires-clause-begins g c = λ lifetimes outlive.
 
 pub returns-clause-comes : goal.returns-clause-comes
 returns-clause-comes g c = λ words.
-    let a = around words (views g.D.Disk.view g.D.Disk.tells g.A.Porch.Link.Link.view g.A.Porch.Porch.view g.N.Nonces.nonce (g.C.Clock.shows c.args.clock.now))
+    let a = around words (views (trio_view {G = g.D.Disk}) g.D.Disk.tells g.A.Porch.Link.Link.view g.A.Porch.Porch.view g.N.Nonces.nonce (g.C.Clock.shows c.args.self.now.clock.now))
     (both (g.I.Source.view c.args.input.now) (g.I.Source.view c.read_all.new.source)) (both (g.O.Sink.view c.args.output.now) (g.O.Sink.view c.tell_outcome.new.output))
-    (racks_of (g.R.Rack.tells && g.D.Disk.tells) (g.R.Rack.view c.args.rack.now) (g.R.Rack.view c.serve-outcome.new.rack))
-    (both (g.A.Door.view c.args.door.now) (g.A.Door.view c.serve-outcome.new.door)) (both (g.S.Seeds.view c.args.seeds.now) (g.S.Seeds.view c.serve-outcome.new.seeds))
-    (pasts_of (g.P.Past.told c.args.past.now) (g.P.Past.told c.serve-outcome.new.past)) in
+    (racks_of (g.R.Rack.tells && g.D.Disk.tells) (g.R.Rack.view c.args.self.now.rack.now) (g.R.Rack.view c.serve-outcome.new.self.rack.now))
+    (both (g.A.Door.view c.args.self.now.door.now) (g.A.Door.view c.serve-outcome.new.self.door.now)) (both (g.S.Seeds.view c.args.self.now.seeds.now) (g.S.Seeds.view c.serve-outcome.new.self.seeds.now))
+    (pasts_of (g.P.Past.told c.args.self.now.past.now) (g.P.Past.told c.serve-outcome.new.self.past.now)) in
     let service = c.args.service.now in
     let scripts = scripts_of c.in-Ok-parse_setup.setup in
     let out = (met_in a).output in
@@ -86,15 +88,17 @@ returns-clause-comes g c = λ words.
 
 pub returns-clause-order : goal.returns-clause-order
 returns-clause-order g c =
-    let asks = asks_of (both (g.A.Door.view c.args.door.now) (g.A.Door.view c.serve-outcome.new.door)) (both (g.S.Seeds.view c.args.seeds.now) (g.S.Seeds.view c.serve-outcome.new.seeds))
-    (pasts_of (g.P.Past.told c.args.past.now) (g.P.Past.told c.serve-outcome.new.past)) in
-    let rack = racks_of (g.R.Rack.tells && g.D.Disk.tells) (g.R.Rack.view c.args.rack.now) (g.R.Rack.view c.serve-outcome.new.rack) in
+    let asks = asks_of (both (g.A.Door.view c.args.self.now.door.now) (g.A.Door.view c.serve-outcome.new.self.door.now)) (both (g.S.Seeds.view c.args.self.now.seeds.now) (g.S.Seeds.view c.serve-outcome.new.self.seeds.now))
+    (pasts_of (g.P.Past.told c.args.self.now.past.now) (g.P.Past.told c.serve-outcome.new.self.past.now)) in
+    let rack = racks_of (g.R.Rack.tells && g.D.Disk.tells) (g.R.Rack.view c.args.self.now.rack.now) (g.R.Rack.view c.serve-outcome.new.self.rack.now) in
     outcome_order asks rack c.args.service.now.options.shelves c.serve-outcome.result _ c.tell_outcome.result c.serve-outcome.ensures.order
     c.tell_outcome.ensures.tells
 
 pub returns-clause-back : goal.returns-clause-back
 returns-clause-back g c =
-    record { home = λ n. c.serve-outcome.ensures.home n (c.requires.home n); later = c.serve-outcome.ensures.rack_later }
+    let before = g.R.Rack.view c.args.self.now.rack.now in
+    let after = g.R.Rack.view c.serve-outcome.new.self.rack.now in
+    record { home = disks_home after (λ n. c.serve-outcome.ensures.home n (shelves_home before c.requires.home n)); later = c.serve-outcome.ensures.rack_later }
 
 pub returns-clause-hands : goal.returns-clause-hands
 returns-clause-hands g c =

@@ -2,7 +2,7 @@ use Rattle.std.proofs.Common.{◌≡◌, Err, Ok, inl, inr, refl, rules}
 use Rattle.setup_reader.specs.declared.setup.Ending.TheVariants.{Input}
 use Rattle.setup_reader.specs.Setup.{setup_of}
 use Rattle.setup_reader.specs.Views.{fault_of, parsed_of}
-use Rattle.server_command.proofs.service.parse_setup.Goals as goal
+use Rattle.server_command.proofs.serving.parse_setup.Goals as goal
 
 pub returns-in-Ok-clause-setup : goal.returns-in-Ok-clause-setup
 returns-in-Ok-clause-setup g c =

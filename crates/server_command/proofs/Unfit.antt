@@ -1,0 +1,214 @@
+-- Which bytes make no shelf, or too long a journal.
+use Rattle.std.proofs.Common.{◌≡◌, ◌≤◌, ◌<◌, ◌^◌, ◌+◌, ◌∷◌, ◌&&◌, ◌==◌, ◌∙◌, ◌⊎◌, ℕ, zero, suc, List, [], length, take, drop, nat_le, Bool, true, false, Option, Some, None, if◌then◌else◌, refl, sym, ap, subst, arith, inl, inr}
+use Rattle.std.specs.Int.{w32, from_le_bytes}
+use Rattle.std.proofs.lemmas.Bool.{and_parts, le-leb, lt-leb}
+use Rattle.std.proofs.lemmas.Bool.Decides.{nat_tests}
+use Rattle.std.proofs.lemmas.List.{length-append, length-drop, length-take}
+use Rattle.setup_reader.specs.Texts.{setup_of_texts}
+use Rattle.script_nodes.specs.Setup.{Named}
+use Rattle.page_journal.specs.Records as log
+use Rattle.page_journal.specs.Records.{Log, at_rest, behind, bodies_of, format_of, framed, frames, is_format, magic, newest, records, records_behind, records_from, stored, with_first}
+use Rattle.page_journal.proofs.Frames.{length-at_rest, length-framed}
+use Rattle.replay_spec.specs.Book.{Book}
+use Rattle.journal_spec.specs.Before.{Made}
+use Rattle.journal_spec.specs.Making.{Making, nothing, begun, made, damaged, other, made_in}
+use Rattle.journal_spec.specs.Old.{book_of_format}
+use Rattle.journal_spec.specs.Bytes.{book_in_bytes, by_log}
+use Rattle.journal_spec.specs.Opening.{opened_on}
+use Rattle.journal_spec.specs.Standing.{IsMadeBook}
+use Rattle.site_serving.specs.Shelves.{IsTooLongAnew, bodies_by, making_by}
+use Rattle.site_serving.specs.Shelves.{IsTooLongBehind, bodies_after, now_by_log, now_in_bytes}
+use Rattle.server_command.specs.Racks.{Unfit, full, unfit_file, unfit_left, unfit_length, unfit_made, unfit_read}
+
+-- ---- lengths
+
+-- a journal may be so long
+short_fits : (n : ℕ) → n ≤ 2 ^ 30 → unfit_length n ≡ None
+short_fits n short = let test : nat_le n (2 ^ 30) ≡ true = le-leb n (2 ^ 30) short in rw test refl
+
+-- and no longer
+long_unfit : (n : ℕ) → 2 ^ 30 < n → unfit_length n ≡ Some (full n)
+long_unfit n long = let test : nat_le n (2 ^ 30) ≡ false = lt-leb n (2 ^ 30) long in rw test refl
+
+short_file : (bodies : List (List ℕ)) (why : Option Unfit) → length (at_rest bodies) ≤ 2 ^ 30 → unfit_file bodies why ≡ why
+short_file bodies why short = let test : nat_le (length (at_rest bodies)) (2 ^ 30) ≡ true = le-leb (length (at_rest bodies)) (2 ^ 30) short in rw test refl
+
+long_file : (bodies : List (List ℕ)) (why : Option Unfit) → 2 ^ 30 < length (at_rest bodies) → unfit_file bodies why ≡ Some (full (length (at_rest bodies)))
+long_file bodies why long = let test : nat_le (length (at_rest bodies)) (2 ^ 30) ≡ false = lt-leb (length (at_rest bodies)) (2 ^ 30) long in rw test refl
+
+-- whole records end where a journal may end
+ends : (fuel place : ℕ) (bytes : List ℕ) (bodies : List (List ℕ)) → place + 1 ≤ 2 ^ 30 → records_from fuel place bytes ≡ log.Intact bodies
+    → place + length (frames bodies) + 1 ≤ 2 ^ 30
+ends zero place bytes bodies low is = absurd (let no : ⊥ = cc is in no)
+ends (suc fuel) place [] bodies low is = absurd (let no : ⊥ = cc is in no)
+ends (suc fuel) place (gate ∷ rest) bodies low is =
+    let size = from_le_bytes w32 (take 4 rest) in
+    by_gate (λ later short e. ends fuel (place + 5 + size) (drop size (drop 4 rest)) later short e) (gate == 1) is
+  where
+    n : ℕ
+    n = from_le_bytes w32 (take 4 rest)
+
+    fits : Bool
+    fits = nat_le (4 + n) (length rest) && nat_le (place + 6 + n) (2 ^ 30)
+
+    more : Log
+    more = records_from fuel (place + 5 + n) (drop n (drop 4 rest))
+
+    -- what holds of the records behind the first
+    Behind : Type 0
+    Behind = (later : List (List ℕ)) → (place + 5 + n) + 1 ≤ 2 ^ 30 → more ≡ log.Intact later → (place + 5 + n) + length (frames later) + 1 ≤ 2 ^ 30
+
+    by_rest : Behind → (l : Log) → more ≡ l → 4 + n ≤ length rest → place + 6 + n ≤ 2 ^ 30 → with_first (take n (drop 4 rest)) l ≡ log.Intact bodies
+        → place + length (frames bodies) + 1 ≤ 2 ^ 30
+    by_rest go_on (log.Damaged p) e inside short is = absurd (let no : ⊥ = cc is in no)
+    by_rest go_on (log.Intact later) e inside short is =
+        let body = take n (drop 4 rest) in
+        let size = length-take n (drop 4 rest) in
+        let left = length-drop 4 rest in
+        let one = length-framed body in
+        let both = length-append (framed body) (frames later) in
+        let behind_it = length-append body (frames later) in
+        let go = go_on later (omega (arith, short)) e in
+        let same : body ∷ later ≡ bodies = ap bodies_of is in
+        subst (λ (bs : List (List ℕ)). place + length (frames bs) + 1 ≤ 2 ^ 30) same (omega (arith, size, left, one, both, behind_it, go, inside))
+
+    by_room : Behind → (t : Bool) → fits ≡ t → (if t then with_first (take n (drop 4 rest)) more else log.Damaged place) ≡ log.Intact bodies
+        → place + length (frames bodies) + 1 ≤ 2 ^ 30
+    by_room go_on false test is = absurd (let no : ⊥ = cc is in no)
+    by_room go_on true test is =
+        let parts = and_parts (nat_le (4 + n) (length rest)) (nat_le (place + 6 + n) (2 ^ 30)) test in
+        let first = parts.0 in
+        let second = parts.1 in
+        let inside : 4 + n ≤ length rest = grind (arith, nat_tests, first) in
+        let short : place + 6 + n ≤ 2 ^ 30 = grind (arith, nat_tests, second) in
+        by_rest go_on more refl inside short is
+
+    by_gate : Behind → (t : Bool) → (if t then (if fits then with_first (take n (drop 4 rest)) more else log.Damaged place) else log.Intact []) ≡ log.Intact bodies
+        → place + length (frames bodies) + 1 ≤ 2 ^ 30
+    by_gate go_on false is = let same : [] ≡ bodies = ap bodies_of is in subst (λ (bs : List (List ℕ)). place + length (frames bs) + 1 ≤ 2 ^ 30) same (omega (arith, low))
+    by_gate go_on true is = by_room go_on fits refl is
+
+intact_ends : (o : Option (List ℕ)) (bodies : List (List ℕ)) → records_behind o ≡ log.Intact bodies → length (at_rest bodies) ≤ 2 ^ 30
+intact_ends None bodies is = absurd (let no : ⊥ = cc is in no)
+intact_ends (Some []) bodies is = absurd (let no : ⊥ = cc is in no)
+intact_ends (Some (f ∷ rest)) bodies is = by_format (is_format f) is
+  where
+    by_format : (t : Bool) → (if t then records_from (suc (length rest)) 8 rest else log.Damaged 0) ≡ log.Intact bodies → length (at_rest bodies) ≤ 2 ^ 30
+    by_format false is = absurd (let no : ⊥ = cc is in no)
+    by_format true is = let low = ends (suc (length rest)) 8 rest bodies (omega arith) is in omega (arith, low, length-at_rest bodies)
+
+-- the records that stand in bytes are no longer than a journal may be
+stored_ends : (bytes : List ℕ) → length (at_rest (stored bytes)) ≤ 2 ^ 30
+stored_ends bytes = by_log_of (records bytes) refl
+  where
+    by_log_of : (l : Log) → records bytes ≡ l → length (at_rest (bodies_of l)) ≤ 2 ^ 30
+    by_log_of (log.Damaged place) is = omega (arith, length-at_rest [])
+    by_log_of (log.Intact bodies) is = intact_ends (behind magic bytes) bodies is
+
+-- ---- what is read, and what an opening goes on with
+
+-- where what is read makes no book, an opening goes on with nothing else
+read_now : (shelf : ℕ) (image : List ℕ) (x : Making) → made_in x ≡ None → book_in_bytes setup_of_texts shelf image ≡ x → now_in_bytes shelf image ≡ x
+read_now shelf [] x none is = is
+read_now shelf (b ∷ bytes) x none is = by_log_of (records (b ∷ bytes)) is
+  where
+    f : ℕ
+    f = format_of (b ∷ bytes)
+
+    by_log_of : (l : Log) → by_log f setup_of_texts shelf l ≡ x → now_by_log f shelf l ≡ x
+    by_log_of (log.Damaged place) is = is
+    by_log_of (log.Intact bodies) is = ap (making_by f shelf bodies) (ap made_in is ∙ none) ∙ is
+
+-- where what is read makes no book, the same records stay
+read_bodies : (shelf : ℕ) (image : List ℕ) (x : Making) → made_in x ≡ None → book_in_bytes setup_of_texts shelf image ≡ x
+    → length (at_rest (bodies_after shelf image)) ≤ 2 ^ 30
+read_bodies shelf [] x none is = omega (arith, length-at_rest [])
+read_bodies shelf (b ∷ bytes) x none is = by_newest (f == newest)
+  where
+    f : ℕ
+    f = format_of (b ∷ bytes)
+
+    kept : List (List ℕ)
+    kept = stored (b ∷ bytes)
+
+    same : (l : Log) → by_log f setup_of_texts shelf l ≡ x → made_in (book_of_format f setup_of_texts shelf (bodies_of l)) ≡ None ⊎ (bodies_of l ≡ [])
+    same (log.Damaged place) is = inr refl
+    same (log.Intact bodies) is = inl (ap made_in is ∙ none)
+
+    by_no_book : (bs : List (List ℕ)) → bodies_by f shelf bs None ≡ bs
+    by_no_book [] = refl
+    by_no_book (first ∷ bs) = refl
+
+    by_none : (o : Option Made) → bodies_by f shelf [] o ≡ []
+    by_none None = refl
+    by_none (Some m) = refl
+
+    older : bodies_by f shelf kept (made_in (book_of_format f setup_of_texts shelf kept)) ≡ kept
+    older = elim (same (records (b ∷ bytes)) is) [
+      | inl no_book ↦ ap (bodies_by f shelf kept) no_book ∙ by_no_book kept
+      | inr empty ↦ subst (λ (bs : List (List ℕ)). bodies_by f shelf bs (made_in (book_of_format f setup_of_texts shelf bs)) ≡ bs) (sym empty) (by_none (made_in (book_of_format f setup_of_texts shelf [])))
+    ]
+
+    by_newest : (t : Bool) → length (at_rest (if t then kept else bodies_by f shelf kept (made_in (book_of_format f setup_of_texts shelf kept)))) ≤ 2 ^ 30
+    by_newest true = stored_ends (b ∷ bytes)
+    by_newest false = subst (λ (bs : List (List ℕ)). length (at_rest bs) ≤ 2 ^ 30) (sym older) (stored_ends (b ∷ bytes))
+
+-- ---- why a shelf is not opened, if so
+
+-- bytes of which a book is made that is not too long, nor its file in front of the setup, are fit
+pub made_fits : (scripts : List Named) (k : ℕ) (image : List ℕ) (b : Book) → IsMadeBook (opened_on k scripts (now_in_bytes k image)) b → b.length ≤ 2 ^ 30
+    → length (at_rest (bodies_after k image)) ≤ 2 ^ 30 → unfit_left scripts k image ≡ None
+made_fits scripts k image b (earlier, is) short fits = by_read (book_in_bytes setup_of_texts k image) refl
+  where
+    opens : unfit_file (bodies_after k image) (unfit_made (opened_on k scripts (now_in_bytes k image))) ≡ None
+    opens = short_file (bodies_after k image) _ fits ∙ (ap unfit_made is ∙ short_fits b.length short)
+
+    never : (x : Making) → opened_on k scripts x ≡ None → now_in_bytes k image ≡ x → ⊥
+    never x none now = let no : ⊥ = cc (sym is ∙ (ap (opened_on k scripts) now ∙ none)) in no
+
+    by_read : (m : Making) → book_in_bytes setup_of_texts k image ≡ m
+        → unfit_read m (unfit_file (bodies_after k image) (unfit_made (opened_on k scripts (now_in_bytes k image)))) ≡ None
+    by_read nothing read = opens
+    by_read (begun m) read = opens
+    by_read (made m) read = opens
+    by_read (damaged place) read = absurd (never (damaged place) refl (read_now k image (damaged place) refl read))
+    by_read (other place) read = absurd (never (other place) refl (read_now k image (other place) refl read))
+
+-- bytes of which a book is made that is too long with the setup are not
+pub long_behind : (scripts : List Named) (k : ℕ) (image : List ℕ) (n : ℕ) → IsTooLongBehind scripts k image n → unfit_left scripts k image ≡ Some (full n)
+long_behind scripts k image n p = by_read (book_in_bytes setup_of_texts k image) refl
+  where
+    too_long : unfit_file (bodies_after k image) (unfit_made (opened_on k scripts (now_in_bytes k image))) ≡ Some (full n)
+    too_long = short_file (bodies_after k image) _ p.fits ∙ (ap unfit_made p.setup.opened ∙ (ap unfit_length p.setup.is ∙ long_unfit n p.setup.long))
+
+    never : (x : Making) → opened_on k scripts x ≡ None → now_in_bytes k image ≡ x → ⊥
+    never x none now = let e = p.setup.opened in let no : ⊥ = cc (sym e ∙ (ap (opened_on k scripts) now ∙ none)) in no
+
+    by_read : (m : Making) → book_in_bytes setup_of_texts k image ≡ m
+        → unfit_read m (unfit_file (bodies_after k image) (unfit_made (opened_on k scripts (now_in_bytes k image)))) ≡ Some (full n)
+    by_read nothing read = too_long
+    by_read (begun m) read = too_long
+    by_read (made m) read = too_long
+    by_read (damaged place) read = absurd (never (damaged place) refl (read_now k image (damaged place) refl read))
+    by_read (other place) read = absurd (never (other place) refl (read_now k image (other place) refl read))
+
+-- nor are bytes whose file in the newest format is too long
+pub long_anew : (scripts : List Named) (k : ℕ) (image : List ℕ) (n : ℕ) → IsTooLongAnew (format_of image) k (stored image) n → unfit_left scripts k image ≡ Some (full n)
+long_anew scripts k image n p = by_read (book_in_bytes setup_of_texts k image) refl
+  where
+    long : 2 ^ 30 < length (at_rest (bodies_after k image))
+    long = let is = p.is in let over = p.long in omega (arith, is, over)
+
+    too_long : unfit_file (bodies_after k image) (unfit_made (opened_on k scripts (now_in_bytes k image))) ≡ Some (full n)
+    too_long = long_file (bodies_after k image) _ long ∙ ap (λ (m : ℕ). Some (full m)) (sym p.is)
+
+    never : (x : Making) → made_in x ≡ None → book_in_bytes setup_of_texts k image ≡ x → ⊥
+    never x none read = let short = read_bodies k image x none read in omega (arith, short, long)
+
+    by_read : (m : Making) → book_in_bytes setup_of_texts k image ≡ m
+        → unfit_read m (unfit_file (bodies_after k image) (unfit_made (opened_on k scripts (now_in_bytes k image)))) ≡ Some (full n)
+    by_read nothing read = too_long
+    by_read (begun m) read = too_long
+    by_read (made m) read = too_long
+    by_read (damaged place) read = absurd (never (damaged place) refl read)
+    by_read (other place) read = absurd (never (other place) refl read)
