@@ -2,7 +2,7 @@
 ghost use Rattle.std.specs.Prelude.{true};
 ghost use Rattle.script_nodes.specs.Views.{scripts_of};
 ghost use Rattle.setup_reader.specs.Texts.{IsReadSetup};
-ghost use Rattle.web_disk.specs.Disks.{memory_view};
+ghost use Rattle.disk_trio.specs.Trio.{trio_view};
 ghost use Rattle.shelf.specs.Views.{IsInOrder};
 
 use crate::openings::{MemoryShelf, put_away, reopened};
@@ -28,7 +28,7 @@ struct Times {
 
 // Refuses a shelf on which the page does not go on, or a start is not one of the old setup.
 fn expect_pages(alloc: Global, shelf: &mut MemoryShelf) -> Result<(), Fail>
-    requires { IsInOrder memory_view true shelf.old }
+    requires { IsInOrder trio_view true shelf.old }
 {
     expect_page(alloc, shelf, START, "a")?;
     expect_page(alloc, shelf, FIRST, "b")
@@ -90,7 +90,7 @@ fn ends(alloc: Global, bytes: &[u8], call: u64, new: &Setup) -> Result<bool, Fai
             put_away(shelf);
             Ok(true)
         }
-        Err(_disk) => Ok(false),
+        Err(_disks) => Ok(false),
     }
 }
 

@@ -2,11 +2,12 @@
 ghost use Rattle.std.specs.Prelude.{◌≡◌, ◌≤◌, false, length, IfOk};
 ghost use Rattle.script_nodes.specs.Views.{scripts_of};
 ghost use Rattle.setup_reader.specs.Texts.{IsReadSetup};
-ghost use Rattle.web_disk.specs.Repeated.{repeat_view};
+ghost use Rattle.disk_trio.specs.Trio.{trio_view};
 ghost use Rattle.shelf.specs.Views.{IsInOrder};
 
 use crate::openings::{LongShelf, answered, bytes_of, created, tried};
 use crate::texts::setup;
+use disk_trio::Disks;
 use script_nodes::Setup;
 use script_value::{Reply, Str, Value};
 use std::alloc::Global;
@@ -35,8 +36,13 @@ pub fn long_record(alloc: Global, size: u32) -> Result<Vec<u8>, Fail>
     Ok(bytes)
 }
 
-/// A disk of a new shelf, with 1,023 such records of 1,048,576 bytes and this behind them: it has 1,072,693,350 bytes more than this.
-pub fn disk_with(alloc: Global, setup: &Setup, last: Vec<u8>) -> Result<RepeatDisk, Fail>
+// A disk without bytes.
+fn empty(alloc: Global) -> RepeatDisk {
+    RepeatDisk::new(Vec::new(alloc), Vec::new(alloc), 0, Vec::new(alloc))
+}
+
+/// The disks of a new shelf, of which the first has 1,023 such records of 1,048,576 bytes and this behind them: 1,072,693,350 bytes more than this.
+pub fn disks_with(alloc: Global, setup: &Setup, last: Vec<u8>) -> Result<Disks<RepeatDisk>, Fail>
     requires { IsReadSetup (scripts_of setup.now) }
 {
     let mut first = bytes_of(alloc, created(alloc, setup)?)?;
@@ -44,22 +50,23 @@ pub fn disk_with(alloc: Global, setup: &Setup, last: Vec<u8>) -> Result<RepeatDi
     if first.len() != 102 {
         return Err(Fail::from("another first record"));
     }
-    Ok(RepeatDisk::new(first, long_record(alloc, 1_048_576)?, 1_023, last))
+    let long = RepeatDisk::new(first, long_record(alloc, 1_048_576)?, 1_023, last);
+    Ok(Disks::new(long, empty(alloc), empty(alloc)))
 }
 
-// Such a disk with a closed gate at its end: it lacks 1,048,473 bytes of 2^30.
-fn long_disk(alloc: Global, setup: &Setup) -> Result<RepeatDisk, Fail>
+// Such disks, of which the first has a closed gate at its end: it lacks 1,048,473 bytes of 2^30.
+fn long_disks(alloc: Global, setup: &Setup) -> Result<Disks<RepeatDisk>, Fail>
     requires { IsReadSetup (scripts_of setup.now) }
 {
-    disk_with(alloc, setup, vec![in alloc; 0; 1]?)
+    disks_with(alloc, setup, vec![in alloc; 0; 1]?)
 }
 
-// Its shelf.
+// Their shelf.
 fn long_shelf(alloc: Global, setup: &Setup) -> Result<LongShelf, Fail>
     requires { IsReadSetup (scripts_of setup.now) }
-    ensures { IfOk result (IsInOrder repeat_view false) }
+    ensures { IfOk result (IsInOrder trio_view false) }
 {
-    match tried(alloc, long_disk(alloc, setup)?, setup)? {
+    match tried(alloc, long_disks(alloc, setup)?, setup)? {
         Ok(shelf) => Ok(shelf),
         Err(_) => Err(Fail::from("no shelf")),
     }
@@ -72,8 +79,8 @@ fn too_long(
     path: &str,
     count: usize,
 ) -> Result<Option<u64>, Fail>
-    requires { IsInOrder repeat_view false shelf.old }
-    ensures { IsInOrder repeat_view false shelf.new }
+    requires { IsInOrder trio_view false shelf.old }
+    ensures { IsInOrder trio_view false shelf.new }
 {
     let zeros = String::from_utf8(vec![in alloc; b'0'; count]?)?;
     match answered(alloc, shelf, path, Value::Text(Str::new(zeros)))? {
@@ -85,7 +92,8 @@ fn too_long(
 
 // What a sweep is told: none where it is one, and else the length that the journal would have.
 fn too_late(alloc: Global, shelf: &mut LongShelf) -> Result<Option<u64>, Fail>
-    requires { IsInOrder repeat_view false shelf.old }
+    requires { IsInOrder trio_view false shelf.old }
+    ensures { IsInOrder trio_view false shelf.new }
 {
     match shelf.sweep(alloc, 1) {
         Ok(_) => Ok(None),
@@ -96,7 +104,8 @@ fn too_late(alloc: Global, shelf: &mut LongShelf) -> Result<Option<u64>, Fail>
 
 // What a start is told, its page for three texts, and a sweep.
 fn five_told(alloc: Global, shelf: &mut LongShelf) -> Result<[Option<u64>; 5], Fail>
-    requires { IsInOrder repeat_view false shelf.old }
+    requires { IsInOrder trio_view false shelf.old }
+    ensures { IsInOrder trio_view false shelf.new }
 {
     Ok([
         too_long(alloc, shelf, START, 0)?,
@@ -107,7 +116,7 @@ fn five_told(alloc: Global, shelf: &mut LongShelf) -> Result<[Option<u64>; 5], F
     ])
 }
 
-// The same on a new shelf of that disk.
+// The same on a new shelf of these disks.
 fn five_told_at_the_end(alloc: Global, setup: &Setup) -> Result<[Option<u64>; 5], Fail>
     requires { IsReadSetup (scripts_of setup.now) }
 {
@@ -131,5 +140,26 @@ fn a_shelf_writes_up_to_1073741824_bytes(rt: HostRuntime) -> Result<(), Fail> {
             Some(1_073_741_838)
         ]
     );
+    Ok(())
+}
+
+// What a shelf on such disks, whose journal is full, is told of a compaction: how long its file is then; and of the page behind it.
+fn shortened(alloc: Global, setup: &Setup) -> Result<(u64, Option<u64>), Fail>
+    requires { IsReadSetup (scripts_of setup.now) }
+{
+    let mut shelf = long_shelf(alloc, setup)?;
+    let _told = five_told(alloc, &mut shelf)?;
+    let Ok(length) = shelf.compact(alloc) else {
+        return Err(Fail::from("not compacted"));
+    };
+    Ok((length, too_long(alloc, &mut shelf, FIRST, 1)?))
+}
+
+// The long records are of no page that is there, so none of them stays; the number that is drawn next has 14 bytes.
+#[test]
+fn a_journal_of_1073741824_bytes_becomes_short(rt: HostRuntime) -> Result<(), Fail> {
+    let alloc = rt.alloc();
+    let setup = setup(alloc, &[("s", PAGES)])?;
+    assert_eq!(rt; shortened(alloc, &setup)?, (1_048_590, None));
     Ok(())
 }

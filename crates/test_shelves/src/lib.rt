@@ -1,4 +1,5 @@
-//! Tests of shelves on disks in memory that stop, fail or are full, of other setups and limits, of copies, and of the last number of a visit.
+//! Tests of shelves on disks in memory that stop, fail or are full, of other setups and limits, of copies, and of the last number of a visit;
+//! and what opens and visits such shelves, for other crates of tests.
 #![tactic(auto)]
 
 #[cfg(test)]
@@ -13,7 +14,6 @@ mod journal;
 mod limits;
 #[cfg(test)]
 mod numbers;
-#[cfg(test)]
 mod openings;
 #[cfg(test)]
 mod room;
@@ -21,7 +21,9 @@ mod room;
 mod setups;
 #[cfg(test)]
 mod stops;
-#[cfg(test)]
 mod texts;
 #[cfg(test)]
 mod troubles;
+
+pub use openings::{MemoryShelf, answered, created, put_away, tried, tried_under};
+pub use texts::{SUM, datum, setup, target, text_of};

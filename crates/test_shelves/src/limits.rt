@@ -2,11 +2,12 @@
 ghost use Rattle.std.specs.Prelude.{true};
 ghost use Rattle.script_nodes.specs.Views.{scripts_of};
 ghost use Rattle.setup_reader.specs.Texts.{IsReadSetup};
-ghost use Rattle.web_disk.specs.Disks.{memory_view};
+ghost use Rattle.disk_trio.specs.Trio.{trio_view};
 ghost use Rattle.shelf.specs.Views.{IsInOrder};
 
 use crate::openings::{
-    MemoryShelf, answered, bytes_of, created, put_away, reopened, reopened_under, tried_under,
+    MemoryShelf, answered, bytes_of, created, disks_of, put_away, reopened, reopened_under,
+    tried_under,
 };
 use crate::setups::{FIRST, START};
 use crate::texts::{datum, setup};
@@ -15,7 +16,6 @@ use script_value::{Refusal, Reply};
 use shelf::{BeginFault, Rules};
 use std::alloc::Global;
 use std::test::Fail;
-use web_disk::MemoryDisk;
 
 // The shelf 7, with at most three pages of an instance.
 const FEW_PAGES: Rules = Rules {
@@ -80,13 +80,12 @@ const GONE: &[u8] = &[
 fn refused(alloc: Global, bytes: Vec<u8>, setup: &Setup) -> Result<BeginFault, Fail>
     requires { IsReadSetup (scripts_of setup.now) }
 {
-    let disk = MemoryDisk::new(alloc, bytes, Vec::new(alloc))?;
-    match tried_under(alloc, disk, setup, ANOTHER_SHELF)? {
+    match tried_under(alloc, disks_of(alloc, bytes)?, setup, ANOTHER_SHELF)? {
         Ok(shelf) => {
             put_away(shelf);
             Err(Fail::from("opened"))
         }
-        Err((fault, _disk)) => Ok(fault),
+        Err((fault, _disks)) => Ok(fault),
     }
 }
 
@@ -101,8 +100,8 @@ fn gone_for(reply: &Reply) -> Result<Option<u64>, Fail> {
 
 // The same of the page of a path.
 fn gone(alloc: Global, shelf: &mut MemoryShelf, path: &str) -> Result<Option<u64>, Fail>
-    requires { IsInOrder memory_view true shelf.old }
-    ensures { IsInOrder memory_view true shelf.new }
+    requires { IsInOrder trio_view true shelf.old }
+    ensures { IsInOrder trio_view true shelf.new }
 {
     let reply = answered(alloc, shelf, path, datum(alloc, "()")?)?;
     gone_for(&reply)
@@ -110,7 +109,7 @@ fn gone(alloc: Global, shelf: &mut MemoryShelf, path: &str) -> Result<Option<u64
 
 // Refuses a shelf on which other later pages went, or for another page.
 fn expect_gone(alloc: Global, shelf: &mut MemoryShelf) -> Result<(), Fail>
-    requires { IsInOrder memory_view true shelf.old }
+    requires { IsInOrder trio_view true shelf.old }
 {
     'pages: for page in LATER {
         if gone(alloc, shelf, page.path)? != page.gone_for {
@@ -122,7 +121,7 @@ fn expect_gone(alloc: Global, shelf: &mut MemoryShelf) -> Result<(), Fail>
 
 // Refuses a shelf on which a page is gone at one of the visits.
 fn visit_all(alloc: Global, shelf: &mut MemoryShelf) -> Result<(), Fail>
-    requires { IsInOrder memory_view true shelf.old }
+    requires { IsInOrder trio_view true shelf.old }
 {
     'visits: for path in VISITS {
         if gone(alloc, shelf, path)?.is_some() {
@@ -143,7 +142,7 @@ fn visited(alloc: Global, setup: &Setup) -> Result<Vec<u8>, Fail>
 
 // Refuses a shelf on which the later pages do not go at another answer to the first one.
 fn expect_evicted(alloc: Global, shelf: &mut MemoryShelf) -> Result<(), Fail>
-    requires { IsInOrder memory_view true shelf.old }
+    requires { IsInOrder trio_view true shelf.old }
 {
     if gone(alloc, shelf, FIRST)?.is_some() {
         return Err(Fail::from("the first page went"));

@@ -1,11 +1,12 @@
 ghost use Rattle.std.specs.Prelude.{true, IfOk};
 ghost use Rattle.script_nodes.specs.Views.{scripts_of};
-ghost use Rattle.web_disk.specs.Disks.{memory_view};
+ghost use Rattle.disk_trio.specs.Trio.{trio_view};
 ghost use Rattle.setup_reader.specs.Texts.{IsReadSetup};
 ghost use Rattle.shelf.specs.Ranges.{AreInRange};
 ghost use Rattle.shelf.specs.Views.{IsInOrder};
 
 use crate::texts::{datum, target};
+use disk_trio::Disks;
 use journal_records::can_begin;
 use script_nodes::Setup;
 use script_value::{Reply, Value};
@@ -15,11 +16,11 @@ use std::test::Fail;
 use web_disk::{Disk, MemoryDisk, RepeatDisk};
 use web_outside::Counting;
 
-/// A shelf on a disk in memory.
-pub type MemoryShelf = Shelf<MemoryDisk, Counting>;
+/// A shelf on disks in memory.
+pub type MemoryShelf = Shelf<Disks<MemoryDisk>, Counting>;
 
-/// A shelf on a disk that repeats a block.
-pub type LongShelf = Shelf<RepeatDisk, Counting>;
+/// A shelf on disks that repeat a block.
+pub type LongShelf = Shelf<Disks<RepeatDisk>, Counting>;
 
 const RULES: Rules = Rules {
     number: 7,
@@ -30,39 +31,56 @@ const RULES: Rules = Rules {
     pages: 64,
 };
 
-/// The shelf of a disk under these rules; or why it was not opened, and the disk.
-pub fn tried_under<D: Disk + Drop>(
+/// The shelf of three disks under these rules; or why it was not opened, and the disks.
+pub fn tried_under<F: Disk + Drop>(
     alloc: Global,
-    disk: D,
+    disks: Disks<F>,
     setup: &Setup,
     rules: Rules,
-) -> Result<Result<Shelf<D, Counting>, (BeginFault, D)>, Fail>
+) -> Result<Result<Shelf<Disks<F>, Counting>, (BeginFault, Disks<F>)>, Fail>
     requires read { IsReadSetup (scripts_of setup.now) }
     requires range { AreInRange rules }
-    ensures { IfOk result (λ r. IfOk r (IsInOrder D.view D.tells)) }
+    ensures { IfOk result (λ r. IfOk r (IsInOrder trio_view F.tells)) }
 {
     if !can_begin(rules.number, setup) {
         return Err(Fail::from("no setup of a shelf"));
     }
-    match Shelf::begin(alloc, disk, Counting::new(), setup, rules) {
+    match Shelf::begin(alloc, disks.renew(), Counting::new(), setup, rules) {
         Ok(shelf) => Ok(Ok(shelf)),
-        Err((fault, disk, _)) => Ok(Err((fault, disk))),
+        Err((fault, disks, _)) => Ok(Err((fault, disks))),
     }
 }
 
 /// The same under the rules of these tests.
-pub fn tried<D: Disk + Drop>(
+pub fn tried<F: Disk + Drop>(
     alloc: Global,
-    disk: D,
+    disks: Disks<F>,
     setup: &Setup,
-) -> Result<Result<Shelf<D, Counting>, (BeginFault, D)>, Fail>
+) -> Result<Result<Shelf<Disks<F>, Counting>, (BeginFault, Disks<F>)>, Fail>
     requires { IsReadSetup (scripts_of setup.now) }
-    ensures { IfOk result (λ r. IfOk r (IsInOrder D.view D.tells)) }
+    ensures { IfOk result (λ r. IfOk r (IsInOrder trio_view F.tells)) }
 {
-    tried_under(alloc, disk, setup, RULES)
+    tried_under(alloc, disks, setup, RULES)
 }
 
-/// The shelf of a disk of these bytes under these rules, which has to be opened.
+// A disk in memory of these bytes.
+fn memory_disk(alloc: Global, bytes: Vec<u8>) -> Result<MemoryDisk, Fail> {
+    Ok(MemoryDisk::new(alloc, bytes, Vec::new(alloc))?)
+}
+
+/// This disk as the first of three; the others are empty.
+pub fn with_others(alloc: Global, disk: MemoryDisk) -> Result<Disks<MemoryDisk>, Fail> {
+    let other = memory_disk(alloc, Vec::new(alloc))?;
+    let root = memory_disk(alloc, Vec::new(alloc))?;
+    Ok(Disks::new(disk, other, root))
+}
+
+/// Three disks, the first of which has these bytes; the others are empty.
+pub fn disks_of(alloc: Global, bytes: Vec<u8>) -> Result<Disks<MemoryDisk>, Fail> {
+    with_others(alloc, memory_disk(alloc, bytes)?)
+}
+
+/// The shelf of disks whose first has these bytes, under these rules, which has to be opened.
 pub fn reopened_under(
     alloc: Global,
     bytes: Vec<u8>,
@@ -71,10 +89,9 @@ pub fn reopened_under(
 ) -> Result<MemoryShelf, Fail>
     requires read { IsReadSetup (scripts_of setup.now) }
     requires range { AreInRange rules }
-    ensures { IfOk result (IsInOrder memory_view true) }
+    ensures { IfOk result (IsInOrder trio_view true) }
 {
-    let disk = MemoryDisk::new(alloc, bytes, Vec::new(alloc))?;
-    match tried_under(alloc, disk, setup, rules)? {
+    match tried_under(alloc, disks_of(alloc, bytes)?, setup, rules)? {
         Ok(shelf) => Ok(shelf),
         Err(_) => Err(Fail::from("no shelf")),
     }
@@ -83,28 +100,29 @@ pub fn reopened_under(
 /// The same under the rules of these tests.
 pub fn reopened(alloc: Global, bytes: Vec<u8>, setup: &Setup) -> Result<MemoryShelf, Fail>
     requires { IsReadSetup (scripts_of setup.now) }
-    ensures { IfOk result (IsInOrder memory_view true) }
+    ensures { IfOk result (IsInOrder trio_view true) }
 {
     reopened_under(alloc, bytes, setup, RULES)
 }
 
-/// The shelf of an empty disk.
+/// The shelf of empty disks.
 pub fn created(alloc: Global, setup: &Setup) -> Result<MemoryShelf, Fail>
     requires { IsReadSetup (scripts_of setup.now) }
-    ensures { IfOk result (IsInOrder memory_view true) }
+    ensures { IfOk result (IsInOrder trio_view true) }
 {
     reopened(alloc, Vec::new(alloc), setup)
 }
 
-/// What stands on the disk of a shelf.
+/// What stands on the first disk of a shelf.
 pub fn bytes_of(alloc: Global, shelf: MemoryShelf) -> Result<Vec<u8>, Fail> {
-    let (disk, _nonces) = shelf.close();
+    let (disks, _nonces) = shelf.close();
+    let (disk, _, _) = disks.close();
     Ok(disk.bytes().to_vec(alloc)?)
 }
 
-/// Closes a shelf whose disk is no longer wanted.
+/// Closes a shelf whose disks are no longer wanted.
 pub fn put_away(shelf: MemoryShelf) {
-    let (_disk, _nonces) = shelf.close();
+    let (_disks, _nonces) = shelf.close();
 }
 
 /// What a visit of a path with this answer is answered.
@@ -129,7 +147,7 @@ pub fn answered<D: Disk>(
 
 /// The number that a start takes; none where the numbers are used up.
 pub fn next_number(alloc: Global, shelf: &mut MemoryShelf) -> Result<Option<u64>, Fail>
-    requires { IsInOrder memory_view true shelf.old }
+    requires { IsInOrder trio_view true shelf.old }
 {
     let target = target("/servlets/s")?;
     let answer = datum(alloc, "()")?;

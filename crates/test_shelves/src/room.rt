@@ -3,10 +3,11 @@ ghost use Rattle.std.specs.Prelude.{◌≤◌};
 ghost use Rattle.script_nodes.specs.Views.{scripts_of};
 ghost use Rattle.setup_reader.specs.Texts.{IsReadSetup};
 
-use crate::full::{disk_with, long_record};
+use crate::full::{disks_with, long_record};
 use crate::openings::tried;
 use crate::setups::{NEW, OLD};
 use crate::texts::setup;
+use disk_trio::Disks;
 use script_nodes::Setup;
 use shelf::BeginFault;
 use std::alloc::Global;
@@ -28,20 +29,20 @@ fn last_part(alloc: Global, size: u32) -> Result<Vec<u8>, Fail>
     Ok(bytes)
 }
 
-// What an opening answers: none where the shelf is opened, and the disk behind it.
+// What an opening answers: none where the shelf is opened, and the first disk behind it.
 fn answer(
     alloc: Global,
-    disk: RepeatDisk,
+    disks: Disks<RepeatDisk>,
     setup: &Setup,
 ) -> Result<(Option<BeginFault>, RepeatDisk), Fail>
     requires { IsReadSetup (scripts_of setup.now) }
 {
-    match tried(alloc, disk, setup)? {
+    match tried(alloc, disks, setup)? {
         Ok(shelf) => {
-            let (disk, _nonces) = shelf.close();
-            Ok((None, disk))
+            let (disks, _nonces) = shelf.close();
+            Ok((None, disks.close().0))
         }
-        Err((fault, disk)) => Ok((Some(fault), disk)),
+        Err((fault, disks)) => Ok((Some(fault), disks.close().0)),
     }
 }
 
@@ -64,8 +65,8 @@ fn opened_on(
     requires old { IsReadSetup (scripts_of old.now) }
     requires read { IsReadSetup (scripts_of setup.now) }
 {
-    let disk = disk_with(alloc, old, last.to_vec(alloc)?)?;
-    let (told, mut disk) = answer(alloc, disk, setup)?;
+    let disks = disks_with(alloc, old, last.to_vec(alloc)?)?;
+    let (told, mut disk) = answer(alloc, disks, setup)?;
     Ok((told, written(alloc, &mut disk)?))
 }
 

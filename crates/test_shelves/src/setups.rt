@@ -2,7 +2,7 @@
 ghost use Rattle.std.specs.Prelude.{true};
 ghost use Rattle.script_nodes.specs.Views.{scripts_of};
 ghost use Rattle.setup_reader.specs.Texts.{IsReadSetup};
-ghost use Rattle.web_disk.specs.Disks.{memory_view};
+ghost use Rattle.disk_trio.specs.Trio.{trio_view};
 ghost use Rattle.shelf.specs.Views.{IsInOrder};
 
 use crate::openings::{MemoryShelf, answered, bytes_of, created, reopened};
@@ -31,8 +31,8 @@ pub fn expect_page(
     path: &str,
     page: &str,
 ) -> Result<(), Fail>
-    requires { IsInOrder memory_view true shelf.old }
-    ensures { IsInOrder memory_view true shelf.new }
+    requires { IsInOrder trio_view true shelf.old }
+    ensures { IsInOrder trio_view true shelf.new }
 {
     match answered(alloc, shelf, path, datum(alloc, "()")?)? {
         Reply::Page { bytes, .. } => {

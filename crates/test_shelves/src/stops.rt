@@ -2,12 +2,13 @@
 ghost use Rattle.std.specs.Prelude.{true};
 ghost use Rattle.script_nodes.specs.Views.{scripts_of};
 ghost use Rattle.setup_reader.specs.Texts.{IsReadSetup};
-ghost use Rattle.web_disk.specs.Disks.{memory_view};
+ghost use Rattle.disk_trio.specs.Trio.{trio_view};
 ghost use Rattle.shelf.specs.Views.{IsInOrder};
 
 use crate::openings::{MemoryShelf, answered, bytes_of, created, put_away, reopened};
 use crate::texts::{SUM, datum, setup, text_of};
-use crate::troubles::{Trouble, WRECKS, left_by_opening, opened_despite, troubled};
+use crate::troubles::{Trouble, WRECKS, left_by, left_by_opening, opened_despite, troubled};
+use disk_trio::Disks;
 use script_nodes::Setup;
 use script_value::{Bytes, Refusal, Reply};
 use std::alloc::Global;
@@ -112,7 +113,7 @@ const MOST_CALLS: u64 = 48;
 
 // Refuses a shelf that is not down.
 fn expect_down(alloc: Global, shelf: &mut MemoryShelf) -> Result<(), Fail>
-    requires { IsInOrder memory_view true shelf.old }
+    requires { IsInOrder trio_view true shelf.old }
 {
     'visits: for visit in VISITS {
         match answered(alloc, shelf, visit.path, datum(alloc, visit.answer)?)? {
@@ -148,7 +149,7 @@ fn is_told(reply: &Reply, page: &str) -> Result<bool, Fail> {
 
 // How many of the visits are told, up to one at which the disk fails: from then on the shelf is down.
 fn visits_told(alloc: Global, shelf: &mut MemoryShelf) -> Result<usize, Fail>
-    requires { IsInOrder memory_view true shelf.old }
+    requires { IsInOrder trio_view true shelf.old }
 {
     'visits: for (place, visit) in VISITS.iter().enumerate() {
         let reply = answered(alloc, shelf, visit.path, datum(alloc, visit.answer)?)?;
@@ -160,29 +161,29 @@ fn visits_told(alloc: Global, shelf: &mut MemoryShelf) -> Result<usize, Fail>
     Ok(VISITS.len())
 }
 
-// What a disk of these bytes is behind a run on it, and how many visits were told.
+// What disks whose first has these bytes are behind a run on them, and how many visits were told.
 fn ran(
     alloc: Global,
     setup: &Setup,
     bytes: &[u8],
     trouble: Trouble,
-) -> Result<(MemoryDisk, usize), Fail>
+) -> Result<(Disks<MemoryDisk>, usize), Fail>
     requires { IsReadSetup (scripts_of setup.now) }
 {
     match opened_despite(alloc, setup, troubled(alloc, bytes, trouble)?)? {
         Ok(mut shelf) => {
             let told = visits_told(alloc, &mut shelf)?;
-            let (disk, _nonces) = shelf.close();
-            Ok((disk, told))
+            let (disks, _nonces) = shelf.close();
+            Ok((disks, told))
         }
-        Err(disk) => Ok((disk, 0)),
+        Err(disks) => Ok((disks, 0)),
     }
 }
 
 // What comes of a page in the end that is answered with 1 until then.
 fn end_of(alloc: Global, shelf: &mut MemoryShelf, path: &str) -> Result<Reply, Fail>
-    requires { IsInOrder memory_view true shelf.old }
-    ensures { IsInOrder memory_view true shelf.new }
+    requires { IsInOrder trio_view true shelf.old }
+    ensures { IsInOrder trio_view true shelf.new }
 {
     match answered(alloc, shelf, path, datum(alloc, "((n \"1\"))")?)? {
         Reply::Page { url, .. } => {
@@ -195,8 +196,8 @@ fn end_of(alloc: Global, shelf: &mut MemoryShelf, path: &str) -> Result<Reply, F
 
 // Whether a page goes on to its end; else it is unknown.
 fn goes_on(alloc: Global, shelf: &mut MemoryShelf, page: &Shown) -> Result<bool, Fail>
-    requires { IsInOrder memory_view true shelf.old }
-    ensures { IsInOrder memory_view true shelf.new }
+    requires { IsInOrder trio_view true shelf.old }
+    ensures { IsInOrder trio_view true shelf.new }
 {
     match end_of(alloc, shelf, page.path)? {
         Reply::Ended(told) => {
@@ -210,7 +211,7 @@ fn goes_on(alloc: Global, shelf: &mut MemoryShelf, page: &Shown) -> Result<bool,
 
 // Refuses a shelf on which other pages go on than those that so many visits showed.
 fn expect_pages(alloc: Global, shelf: &mut MemoryShelf, visits: u64) -> Result<(), Fail>
-    requires { IsInOrder memory_view true shelf.old }
+    requires { IsInOrder trio_view true shelf.old }
 {
     'pages: for page in SHOWN {
         if goes_on(alloc, shelf, page)? != (page.visit < visits) {
@@ -222,7 +223,7 @@ fn expect_pages(alloc: Global, shelf: &mut MemoryShelf, visits: u64) -> Result<(
 
 // How many visits a shelf tells of: the pages that these showed go on, and no others.
 fn visits_in(alloc: Global, shelf: &mut MemoryShelf) -> Result<u64, Fail>
-    requires { IsInOrder memory_view true shelf.old }
+    requires { IsInOrder trio_view true shelf.old }
 {
     let visits = shelf.book().drawn();
     if (shelf.live() == 1) != (visits > 0) {
@@ -253,8 +254,8 @@ fn more_than_told(
 ) -> Result<u64, Fail>
     requires { IsReadSetup (scripts_of setup.now) }
 {
-    let (disk, told) = ran(alloc, setup, bytes, trouble)?;
-    let left = disk.crash(wreck);
+    let (disks, told) = ran(alloc, setup, bytes, trouble)?;
+    let left = left_by(disks, wreck);
     let kept = visits_of(alloc, setup, &left)?;
     for stop in trouble.stops() {
         let once = left_by_opening(alloc, setup, &left, Trouble::Stop(stop), wreck)?;
@@ -305,7 +306,7 @@ fn a_run_that_stops_at_each_call_is_recovered(rt: HostRuntime) -> Result<(), Fai
         visits = visits.saturating_add(more);
     }
     assert_eq!(rt; visits, 16);
-    let (_disk, told) = ran(alloc, &setup, &bytes, Trouble::Stop(MOST_CALLS))?;
+    let (_disks, told) = ran(alloc, &setup, &bytes, Trouble::Stop(MOST_CALLS))?;
     assert_eq!(rt; told, VISITS.len());
     Ok(())
 }

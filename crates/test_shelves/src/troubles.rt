@@ -2,10 +2,11 @@
 ghost use Rattle.std.specs.Prelude.{true, IfOk};
 ghost use Rattle.script_nodes.specs.Views.{scripts_of};
 ghost use Rattle.setup_reader.specs.Texts.{IsReadSetup};
-ghost use Rattle.web_disk.specs.Disks.{memory_view};
+ghost use Rattle.disk_trio.specs.Trio.{trio_view};
 ghost use Rattle.shelf.specs.Views.{IsInOrder};
 
-use crate::openings::{MemoryShelf, tried};
+use crate::openings::{MemoryShelf, tried, with_others};
+use disk_trio::Disks;
 use script_nodes::Setup;
 use shelf::BeginFault;
 use std::alloc::Global;
@@ -65,33 +66,39 @@ fn failing(alloc: Global, trouble: Trouble) -> Result<Vec<u64>, Fail> {
     Ok(calls)
 }
 
-/// The disk of these bytes with such a trouble.
-pub fn troubled(alloc: Global, bytes: &[u8], trouble: Trouble) -> Result<MemoryDisk, Fail> {
+/// Three disks, of which the first has these bytes and such a trouble; the others are empty.
+pub fn troubled(alloc: Global, bytes: &[u8], trouble: Trouble) -> Result<Disks<MemoryDisk>, Fail> {
     let calls = failing(alloc, trouble)?;
     let mut disk = MemoryDisk::new(alloc, bytes.to_vec(alloc)?, calls)?;
     if let Trouble::Stop(calls) = trouble {
         disk.stop_at(calls);
     }
-    Ok(disk)
+    with_others(alloc, disk)
 }
 
-/// The shelf of a disk, or the disk, where that refuses the shelf.
+/// What a crash leaves of the first of three disks.
+pub fn left_by(disks: Disks<MemoryDisk>, wreck: Wreck) -> Vec<u8> {
+    let (disk, _, _) = disks.close();
+    disk.crash(wreck)
+}
+
+/// The shelf of three disks, or the disks, where these refuse the shelf.
 pub fn opened_despite(
     alloc: Global,
     setup: &Setup,
-    disk: MemoryDisk,
-) -> Result<Result<MemoryShelf, MemoryDisk>, Fail>
+    disks: Disks<MemoryDisk>,
+) -> Result<Result<MemoryShelf, Disks<MemoryDisk>>, Fail>
     requires { IsReadSetup (scripts_of setup.now) }
-    ensures { IfOk result (λ r. IfOk r (IsInOrder memory_view true)) }
+    ensures { IfOk result (λ r. IfOk r (IsInOrder trio_view true)) }
 {
-    match tried(alloc, disk, setup)? {
+    match tried(alloc, disks, setup)? {
         Ok(shelf) => Ok(Ok(shelf)),
-        Err((BeginFault::DiskFault, disk)) => Ok(Err(disk)),
+        Err((BeginFault::DiskFault, disks)) => Ok(Err(disks)),
         Err(_) => Err(Fail::from("another fault")),
     }
 }
 
-/// What a crash leaves of a disk of these bytes with such a trouble while it is opened.
+/// What a crash leaves of the first disk, of these bytes and with such a trouble, while it is opened.
 pub fn left_by_opening(
     alloc: Global,
     setup: &Setup,
@@ -103,9 +110,9 @@ pub fn left_by_opening(
 {
     match opened_despite(alloc, setup, troubled(alloc, bytes, trouble)?)? {
         Ok(shelf) => {
-            let (disk, _nonces) = shelf.close();
-            Ok(disk.crash(wreck))
+            let (disks, _nonces) = shelf.close();
+            Ok(left_by(disks, wreck))
         }
-        Err(disk) => Ok(disk.crash(wreck)),
+        Err(disks) => Ok(left_by(disks, wreck)),
     }
 }

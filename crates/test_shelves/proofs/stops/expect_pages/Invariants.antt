@@ -1,7 +1,7 @@
 use Rattle.std.proofs.Common.{true}
-use Rattle.web_disk.specs.Disks.{memory_view}
+use Rattle.disk_trio.specs.Trio.{trio_view}
 use Rattle.shelf.specs.Views.{IsInOrder}
 use Rattle.test_shelves.proofs.stops.expect_pages.Given as goal
 
 abbrev pub invariant-pages : goal.invariant-pages
-invariant-pages l = IsInOrder memory_view true l.shelf
+invariant-pages l = IsInOrder trio_view true l.shelf

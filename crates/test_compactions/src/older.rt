@@ -1,0 +1,313 @@
+//! Journals of the formats 1 to 5, which earlier versions of this program wrote, or may have written: they are opened, visited and
+//! compacted. Those of the formats 1, 2 and 3 are the same visits as the commits 25f9cc87, 697cd3b8 and 0660d5ea wrote them down.
+ghost use Rattle.std.specs.Prelude.{true, IfOk};
+ghost use Rattle.script_nodes.specs.Views.{scripts_of};
+ghost use Rattle.setup_reader.specs.Texts.{IsReadSetup};
+ghost use Rattle.disk_trio.specs.Trio.{trio_view};
+ghost use Rattle.shelf.specs.Views.{IsInOrder};
+
+use crate::files::{Files, disks_of, files_of};
+use crate::records::{DRAWN, FORMAT_1, FORMAT_2, FORMAT_3, RENEWED};
+use crate::visits::{Told, Visit, compacted, expect_visit, expect_visits};
+use script_nodes::Setup;
+use shelf::{BeginFault, Rules};
+use std::alloc::Global;
+use std::test::Fail;
+use test_shelves::{MemoryShelf, put_away, setup, tried_under};
+
+/// The shelf 0.
+pub const RULES: Rules = Rules {
+    number: 0,
+    shelves: 1,
+    fuel: 10_000_000,
+    life: 3_600,
+    instances: 256,
+    pages: 64,
+};
+
+// The scripts of these journals.
+const SCRIPTS: &[(&str, &str)] = &[
+    (
+        "sum",
+        "(let ((a (string->number (extract-binding/single 'n (send/suspend (lambda (u) (list 'a (list (list 'href u)) \"1\")))))) (b (string->number (extract-binding/single 'n (send/suspend (lambda (u) (list 'a (list (list 'href u)) \"2\"))))))) (list 'p (number->string (+ a b))))",
+    ),
+    (
+        "hotel",
+        "(define picked (make-web-cell \"none\"))\n(let ((b (send/suspend (lambda (u) `(a ((href ,u)) \"list\")))))\n  (web-cell-shadow picked (extract-binding/single 'h b))\n  (send/suspend (lambda (u) `(a ((href ,u)) \"confirm\")))\n  `(p ,(web-cell-ref picked)))",
+    ),
+    (
+        "shop",
+        "(define stock (make-instance-cell 1))\n(begin\n  (send/suspend (lambda (u) `(a ((href ,u)) \"buy\")))\n  (if (< (instance-cell-ref stock) 1)\n      '(p \"sold out\")\n      (begin (instance-cell-add! stock -1) '(p \"bought\"))))",
+    ),
+    (
+        "pay",
+        "(define charged (make-instance-cell 0))\n(begin\n  (send/suspend (lambda (u) `(a ((href ,u)) \"cart\")))\n  (isolate\n    (begin\n      (send/suspend (lambda (u) `(a ((href ,u)) \"card\")))\n      (send/suspend (lambda (u) `(a ((href ,u)) \"pay\")))\n      (instance-cell-add! charged 1)))\n  (send/suspend (lambda (u)\n    `(a ((href ,u)) ,(number->string (instance-cell-ref charged)))))\n  '(p \"end\"))",
+    ),
+    (
+        "fin",
+        "(begin\n  (send/suspend (lambda (u) `(a ((href ,u)) \"1\")))\n  (send/finish '(p \"bye\")))",
+    ),
+];
+
+// What the pages go on with that their visits showed.
+const ANSWERS: &[Visit] = &[
+    Visit {
+        path: "/servlets/sum;0*0*1*0000000000000001",
+        answer: "((n \"4\"))",
+        told: Told::Last("<p>7</p>"),
+    },
+    Visit {
+        path: "/servlets/hotel;0*3*4*0000000000000004",
+        answer: "()",
+        told: Told::Last("<p>A</p>"),
+    },
+    Visit {
+        path: "/servlets/hotel;0*3*5*0000000000000005",
+        answer: "()",
+        told: Told::Last("<p>B</p>"),
+    },
+    Visit {
+        path: "/servlets/shop;0*6*6*0000000000000006",
+        answer: "()",
+        told: Told::Last("<p>sold out</p>"),
+    },
+    Visit {
+        path: "/servlets/fin;0*8*8*0000000000000008",
+        answer: "()",
+        told: Told::Unknown,
+    },
+    Visit {
+        path: "/servlets/pay;0*10*12*000000000000000c",
+        answer: "()",
+        told: Told::Closed,
+    },
+    Visit {
+        path: "/servlets/pay;0*10*13*000000000000000d",
+        answer: "()",
+        told: Told::Last("<p>end</p>"),
+    },
+];
+
+// What the page goes on with that the last start of the formats 4 and 5 showed.
+const NEWEST: Visit = Visit {
+    path: "/servlets/fin;0*14*14*000000000000000e",
+    answer: "()",
+    told: Told::Finished("<p>bye</p>"),
+};
+
+// A length as files tell it.
+fn length_of(length: usize) -> Result<[u8; 4], Fail> {
+    match u32::try_from(length) {
+        Ok(length) => Ok(length.to_le_bytes()),
+        Err(_) => Err(Fail::from("a long text")),
+    }
+}
+
+// Puts a record behind others, and its open gate in front of it.
+fn push_record(file: &mut Vec<u8>, body: &[u8]) -> Result<(), Fail> {
+    file.push(1)?;
+    file.extend_from_slice(&length_of(body.len())?)?;
+    file.extend_from_slice(body)?;
+    Ok(())
+}
+
+// Puts a byte string behind its length.
+fn push_text(body: &mut Vec<u8>, text: &str) -> Result<(), Fail> {
+    body.extend_from_slice(&length_of(text.len())?)?;
+    body.extend_from_slice(text.as_bytes())?;
+    Ok(())
+}
+
+// The first record, which tells the shelf 0 and these scripts.
+fn first_record(alloc: Global, scripts: &[(&str, &str)]) -> Result<Vec<u8>, Fail> {
+    let mut body = vec![in alloc; 1u8; 1]?;
+    body.extend_from_slice(&0u32.to_le_bytes())?;
+    body.extend_from_slice(&length_of(scripts.len())?)?;
+    for (name, text) in scripts {
+        push_text(&mut body, name)?;
+        push_text(&mut body, text)?;
+    }
+    Ok(body)
+}
+
+// Puts records behind others.
+fn push_records(file: &mut Vec<u8>, records: &[&[u8]]) -> Result<(), Fail> {
+    for record in records {
+        push_record(file, record)?;
+    }
+    Ok(())
+}
+
+// The file of this format that tells these scripts, with these records behind the first one.
+fn file_of(
+    alloc: Global,
+    format: u8,
+    scripts: &[(&str, &str)],
+    parts: &[&[&[u8]]],
+) -> Result<Vec<u8>, Fail> {
+    let mut file = b"KSWEB\0\0".to_vec(alloc)?;
+    file.push(format)?;
+    push_record(&mut file, &first_record(alloc, scripts)?)?;
+    for records in parts {
+        push_records(&mut file, records)?;
+    }
+    file.push(0)?;
+    Ok(file)
+}
+
+// Three disks, of which the first has this file; the others are empty.
+fn files_with(alloc: Global, a: Vec<u8>) -> Files {
+    Files {
+        a,
+        b: Vec::new(alloc),
+        root: Vec::new(alloc),
+    }
+}
+
+// The shelf of these files, which has to be opened.
+fn opened(alloc: Global, files: &Files, setup: &Setup) -> Result<MemoryShelf, Fail>
+    requires { IsReadSetup (scripts_of setup.now) }
+    ensures { IfOk result (IsInOrder trio_view true) }
+{
+    match tried_under(alloc, disks_of(alloc, files, None)?, setup, RULES)? {
+        Ok(shelf) => Ok(shelf),
+        Err(_) => Err(Fail::from("no shelf")),
+    }
+}
+
+// The number that is drawn next on the shelf of these files.
+fn drawn(alloc: Global, files: &Files, setup: &Setup) -> Result<u64, Fail>
+    requires { IsReadSetup (scripts_of setup.now) }
+{
+    let shelf = opened(alloc, files, setup)?;
+    let drawn = shelf.book().drawn();
+    put_away(shelf);
+    Ok(drawn)
+}
+
+// What stands on the disks of the shelf of these files, behind visits of their pages.
+fn visited(alloc: Global, files: &Files, setup: &Setup) -> Result<Files, Fail>
+    requires { IsReadSetup (scripts_of setup.now) }
+{
+    let mut shelf = opened(alloc, files, setup)?;
+    expect_visits(alloc, &mut shelf, ANSWERS)?;
+    files_of(alloc, shelf)
+}
+
+// The same behind a compaction.
+fn compacted_files(alloc: Global, files: &Files, setup: &Setup) -> Result<Files, Fail>
+    requires { IsReadSetup (scripts_of setup.now) }
+{
+    let mut shelf = opened(alloc, files, setup)?;
+    let _length = compacted(alloc, &mut shelf)?;
+    files_of(alloc, shelf)
+}
+
+/// The setup of the first of these scripts alone.
+pub fn first_setup(alloc: Global) -> Result<Setup, Fail>
+    ensures { IfOk result (λ s. IsReadSetup (scripts_of s)) }
+{
+    setup(alloc, &SCRIPTS[..1])
+}
+
+/// What stands on disks of which the first has the visits of that script, as a journal of format 3.
+pub fn sums(alloc: Global) -> Result<Files, Fail> {
+    let file = file_of(alloc, 3, &SCRIPTS[..1], &[&FORMAT_3[..3]])?;
+    Ok(files_with(alloc, file))
+}
+
+/// Refuses a shelf of these files, with the setup of that script, on which its page does not go on.
+pub fn expect_sum(alloc: Global, files: &Files, setup: &Setup) -> Result<(), Fail>
+    requires { IsReadSetup (scripts_of setup.now) }
+{
+    let mut shelf = opened(alloc, files, setup)?;
+    let told = expect_visit(alloc, &mut shelf, ANSWERS[0]);
+    put_away(shelf);
+    told
+}
+
+// Refuses a file that stands there changed, or has no file of format 6 in its place.
+fn expect_migrated(old: &Files, new: &Files) -> Result<(), Fail> {
+    if new.a == old.a && new.root.as_slice() == b"\x01".as_slice() && new.b.get(7) == Some(&6) {
+        return Ok(());
+    }
+    Err(Fail::from("no migration"))
+}
+
+// Refuses a file whose pages do not go on when it is opened, or behind a compaction. What is there in the end.
+fn expect_pages(alloc: Global, old: &Files, setup: &Setup) -> Result<Files, Fail>
+    requires { IsReadSetup (scripts_of setup.now) }
+{
+    let new = visited(alloc, old, setup)?;
+    expect_migrated(old, &new)?;
+    let once = compacted_files(alloc, &new, setup)?;
+    visited(alloc, &once, setup)
+}
+
+// Refuses a file of this format on which another number is drawn next, or whose pages do not go on.
+fn expect_opened(alloc: Global, format: u8, parts: &[&[&[u8]]], next: u64) -> Result<Files, Fail> {
+    let setup = setup(alloc, SCRIPTS)?;
+    let old = files_with(alloc, file_of(alloc, format, SCRIPTS, parts)?);
+    if drawn(alloc, &old, &setup)? != next {
+        return Err(Fail::from("another number is drawn next"));
+    }
+    expect_pages(alloc, &old, &setup)
+}
+
+// Refuses files on which the last start does not go on.
+fn expect_newest(alloc: Global, files: &Files) -> Result<(), Fail> {
+    let setup = setup(alloc, SCRIPTS)?;
+    let mut shelf = opened(alloc, files, &setup)?;
+    let told = expect_visit(alloc, &mut shelf, NEWEST);
+    put_away(shelf);
+    told
+}
+
+#[test]
+fn a_journal_without_states_is_opened(rt: HostRuntime) -> Result<(), Fail> {
+    let _files = expect_opened(rt.alloc(), 1, &[FORMAT_1], 14)?;
+    Ok(())
+}
+
+#[test]
+fn a_journal_with_whole_states_is_opened(rt: HostRuntime) -> Result<(), Fail> {
+    let _files = expect_opened(rt.alloc(), 2, &[FORMAT_2], 14)?;
+    Ok(())
+}
+
+#[test]
+fn a_journal_without_scripts_that_change_is_opened(rt: HostRuntime) -> Result<(), Fail> {
+    let _files = expect_opened(rt.alloc(), 3, &[FORMAT_3], 14)?;
+    Ok(())
+}
+
+#[test]
+fn a_journal_that_was_never_compacted_is_opened(rt: HostRuntime) -> Result<(), Fail> {
+    let alloc = rt.alloc();
+    let files = expect_opened(alloc, 4, &[FORMAT_3, RENEWED], 15)?;
+    expect_newest(alloc, &files)
+}
+
+#[test]
+fn a_journal_without_pages_that_give_way_is_opened(rt: HostRuntime) -> Result<(), Fail> {
+    let alloc = rt.alloc();
+    let files = expect_opened(alloc, 5, &[DRAWN, FORMAT_3, RENEWED], 20)?;
+    expect_newest(alloc, &files)
+}
+
+// Why no shelf is opened on a file of this format.
+fn refused(alloc: Global, format: u8) -> Result<BeginFault, Fail> {
+    let setup = setup(alloc, SCRIPTS)?;
+    let files = files_with(alloc, file_of(alloc, format, SCRIPTS, &[FORMAT_3])?);
+    match tried_under(alloc, disks_of(alloc, &files, None)?, &setup, RULES)? {
+        Ok(_) => Err(Fail::from("opened")),
+        Err((fault, _disks)) => Ok(fault),
+    }
+}
+
+#[test]
+fn a_journal_of_a_format_to_come_is_refused(rt: HostRuntime) -> Result<(), Fail> {
+    assert_eq!(rt; refused(rt.alloc(), 7)?, BeginFault::Damaged { place: 0 });
+    assert_eq!(rt; refused(rt.alloc(), 0)?, BeginFault::Damaged { place: 0 });
+    Ok(())
+}
