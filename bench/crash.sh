@@ -1,8 +1,10 @@
 #!/bin/sh
 # Kills `serve --journal` by KILL at 200 random moments, or as many as the first word says, under a client that notes each
-# reply (crash.py), and looks after each start that nothing that was told is lost. Then it does the same visits on a file
-# system of 1 MB until that is full: `503 disk` comes, then `503 down`, and after a start all that was told is there; for
-# this it has to be root, and says so where it is not. It takes some minutes. No part of the gate. Needs python3.
+# reply (crash.py), and looks after each start that nothing that was told is lost. As often it kills `play --journal` over
+# steps that compact the journal, and looks by `serve` that the pages that were told are there (compacting.py). Then it does
+# the visits of the first on a file system of 1 MB until that is full: `503 disk` comes, then `503 down`, and after a start
+# all that was told is there; for this it has to be root, and says so where it is not. It takes some minutes. No part of the
+# gate. Needs python3.
 
 here=$(CDPATH='' cd -- "$(dirname -- "$0")/.." && pwd) || exit 1
 program=$here/crates/script_server/out/script_server
@@ -22,6 +24,10 @@ done >"$work/setup"
 options="--port 0 --connections 1000000 --instances 4096 --pages 1024"
 # shellcheck disable=SC2086
 python3 "$here/bench/crash.py" "$work" "${1:-200}" "$program" serve $options --shelves 2 --journal "$work/journal" || exit 1
+
+mkdir "$work/compacting" || exit 1
+cp "$work/setup" "$work/compacting" || exit 1
+python3 "$here/bench/compacting.py" "$work/compacting" "${1:-200}" "$program" || exit 1
 
 mkdir "$work/small" || exit 1
 if ! mount -t tmpfs -o size=1m hovgyelit-crash "$work/small" 2>/dev/null; then

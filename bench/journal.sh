@@ -3,7 +3,8 @@
 # are in `play --journal` over 5,000 steps that each leave a record, and how many publishes: these are timed without what the
 # same steps take in memory. Beside both, a bare loop of write, sync, write, sync of as many bytes a round (sync_loop.c, by
 # `cc -O2`); the best of five runs of each, in turn. Then how long `serve` takes from its start until it listens, over journals
-# of 10,000 and of 20,000 records, and how many bytes a record has. No part of the gate. Needs cc, and a date that knows %N.
+# of 10,000 and of 20,000 records, and how many bytes a record has; and last what a compaction takes (compacted.py). No part
+# of the gate. Needs cc, python3, and a date that knows %N.
 
 here=$(CDPATH='' cd -- "$(dirname -- "$0")/.." && pwd) || exit 1
 program=$here/crates/script_server/out/script_server
@@ -95,3 +96,5 @@ for count in 10000 20000; do
     wait "$server" 2>/dev/null
     server=
 done
+
+python3 "$here/bench/compacted.py" "$work" "$program"
