@@ -3,8 +3,7 @@ use Rattle.std.specs.Prelude.{◌≡◌, ℕ, List}
 use Rattle.script_nodes.specs.Setup.{Named}
 use Rattle.replay_spec.specs.Book as spec
 use Rattle.machine_states.specs.Views.{suspended_of}
-use Rattle.journal_records.specs.Views.{page_change}
-use Rattle.journal_records.specs.declared.records.PageRecord.{PageRecord}
+use Rattle.journal_records.specs.Views.{IsSamePage}
 use Rattle.instance_book.specs.declared.in_order.InOrder.{InOrder}
 use Rattle.instance_book.specs.declared.page.KeptPage.{KeptPage}
 use Rattle.instance_book.specs.declared.instance.KeptInstance.{KeptInstance}
@@ -33,12 +32,6 @@ pub record IsSameShow (s copy : Show) : Type 0 where
   pub mark : mark_of copy.page ≡ mark_of s.page
   pub state : kept_at copy.page ≡ kept_at s.page
   pub made : (gone : List ℕ) (i : spec.Instance) → shown_with copy gone i ≡ shown_with s gone i
-
--- a copy of a page's record is of the same change, with the same deadline and pages that went
-pub record IsSamePage (r copy : PageRecord) : Type 0 where
-  pub change : page_change copy ≡ page_change r
-  pub deadline : copy.deadline ≡ r.deadline
-  pub gone : copy.evicted.items ≡ r.evicted.items
 
 -- a copy of an opening begins the same instance
 abbrev pub BeginsAlike : (o copy : Opening) → Type 0

@@ -1,10 +1,10 @@
 ghost use Rattle.std.specs.Prelude.{◌≡◌, IfOk};
-ghost use Rattle.journal_records.specs.Views.{ending_of, finish_of};
+ghost use Rattle.journal_records.specs.Views.{ending_of, finish_of, IsSamePage};
 ghost use Rattle.instance_book.specs.Lists.{HasRoom};
-ghost use Rattle.instance_book.specs.Views.{page_of, mark_of};
+ghost use Rattle.instance_book.specs.Views.{page_of};
 ghost use Rattle.instance_book.specs.Places.{kept_at, StayPlaced, StayKept};
 ghost use Rattle.instance_book.specs.Makes.{AllBecome, StaysSame, KeepsPlaces, KeepsStates};
-ghost use Rattle.instance_book.specs.Copies.{IsSamePages, IsSameInstance, BeginsAlike, IsSameShow, IsSamePage, IsSameExtension, IsSameChange, TellsAlike, BeginsOverSame};
+ghost use Rattle.instance_book.specs.Copies.{IsSamePages, IsSameInstance, BeginsAlike, IsSameShow, IsSameExtension, IsSameChange, TellsAlike, BeginsOverSame};
 
 use crate::after::{After, Show};
 use crate::book::Book;
@@ -13,32 +13,7 @@ use crate::in_order::InOrder;
 use crate::instance::KeptInstance;
 use crate::numbered::Numbered;
 use crate::page::KeptPage;
-use crate::records::{clone_ended, clone_finish, clone_page};
 use std::alloc::{AllocError, Global};
-
-impl Numbered<KeptPage> {
-    /// A copy, equal to its source.
-    pub fn try_clone(&self, alloc: Global) -> Result<Numbered<KeptPage>, AllocError>
-        ensures page { IfOk result (λ copy. page_of copy ≡ page_of self.now) }
-        ensures mark { IfOk result (λ copy. mark_of copy ≡ mark_of self.now) }
-        ensures state { IfOk result (λ copy. kept_at copy ≡ kept_at self.now) }
-    {
-        Ok(Numbered {
-            number: self.number,
-            item: KeptPage {
-                nonce: self.item.nonce,
-                parent: self.item.parent,
-                answer: self.item.answer.try_clone(alloc)?,
-                reads: self.item.reads.try_clone(alloc)?,
-                inside: self.item.inside.as_slice().to_vec(alloc)?,
-                deadline: self.item.deadline,
-                last: self.item.last,
-                gone: self.item.gone,
-                state: self.item.state.try_clone(alloc)?,
-            },
-        })
-    }
-}
 
 impl InOrder<KeptPage> {
     /// A copy, equal to its source.
@@ -145,7 +120,7 @@ impl Opening {
         ensures begun { IfOk result (BeginsAlike self.now) }
         ensures room { IfOk result (λ copy. HasRoom copy.instance.pages) }
     {
-        let record = clone_page(alloc, &self.record)?;
+        let record = self.record.try_clone(alloc)?;
         let state = self.state.try_clone(alloc)?;
         let page = self.page.try_clone(alloc)?;
         let instance = self.instance.clone_with_room(alloc)?;
@@ -163,7 +138,7 @@ impl Extension {
     pub fn try_clone(&self, alloc: Global) -> Result<Extension, AllocError>
         ensures { IfOk result (IsSameExtension self.now) }
     {
-        let record = clone_page(alloc, &self.record)?;
+        let record = self.record.try_clone(alloc)?;
         Ok(Extension {
             instance: self.instance,
             record,
@@ -180,7 +155,7 @@ impl Ending {
         ensures inside { IfOk result (λ copy. copy.inside.items ≡ self.now.inside.items) }
         ensures after { IfOk result (λ copy. copy.after ≡ self.now.after) }
     {
-        let record = clone_ended(alloc, &self.record)?;
+        let record = self.record.try_clone(alloc)?;
         Ok(Ending {
             record,
             inside: self.inside.as_slice().to_vec(alloc)?,
@@ -195,7 +170,7 @@ impl Finish {
         ensures told { IfOk result (λ copy. finish_of copy.record ≡ finish_of self.now.record) }
         ensures inside { IfOk result (λ copy. copy.inside.items ≡ self.now.inside.items) }
     {
-        let record = clone_finish(alloc, &self.record)?;
+        let record = self.record.try_clone(alloc)?;
         Ok(Finish {
             record,
             inside: self.inside.as_slice().to_vec(alloc)?,

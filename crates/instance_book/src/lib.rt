@@ -16,7 +16,6 @@ mod origins;
 mod page;
 mod pages;
 mod place;
-mod records;
 mod segment;
 mod shown;
 

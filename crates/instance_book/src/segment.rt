@@ -1,14 +1,13 @@
 ghost use Rattle.std.specs.Prelude.{◌≡◌, ◌<◌, ◌+◌, ◌^◌, ◌++◌, [], IfOk, OnOk, map, length};
 ghost use Rattle.script_value.specs.Val.{list, no_vals};
-ghost use Rattle.instance_cells.specs.Cells.{AreOn, reads_of};
+ghost use Rattle.instance_cells.specs.Cells.{AreOn};
 ghost use Rattle.instance_cells.specs.Views.{effect_of};
-ghost use Rattle.kept_states.specs.Kept.{kept_of};
 ghost use Rattle.instance_book.specs.Lists.{HasRoom};
 ghost use Rattle.instance_book.specs.Views.{pages_of, HasRoomAt};
 ghost use Rattle.instance_book.specs.Places.{shown_in};
 ghost use Rattle.instance_book.specs.Makes.{StaysSame, KeepsPlaces, KeepsStates};
 ghost use Rattle.instance_book.specs.Changes.{renewed, HasRoomToOpen};
-ghost use Rattle.instance_book.specs.Segments.{Revokes, BeginsBy, IsLeftBy, effects_in, new_in, IsNewPage, IsOpenedBy, IsExtendedBy};
+ghost use Rattle.instance_book.specs.Segments.{Revokes, BeginsBy, IsLeftBy, effects_in, IsOpenedBy, IsExtendedBy};
 
 use crate::after::{After, Show};
 use crate::book::Book;
@@ -16,15 +15,14 @@ use crate::change::{Extension, Opening};
 use crate::in_order::InOrder;
 use crate::instance::KeptInstance;
 use crate::numbered::Numbered;
-use crate::page::KeptPage;
+use crate::page::{KeptPage, new_page};
 use crate::shown::ShownState;
 use instance_cells::{Cells, Effect};
 use journal_records::PageRecord;
-use kept_states::KeptState;
 use script_nodes::SendKind;
 use script_value::{Items, TxName, Value};
 use std::alloc::{AllocError, Global};
-use stored_values::{StoredValue, StoredValues};
+use stored_values::StoredValue;
 use transactions::Closed;
 
 // These transactions are closed too.
@@ -61,19 +59,6 @@ fn closed_after(
     Ok(Some(closed_with(copy, left)?))
 }
 
-// The values that were read.
-fn reads_in(alloc: Global, effects: &[Effect]) -> Result<StoredValues, AllocError>
-    ensures { IfOk result (λ reads. reads ≡ reads_of (map effect_of effects.now)) }
-{
-    let mut reads = Items::new(alloc);
-    for effect in effects {
-        if let Effect::Read(_, value) = effect {
-            reads.push(value.try_clone(alloc)?)?;
-        }
-    }
-    StoredValues::of(alloc, reads)
-}
-
 // The pages that are revoked, where the page forwards.
 fn revoked_after(
     alloc: Global,
@@ -93,35 +78,6 @@ fn no_answer(alloc: Global) -> Result<StoredValue, AllocError>
     ensures { IfOk result (λ answer. answer ≡ list no_vals) }
 {
     StoredValue::of(alloc, &Value::List(Items::new(alloc)))
-}
-
-// What is kept of the page of a record, which answers this one, if any, with this.
-fn new_page(
-    alloc: Global,
-    told: &PageRecord,
-    parent: Option<u64>,
-    answer: StoredValue,
-    inside: Vec<TxName>,
-    kept: KeptState,
-) -> Result<Numbered<KeptPage>, AllocError>
-    ensures { IfOk result
-        (IsNewPage (new_in told.now parent answer inside.items) (kept_of kept)) }
-{
-    let reads = reads_in(alloc, &told.effects)?;
-    Ok(Numbered {
-        number: told.ticket,
-        item: KeptPage {
-            nonce: told.nonce,
-            parent,
-            answer,
-            reads,
-            inside,
-            deadline: told.deadline,
-            last: told.ticket,
-            gone: None,
-            state: kept,
-        },
-    })
 }
 
 // The instance of a start of the script of this place over these cells, which has room for its page.

@@ -65,6 +65,12 @@ page_of p state = record {
 abbrev pub page_change : PageRecord → Change
 page_change p = change_from p.ticket p.nonce (origin_of p.origin) (map effect_of p.effects.items) p.left.items p.kind p.deadline p.evicted.items
 
+-- a copy of a page's record is of the same change, with the same deadline and pages that went
+pub record IsSamePage (r copy : PageRecord) : Type 0 where
+  pub change : page_change copy ≡ page_change r
+  pub deadline : copy.deadline ≡ r.deadline
+  pub gone : copy.evicted.items ≡ r.evicted.items
+
 -- the last page without a name
 abbrev pub ending_of : EndedRecord → Ending
 ending_of e = record {

@@ -5,13 +5,11 @@ mod decoding;
 mod encoding;
 mod grammar;
 mod laws;
-mod measure;
 mod nesting;
 mod records;
 
 pub use decoding::decode;
-pub use encoding::encode;
+pub use encoding::{body_length, encode, record_length};
 pub use grammar::can_begin;
 pub use laws::records_are_exact;
-pub use measure::{body_length, record_length};
 pub use records::{EndedRecord, FinishRecord, Logged, Origin, PageRecord, Recorded};

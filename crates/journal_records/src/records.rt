@@ -1,6 +1,10 @@
-use instance_cells::Effect;
+ghost use Rattle.std.specs.Prelude.{◌≡◌, IfOk};
+ghost use Rattle.journal_records.specs.Views.{origin_of, ending_of, finish_of, IsSamePage};
+
+use instance_cells::{Effect, clone_effects};
 use script_nodes::{ScriptText, SendKind, Setup};
 use script_value::{Bytes, TxName, Value};
+use std::alloc::{AllocError, Global};
 
 /// Where a segment began that showed a page.
 #[derive(Drop)]
@@ -15,6 +19,26 @@ pub enum Origin {
         page: u64,
         answer: Value,
     },
+}
+
+impl Origin {
+    /// A copy, equal to its source.
+    pub fn try_clone(&self, alloc: Global) -> Result<Origin, AllocError>
+        ensures { IfOk result (λ copy. origin_of copy ≡ origin_of self.now) }
+    {
+        match self {
+            Origin::Start { script } => Ok(Origin::Start { script: *script }),
+            Origin::Answer {
+                instance,
+                page,
+                answer,
+            } => Ok(Origin::Answer {
+                instance: *instance,
+                page: *page,
+                answer: answer.try_clone(alloc)?,
+            }),
+        }
+    }
 }
 
 /// A page was shown. The bytes of its state stand beside it.
@@ -34,6 +58,24 @@ pub struct PageRecord {
     pub evicted: Vec<u64>,
 }
 
+impl PageRecord {
+    /// A copy, equal to its source.
+    pub fn try_clone(&self, alloc: Global) -> Result<PageRecord, AllocError>
+        ensures { IfOk result (IsSamePage self.now) }
+    {
+        Ok(PageRecord {
+            ticket: self.ticket,
+            nonce: self.nonce,
+            origin: self.origin.try_clone(alloc)?,
+            effects: clone_effects(alloc, &self.effects)?,
+            left: self.left.as_slice().to_vec(alloc)?,
+            kind: self.kind,
+            deadline: self.deadline,
+            evicted: self.evicted.as_slice().to_vec(alloc)?,
+        })
+    }
+}
+
 /// A page was answered with a last page, which has no name.
 #[derive(Drop)]
 pub struct EndedRecord {
@@ -47,6 +89,22 @@ pub struct EndedRecord {
     pub left: Vec<TxName>,
 }
 
+impl EndedRecord {
+    /// A copy, equal to its source.
+    pub fn try_clone(&self, alloc: Global) -> Result<EndedRecord, AllocError>
+        ensures { IfOk result (λ copy. ending_of copy ≡ ending_of self.now) }
+    {
+        Ok(EndedRecord {
+            ticket: self.ticket,
+            instance: self.instance,
+            page: self.page,
+            answer: self.answer.try_clone(alloc)?,
+            effects: clone_effects(alloc, &self.effects)?,
+            left: self.left.as_slice().to_vec(alloc)?,
+        })
+    }
+}
+
 /// A page was answered with a last page, and its instance is gone.
 #[derive(Drop)]
 pub struct FinishRecord {
@@ -56,6 +114,21 @@ pub struct FinishRecord {
     pub answer: Value,
     /// What the segment did to the instance cells, in its order.
     pub effects: Vec<Effect>,
+}
+
+impl FinishRecord {
+    /// A copy, equal to its source.
+    pub fn try_clone(&self, alloc: Global) -> Result<FinishRecord, AllocError>
+        ensures { IfOk result (λ copy. finish_of copy ≡ finish_of self.now) }
+    {
+        Ok(FinishRecord {
+            ticket: self.ticket,
+            instance: self.instance,
+            page: self.page,
+            answer: self.answer.try_clone(alloc)?,
+            effects: clone_effects(alloc, &self.effects)?,
+        })
+    }
 }
 
 /// What a record of a journal says, as it was read.

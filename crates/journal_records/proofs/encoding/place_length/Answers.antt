@@ -3,7 +3,7 @@ use Rattle.std.specs.Prelude.{IfSome}
 use Rattle.script_nodes.specs.Views.{named_of, scripts_of}
 use Rattle.journal_records.specs.Fields.{script_bytes}
 use Rattle.journal_records.proofs.Chains.{text_at, none_past}
-use Rattle.journal_records.proofs.measure.place_length.Goals as goal
+use Rattle.journal_records.proofs.encoding.place_length.Goals as goal
 
 pub returns : goal.returns
 returns c =
