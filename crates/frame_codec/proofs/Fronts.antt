@@ -3,7 +3,6 @@ use Rattle.std.proofs.Common.{◌≡◌, ℕ, zero, suc, ◌+◌, ◌<◌, ◌�
 use Rattle.std.specs.Prelude.{IsTrue, slice_get}
 use Rattle.std.proofs.lemmas.Bool.Decides.{nat_tests}
 use Rattle.std.proofs.lemmas.List.{drop_more, drop_all}
-use Rattle.script_value.specs.Val.{Val}
 use Rattle.frame_codec.specs.Deltas.{Part, Shares}
 
 -- the second list is the shared front and its rest
@@ -106,10 +105,10 @@ same_all (x ∷ xs) zero rest h = absurd (h.1 refl)
 same_all [] (suc n) rest h = absurd h
 same_all (x ∷ xs) (suc n) rest h = ap (λ (i : ℕ). suc i) (same_all xs n rest h.1)
 
-pub same_by : (v w xs ys : List Val) (n m : ℕ) (rest : List Val) → xs ≡ v → ys ≡ w → length v ≡ length w → m ≡ length w → Shares xs ys n rest
+pub same_by : {A : Type 0} (v w xs ys : List A) (n m : ℕ) (rest : List A) → xs ≡ v → ys ≡ w → length v ≡ length w → m ≡ length w → Shares xs ys n rest
     → (IsTrue (nat_eq n m) → v ≡ w) × (v ≡ w → IsTrue (nat_eq n m))
-same_by v w xs ys n m rest e f len count h =
-    let s : Shares v w n rest = subst (λ (l : List Val). Shares v l n rest) f (subst (λ (l : List Val). Shares l ys n rest) e h) in (
+same_by {A} v w xs ys n m rest e f len count h =
+    let s : Shares v w n rest = subst (λ (l : List A). Shares v l n rest) f (subst (λ (l : List A). Shares l ys n rest) e h) in (
       λ t. let k : n ≡ m = grind (arith, nat_tests, t) in all_same v w n rest len s (k ∙ count),
-      λ same. let k : n ≡ m = same_all w n rest (subst (λ (l : List Val). Shares l w n rest) same s) ∙ sym count in grind (arith, nat_tests, k),
+      λ same. let k : n ≡ m = same_all w n rest (subst (λ (l : List A). Shares l w n rest) same s) ∙ sym count in grind (arith, nat_tests, k),
     )

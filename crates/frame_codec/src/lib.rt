@@ -30,6 +30,7 @@ pub use front_bytes::{read_delta_front, read_front};
 pub use joined::{copied_front, delta, join};
 pub use need::Need;
 pub use parted::{ALONE, BEHIND, Parted};
+pub use shared::{same_values, shared_frames};
 pub use size::length;
 pub use spelled::is_spelled;
 pub use state::decode;

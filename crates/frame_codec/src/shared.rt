@@ -30,8 +30,8 @@ pub fn shared_values(parent: &[Value], values: &[Value]) -> usize
     values.len()
 }
 
-// Whether values are the same.
-fn same_values(values: &Items, others: &Items) -> bool
+/// Whether values are the same.
+pub fn same_values(values: &Items, others: &Items) -> bool
     ensures { IsTrue result ↔ (values.now ≡ others.now) }
 {
     values.len() == others.len()

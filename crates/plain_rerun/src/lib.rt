@@ -1,4 +1,4 @@
-//! The slow twin of the engine, which runs a script again from its start: for tests alone.
+//! The slow twin of the engine, which runs a script again from its start: for audits and for tests.
 #![tactic(auto)]
 
 mod engine;
