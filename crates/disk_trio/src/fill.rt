@@ -73,14 +73,6 @@ impl<D: Disk> Disks<D> {
         }
     }
 
-    // It is not known any more which file the root names.
-    fn forget(&mut self)
-        ensures same { AreSameDisks self.old self.new }
-        ensures known { self.new.known ≡ false }
-    {
-        self.known = false;
-    }
-
     // Whatever a crash leaves of the root names the current file.
     pub(crate) fn learn(&mut self)
         requires named { IsTrue D.tells → (bytes : List ℕ) → (D.view self.old.root).images bytes

@@ -1,6 +1,6 @@
 ghost use Rattle.std.specs.Prelude.{◌≡◌, ◌↔◌, ◌<◌, true, false, IsTrue, IfOk, OnOk, OnErr};
 ghost use Rattle.web_disk.specs.View.{View, NoNewImage, Elapses};
-ghost use Rattle.disk_trio.specs.Trio.{trio_view, HasFailed, IsReadAlone, AreEmpty};
+ghost use Rattle.disk_trio.specs.Trio.{trio_view, HasFailed, IsReadAlone, AreEmpty, AreSameDisks};
 
 use crate::trio::Disks;
 use std::alloc::AllocError;
@@ -37,6 +37,18 @@ impl<D: Disk> Disks<D> {
         self.turn(side);
         self.learn();
         Ok(())
+    }
+
+    /// Forgets which file the root names, so that the same disks can be opened once more. No call of a disk is made.
+    pub fn forget(&mut self)
+        ensures same { AreSameDisks self.old self.new }
+        ensures known { self.new.known ≡ false }
+        ensures seen { IsTrue D.tells → (trio_view self.new).seen ≡ (trio_view self.old).seen }
+        ensures images { NoNewImage (trio_view self.old) (trio_view self.new) }
+        ensures time { Elapses (trio_view self.old) (trio_view self.new) }
+        ensures faults { (trio_view self.new).faults ≡ (trio_view self.old).faults }
+    {
+        self.known = false;
     }
 
     /// Makes room to open them. It is no device call.

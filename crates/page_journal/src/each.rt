@@ -1,8 +1,9 @@
 ghost use Rattle.std.specs.Prelude.{◌≡◌, ◌<◌, ◌≤◌, ◌+◌, ◌^◌, List, ℕ, length, take, drop, IsTrue, OnOk, OnErr, vec_capacity};
 ghost use Rattle.web_disk.specs.View.{NoNewImage, Elapses};
-ghost use Rattle.page_journal.specs.Records.{at_rest};
+ghost use Rattle.page_journal.specs.Records.{at_rest, stored};
 ghost use Rattle.page_journal.specs.Scanned.{IsQuiet};
 ghost use Rattle.page_journal.specs.Settled.{HasFailed, IsSettled, IsReady, IsSound, view_of, bodies_in, length_of, is_broken};
+ghost use Rattle.page_journal.specs.Stored.{HoldRecords};
 ghost use Rattle.page_journal.specs.Taken.{TakesAll, TakesFront};
 
 use crate::Journal;
@@ -64,6 +65,46 @@ fn read_body<D: Disk>(
     disk.read(place, buffer)
 }
 
+/// Hands on each record of a disk with this length, in order, to a taker that is ready for the first gate.
+pub fn hand_on<D: Disk, T: Take>(
+    disk: &mut D,
+    buffer: &mut Vec<u8>,
+    len: u64,
+    taker: &mut T,
+) -> Result<(), DiskFault>
+    requires len { IsTrue D.tells → len ≡ length (D.view disk.old).seen }
+    requires holds { IsTrue D.tells →
+        HoldRecords (D.view disk.old).seen (vec_capacity buffer.old) }
+    requires ready { T.ready taker.old 8 }
+    ensures taken { IsTrue D.tells → OnOk result
+        (TakesAll T.takes taker.old 8 (stored (D.view disk.old).seen) taker.new) }
+    ensures front { IsTrue D.tells →
+        TakesFront T.takes taker.old (stored (D.view disk.old).seen) taker.new }
+    ensures handed { (bodies : List (List ℕ)) × TakesAll T.takes taker.old 8 bodies taker.new
+        × (length (at_rest bodies) ≤ 2 ^ 30) }
+    ensures capacity { vec_capacity buffer.old ≤ vec_capacity buffer.new }
+    ensures quiet { IsQuiet (D.view disk.old) (D.view disk.new) }
+    ensures cause { OnErr result (HasFailed (D.view disk.old) (D.view disk.new)) }
+{
+    let mut place = 8;
+    'gates: while place < len {
+        match look(disk, place, len)? {
+            Found::Wrong => return Ok(()),
+            Found::End { .. } => return Ok(()),
+            Found::Next { size } => {
+                // No record is longer, as was read when they were found.
+                if size as usize > buffer.capacity() {
+                    return Ok(());
+                }
+                read_body(disk, buffer, place + 5, size)?;
+                taker.body(place, buffer);
+                place += 5 + size;
+            }
+        }
+    }
+    Ok(())
+}
+
 impl<D: Disk> Journal<D> {
     /// Hands on each record, in order, to a taker that is ready for the first gate. It takes no memory.
     pub fn for_each<T: Take>(&mut self, taker: &mut T) -> Result<(), DiskFault>
@@ -86,24 +127,7 @@ impl<D: Disk> Journal<D> {
         ensures cause { OnErr result
             (HasFailed (view_of D.view self.old) (view_of D.view self.new)) }
     {
-        let len = self.end + 1;
-        let mut place = 8;
-        'gates: while place < len {
-            match look(&mut self.disk, place, len)? {
-                Found::Wrong => return Ok(()),
-                Found::End { .. } => return Ok(()),
-                Found::Next { size } => {
-                    // No record is longer, as was read when the journal was opened.
-                    if size as usize > self.buffer.capacity() {
-                        return Ok(());
-                    }
-                    read_body(&mut self.disk, &mut self.buffer, place + 5, size)?;
-                    taker.body(place, &self.buffer);
-                    place += 5 + size;
-                }
-            }
-        }
-        Ok(())
+        hand_on(&mut self.disk, &mut self.buffer, self.end + 1, taker)
     }
 
     /// Makes room for a record with a body of this length. No call of the disk is made that could fail.

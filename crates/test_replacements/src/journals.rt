@@ -32,11 +32,26 @@ pub fn file_of(alloc: Global, format: u8) -> Result<Vec<u8>, Fail> {
     Ok(bytes)
 }
 
-// Puts records one behind the other, each behind a comma.
+/// Puts records one behind the other, each behind a comma.
 #[derive(Drop)]
-struct Reader {
+pub struct Reader {
     text: Vec<u8>,
     failed: bool,
+}
+
+impl Reader {
+    /// One that has read nothing.
+    pub fn new(alloc: Global) -> Reader {
+        Reader {
+            text: Vec::new(alloc),
+            failed: false,
+        }
+    }
+
+    /// The records, unless memory ran out.
+    pub fn finish(self) -> Option<Vec<u8>> {
+        if self.failed { None } else { Some(self.text) }
+    }
 }
 
 impl Take for Reader {
@@ -59,15 +74,12 @@ pub fn read<D: Disk>(alloc: Global, journal: &mut Journal<Disks<D>>) -> Result<V
     ensures settled { IsTrue D.tells → OnOk result (IsSettled trio_view journal.new) }
     ensures whole { is_broken journal.new ≡ is_broken journal.old }
 {
-    let mut reader = Reader {
-        text: Vec::new(alloc),
-        failed: false,
-    };
+    let mut reader = Reader::new(alloc);
     journal.for_each(&mut reader)?;
-    if reader.failed {
-        return Err(Fail::from("memory"));
+    match reader.finish() {
+        Some(text) => Ok(text),
+        None => Err(Fail::from("memory")),
     }
-    Ok(reader.text)
 }
 
 /// Opens the journal of three disks.

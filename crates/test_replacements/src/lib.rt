@@ -1,4 +1,4 @@
-//! Tests of journals on three disks: a replacement that is stopped, that fails and that crashes at each call, the formats that are read, and three files.
+//! Tests of journals on three disks: a replacement that is stopped, that fails and that crashes at each call, the formats that are read, readings that mend nothing, and three files.
 #![tactic(auto)]
 
 #[cfg(test)]
@@ -7,5 +7,7 @@ mod files;
 mod formats;
 #[cfg(test)]
 mod journals;
+#[cfg(test)]
+mod readings;
 #[cfg(test)]
 mod replacements;
