@@ -27,7 +27,7 @@ three_home : (rack : RackView) (shelf : ℕ) → shelf < 16 → (shelves_of rack
     → (rack.out shelf ≡ false) × (rack.out (16 + shelf) ≡ false) × (rack.out (32 + shelf) ≡ false)
 three_home rack shelf low is = all_three _ _ _ (subst (λ (b : Bool). out_by b rack shelf ≡ false) (lt-ltb shelf 16 low) is)
 
-below_or_not : (k n : ℕ) → (k < n) ⊎ (n ≤ k)
+pub below_or_not : (k n : ℕ) → (k < n) ⊎ (n ≤ k)
 below_or_not k n = by_test (nat_lt k n) refl
   where
     by_test : (b : Bool) → nat_lt k n ≡ b → (k < n) ⊎ (n ≤ k)

@@ -47,6 +47,16 @@ pub record AreFrom {D : Type 0} {G : Ghosts D} (rack : RackView) (shelf : ℕ) (
   pub b : AreAmong (G.view (three_of d).b).images (rack.holds (file_number B shelf))
   pub root : AreAmong (G.view d.root).images (rack.holds (root_number shelf))
 
+-- under each number of a shelf the rack may hold what one of three disks may leave, and nothing else
+pub record AreGivenTo {D : Type 0} {G : Ghosts D} (rack : RackView) (shelf : ℕ) (d : Disks D G) : Type 0 where
+  pub a : AreAmong (rack.holds (file_number A shelf)) (G.view (three_of d).a).images
+  pub b : AreAmong (rack.holds (file_number B shelf)) (G.view (three_of d).b).images
+  pub root : AreAmong (rack.holds (root_number shelf)) (G.view d.root).images
+
+-- what each disk of a rack may hold it might hold before: nothing was written on any of them
+abbrev pub LeavesAllDisks : (old new : RackView) → Type 0
+LeavesAllDisks old new = (number : ℕ) → AreAmong (new.holds number) (old.holds number)
+
 -- the three disks of a shelf may hold nothing
 pub record MayBeBare (rack : RackView) (shelf : ℕ) : Type 0 where
   pub a : rack.holds (file_number A shelf) []

@@ -3,7 +3,7 @@ ghost use Rattle.web_outside.specs.Causes.{Rose};
 ghost use Rattle.web_disk.specs.View.{AreAmong};
 ghost use Rattle.web_disk.specs.Takes.{failed_after};
 ghost use Rattle.disk_trio.specs.Trio.{trio_view};
-ghost use Rattle.trio_rack.specs.Trios.{shelves_of, sum_of_faults, AreFrom, AsksForThree, LeavesOtherDisks};
+ghost use Rattle.trio_rack.specs.Trios.{shelves_of, sum_of_faults, AreFrom, AreGivenTo, AsksForThree, LeavesAllDisks, LeavesOtherDisks};
 
 use disk_trio::Disks;
 use std::alloc::Global;
@@ -32,6 +32,8 @@ pub fn take_trio<D: Disk, R: Rack<D>>(
         (shelves_of (R.view rack.new)).out n ≡ (shelves_of (R.view rack.old)).out n }
     ensures err { IsTrue R.tells → OnErr result ((n : ℕ) → AreAmong
         ((shelves_of (R.view rack.new)).holds n) ((shelves_of (R.view rack.old)).holds n)) }
+    ensures err_disks { IsTrue R.tells →
+        OnErr result (LeavesAllDisks (R.view rack.old) (R.view rack.new)) }
     ensures err_home { OnErr result ((n : ℕ) → (shelves_of (R.view rack.old)).out n ≡ false
         → (shelves_of (R.view rack.new)).out n ≡ false) }
     ensures failed { IsErrOf result RackFault.Failed →
@@ -69,6 +71,7 @@ pub fn give_trio<D: Disk, R: Rack<D>>(rack: &mut R, shelf: u32, disks: Disks<D>)
     requires shelf { shelf < 16 }
     ensures images { IsTrue R.tells → IsTrue D.tells →
         AreAmong ((shelves_of (R.view rack.new)).holds shelf) (trio_view disks).images }
+    ensures each { IsTrue R.tells → AreGivenTo (R.view rack.new) shelf disks }
     ensures others { (n : ℕ) → n ≢ shelf → AreAmong
         ((shelves_of (R.view rack.new)).holds n) ((shelves_of (R.view rack.old)).holds n) }
     ensures home { (shelves_of (R.view rack.new)).out shelf ≡ false }
