@@ -40,8 +40,8 @@ fn first_closed(closed: &Closed, names: &[TxName]) -> Option<TxName>
     None
 }
 
-// Why a page can't be answered at this clock.
-fn why_not(
+/// Why a page of an instance can't be answered at this clock; none where it can. The page stands in the instance.
+pub fn why_not(
     clock: u64,
     instance: &Numbered<KeptInstance>,
     page: &Numbered<KeptPage>,

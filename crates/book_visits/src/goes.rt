@@ -93,6 +93,21 @@ fn uses_after(
     Ok(uses)
 }
 
+/// So many pages of those that are not evicted, the least used first, once the segment of this number answered one.
+pub fn first_to_go(
+    alloc: Global,
+    shown: &InOrder<KeptPage>,
+    answered: u64,
+    number: u64,
+    count: usize,
+) -> Result<Vec<u64>, AllocError>
+    ensures { IfOk result (λ pages.
+        pages.items ≡ least_used count (used_by answered number (used_of shown.now))) }
+{
+    let used = uses_after(alloc, shown, answered, number)?;
+    least_used(alloc, used, count)
+}
+
 /// The pages that go where the segment of this number answers one and shows a page, so that no more than so many are left.
 pub fn goes_for(
     alloc: Global,

@@ -1,4 +1,4 @@
-//! Visits of a book: admission, the ticket of one, and what its segment comes to: for the shelf.
+//! Visits of a book: admission, the ticket of one, and what its segment comes to: for the shelf and the audit.
 #![tactic(auto)]
 
 ghost use Rattle.instance_book.specs.Places.{OneMoreHasItsState};
@@ -14,7 +14,8 @@ mod shown;
 mod take;
 mod ticket;
 
-pub use admission::admit;
+pub use admission::{admit, why_not};
+pub use goes::first_to_go;
 pub use installing::install;
 pub use prepared::Prepared;
 pub use preparing::prepare;

@@ -54,7 +54,7 @@ late_is format low library b c state =
 
 -- ---- what a page goes on from looks at no journal
 
-script_beside : (library : Library) (x : Beside) (b : Book) (c : Change) → script_for (book_of library x b) c ≡ script_for (book_under library b) c
+pub script_beside : (library : Library) (x : Beside) (b : Book) (c : Change) → script_for (book_of library x b) c ≡ script_for (book_under library b) c
 script_beside library x b (opens o) = refl
 script_beside library x b (extends e) = refl
 script_beside library x b (ends e) = refl

@@ -35,7 +35,7 @@ use Rattle.book_redo.proofs.Landed.{opening_in, opening_is, extension_in, extens
 use Rattle.journal_spec.specs.Before.{state_at, links_behind, before_told}
 use Rattle.journal_spec.specs.Retaking.{arena_of, script_for}
 use Rattle.older_records.specs.declared.behind.Behind.{Behind}
-use Rattle.older_records.specs.Behind.{StartsBehind, AnswersBehind, TellsBehind, GoesOnOwn, AnswersOwn, OwnsBehind, OwnsAnswer}
+use Rattle.older_records.specs.Behind.{IsStoredFrom, StartsBehind, AnswersBehind, TellsBehind, GoesOnOwn, AnswersOwn, OwnsBehind, OwnsAnswer}
 
 -- ---- a start
 
@@ -47,6 +47,11 @@ starts_tell library b k (Some y) start x is = λ earlier states.
       before = sym (ap (λ (n : ℕ). behind_at n (origin_of y.from)) start.links_are);
       stored = subst (λ (d : Option Suspended). IsStoredBefore (arena_of (named_of y.script.now).script) d) (sym start.none) tt;
     }
+
+-- a start goes on from nothing, which asks nothing of its script
+pub start_stored : (library : Library) (k : ℕ) (o : Option Behind) → StartsBehind library k o → IfSome o IsStoredFrom
+start_stored library k None none = tt
+start_stored library k (Some y) start = subst (λ (d : Option Suspended). IsStoredBefore (arena_of (named_of y.script.now).script) d) (sym start.none) tt
 
 pub of_start : (library : Library) (b : Book) (r : PageRecord) (k : ℕ) (o : Option Behind) → told.origin_of r.origin ≡ fields.start k → StartsBehind library k o
     → TellsBehind library b (page_change r) o
@@ -75,7 +80,7 @@ pub answer_none : (library : Library) (b : Book) (instance page : ℕ) → IsPla
 answer_none library b instance page none x k m =
     ap (λ (p : Option Place). p >>= (λ at. Some at.instance.script)) (at_numbers library b instance page x k m ∙ sym none)
 
-stored_origin : (a : Arena) (o : Option Suspended) → IsStoredScript a o → IsStoredBefore a o
+pub stored_origin : (a : Arena) (o : Option Suspended) → IsStoredScript a o → IsStoredBefore a o
 stored_origin a None h = tt
 stored_origin a (Some d) h = h
 

@@ -89,7 +89,7 @@ lands_beside library beside b (ends e) h = h
 lands_beside library beside b (finishes f) h = h
 lands_beside library beside b (sweeps tick) h = h
 
-own_beside : (library : Library) (beside : Beside) (b : Book) (c : Change) → own_told (book_of library beside b) c ≡ own_told (book_under library b) c
+pub own_beside : (library : Library) (beside : Beside) (b : Book) (c : Change) → own_told (book_of library beside b) c ≡ own_told (book_under library b) c
 own_beside library beside b (opens o) = refl
 own_beside library beside b (extends x) = refl
 own_beside library beside b (ends e) = refl

@@ -321,3 +321,8 @@ pub from_none : (x : Behind) (b : Book) (p : PageRecord) (instance page : ℕ) (
     → record_views.origin_of p.origin ≡ fields.answered instance page answer → None ≡ cells_at instance b → RunsFrom x b p (record_views.origin_of p.origin) None
 from_none x b p instance page answer origin none =
     subst (λ (o : fields.Origin). RunsFrom x b p o None) (sym origin) (λ vs is. absurd (let both : None ≡ Some vs = none ∙ is in let no : ⊥ = cc in no))
+
+pub comes_if : (library : Library) (b : Book) (p : PageRecord) (x : Behind) (r : Result (Option stored.Suspended) AllocError) → CanRunAgain library b → GoesOnOwn library b (page_change p) x
+    → IfOk r (RunsFrom x b p (record_views.origin_of p.origin)) → IfOk r (ComesTo library b (page_change p))
+comes_if library b p x (Ok d) can own runs = comes_of library b p (record_views.origin_of p.origin) x d refl can own runs
+comes_if library b p x (Err e) can own runs = tt

@@ -6,5 +6,7 @@ pub mod Left
 pub mod Over
 pub mod Quiet
 pub mod Respelled
+pub mod SameStates
 pub mod Shown
 pub mod Spelled
+pub mod ToldState

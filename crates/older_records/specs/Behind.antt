@@ -1,5 +1,6 @@
 -- What the page of a record goes on from, and how its state is written behind that.
-use Rattle.std.specs.Prelude.{◌≡◌, ℕ, List, Option, Some, None, slice_get, IfSome, ⊤}
+use Rattle.std.specs.Prelude.{◌≡◌, ℕ, List, Option, Some, None, option_map, slice_get, IfSome, ⊤}
+use Rattle.std.specs.Borrow.{Bor}
 use Rattle.script_nodes.specs.Setup.{Library}
 use Rattle.script_nodes.specs.Views.{named_of}
 use Rattle.replay_spec.specs.Book as spec
@@ -52,6 +53,10 @@ StartsBehind library script (Some x) = IsStart library script x
 -- what an answer to this page goes on from
 abbrev pub AnswersBehind : Library → Book → (instance page : ℕ) → Option Behind → Type 0
 AnswersBehind library b instance page o = (x : Extension) → x.instance ≡ instance → x.page ≡ page → TellsBehind library b (extends x) o
+
+-- what is lent is the state that the page's is written behind, if there is one
+abbrev pub IsWrittenBehind : Behind → Option (Bor stored.Suspended) → Type 0
+IsWrittenBehind x d = option_map (λ p. suspended_of p.now) d ≡ behind_at x.links (origin_of x.from)
 
 -- the bytes that the newest format has of a state behind that one; none where no record tells it there
 abbrev pub IsSpelledBehind : Behind → stored.Suspended → Option (List ℕ) → Type 0

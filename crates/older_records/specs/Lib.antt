@@ -2,3 +2,4 @@ pub mod Again
 pub mod Behind
 pub mod Renewing
 pub mod Runs
+pub mod Told

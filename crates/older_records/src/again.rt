@@ -5,7 +5,7 @@ ghost use Rattle.instance_cells.specs.Views.{effect_of};
 ghost use Rattle.machine_states.specs.Views.{suspended_of, state_of};
 ghost use Rattle.instance_book.specs.Makes.{HasPlaces, HasSomeStates, HasItsStates};
 ghost use Rattle.journal_records.specs.Views.{origin_of, page_change};
-ghost use Rattle.older_records.specs.Again.{CanRunAgain, IsLeftBy};
+ghost use Rattle.older_records.specs.Again.{CanRunAgain, ComesTo, IsLeftBy};
 ghost use Rattle.older_records.specs.Behind.{IsStoredFrom};
 ghost use Rattle.older_records.specs.Runs.{kind_in, ShowsSo, RunsTo, RunsFrom};
 
@@ -39,8 +39,8 @@ fn is_same_effect(left: &Effect, right: &Effect) -> bool
     }
 }
 
-// Whether these are the same effects, in the same order.
-fn are_same_effects(left: &[Effect], right: &[Effect]) -> bool
+/// Whether these are the same effects, in the same order.
+pub fn are_same_effects(left: &[Effect], right: &[Effect]) -> bool
     ensures { IsTrue result ↔ (map effect_of left.now ≡ map effect_of right.now) }
 {
     let mut left = left;
@@ -163,6 +163,28 @@ fn left_again(
             Some(cells) => left_over(alloc, behind, page, book.shelf(), *instance, answer, cells),
             None => Ok(None),
         },
+    }
+}
+
+/// The state that a page's script leaves there, where it comes to the page of the record again with these effects and transactions
+/// left; none where it does not.
+///
+/// It runs the script from what the page before has, over the instance's cells, with the most fuel that a shelf may have.
+pub fn state_left(
+    alloc: Global,
+    book: &Book,
+    library: &Library,
+    page: &PageRecord,
+) -> Result<Option<Suspended>, AllocError>
+    requires placed { HasPlaces (library_of library.now).all book.now }
+    requires kept { HasSomeStates (library_of library.now).all book.now }
+    requires own { HasItsStates (library_of library.now).all book.now }
+    requires runs { CanRunAgain (library_of library.now) book.now }
+    ensures { IfOk result (ComesTo (library_of library.now) book.now (page_change page.now)) }
+{
+    match behind_of(alloc, book, library, page)? {
+        Some(behind) => left_again(alloc, book, &behind, page),
+        None => Ok(None),
     }
 }
 

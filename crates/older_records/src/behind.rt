@@ -1,8 +1,8 @@
-ghost use Rattle.std.specs.Prelude.{IfOk};
+ghost use Rattle.std.specs.Prelude.{IfOk, IfSome};
 ghost use Rattle.script_nodes.specs.Views.{library_of};
 ghost use Rattle.instance_book.specs.Makes.{HasPlaces, HasSomeStates};
 ghost use Rattle.journal_records.specs.Views.{page_change};
-ghost use Rattle.older_records.specs.Behind.{StartsBehind, AnswersBehind, TellsBehind, OwnsAnswer, OwnsBehind, IsSpelledBehind};
+ghost use Rattle.older_records.specs.Behind.{IsStoredFrom, StartsBehind, AnswersBehind, TellsBehind, OwnsAnswer, OwnsBehind, IsWrittenBehind, IsSpelledBehind};
 
 use instance_book::{Book, origin_at, place_of_numbers};
 use journal_records::{Origin as ToldOrigin, PageRecord};
@@ -48,6 +48,7 @@ fn at_answer<'a>(
     requires kept { HasSomeStates (library_of library.now).all book.now }
     ensures told { IfOk result (AnswersBehind (library_of library.now) book.now instance page) }
     ensures own { IfOk result (OwnsAnswer (library_of library.now) book.now instance page) }
+    ensures stored { IfOk result (λ found. IfSome found IsStoredFrom) }
 {
     let Some(place) = place_of_numbers(book, library, instance, page) else {
         return Ok(None);
@@ -73,6 +74,7 @@ pub fn behind_of<'a>(
         (TellsBehind (library_of library.now) book.now (page_change page.now)) }
     ensures own { IfOk result
         (OwnsBehind (library_of library.now) book.now (page_change page.now)) }
+    ensures stored { IfOk result (λ found. IfSome found IsStoredFrom) }
 {
     match &page.origin {
         ToldOrigin::Start { script } => Ok(at_start(library, *script)),
@@ -83,6 +85,19 @@ pub fn behind_of<'a>(
 }
 
 impl Behind<'_> {
+    /// The state that the page's is written behind: that of the page that is answered, where the links ask for it.
+    pub fn before(&self) -> Option<&Suspended>
+        ensures { IsWrittenBehind self.now result }
+    {
+        if self.links == 0 {
+            return None;
+        }
+        match &self.from {
+            Origin::Start => None,
+            Origin::Page(state) => Some(state),
+        }
+    }
+
     /// The bytes that a record of the newest format has of the page's state; none where none tells it there.
     pub fn spelled(&self, alloc: Global, state: &Suspended) -> Result<Option<Bytes>, AllocError>
         ensures { IfOk result (IsSpelledBehind self.now state.now) }

@@ -1,9 +1,11 @@
 use Rattle.std.proofs.Common.{subst, Option}
-use Rattle.script_nodes.specs.Views.{library_of}
+use Rattle.script_nodes.specs.Views.{library_of, named_of}
+use Rattle.machine_states.specs.Views.{origin_of}
 use Rattle.instance_book.specs.declared.place.Place.{Place}
 use Rattle.instance_book.specs.Places.{given}
 use Rattle.instance_book.specs.Standing.{IsPlaceOf}
-use Rattle.older_records.proofs.Before.{answer_none, answer_some, answer_owns}
+use Rattle.journal_spec.specs.Retaking.{arena_of}
+use Rattle.older_records.proofs.Before.{stored_origin, answer_none, answer_some, answer_owns}
 use Rattle.older_records.proofs.behind.at_answer.Goals as goal
 
 pub origin_at-requires : goal.origin_at-requires
@@ -27,3 +29,6 @@ pub returns-clause-own : goal.returns-clause-own
 returns-clause-own c has =
     answer_owns (library_of c.args.library.now) c.args.book.now c.args.instance c.args.page c.in-Some.place c.in_ok-from.from c.next_links.result
     c.in-Some.ensures.place c.in-Some.ensures.placed c.in-Some.ensures.states c.in_ok-from.ensures.origin c.in_ok-from.ensures.stored has
+
+pub returns-clause-stored : goal.returns-clause-stored
+returns-clause-stored c = stored_origin (arena_of (named_of c.in-Some.place.script.now).script) (origin_of c.in_ok-from.from) c.in_ok-from.ensures.stored

@@ -3,7 +3,7 @@ use Rattle.script_nodes.specs.Views.{library_of}
 use Rattle.journal_records.specs.Views.{origin_of}
 use Rattle.journal_records.specs.declared.records.Origin.{Origin}
 use Rattle.script_value.specs.Views.{meaning}
-use Rattle.older_records.proofs.Before.{of_start, of_answer_if, own_start, own_answer_if}
+use Rattle.older_records.proofs.Before.{start_stored, of_start, of_answer_if, own_start, own_answer_if}
 use Rattle.older_records.proofs.behind.behind_of.Goals as goal
 
 pub returns-in-Start-clause-told : goal.returns-in-Start-clause-told
@@ -23,3 +23,6 @@ pub returns-in-Answer-clause-own : goal.returns-in-Answer-clause-own
 returns-in-Answer-clause-own c =
     own_answer_if (library_of c.args.library.now) c.args.book.now c.args.page.now c.in-Answer.instance c.in-Answer.page (meaning c.in-Answer.answer) c.at_answer.result
     (ap (λ (o : Origin). origin_of o) c.in-Answer.is) c.at_answer.ensures.own
+
+pub returns-in-Start-clause-stored : goal.returns-in-Start-clause-stored
+returns-in-Start-clause-stored c = start_stored (library_of c.args.library.now) c.in-Start.script c.at_start.result c.at_start.ensures
