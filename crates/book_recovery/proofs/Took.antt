@@ -90,7 +90,7 @@ again_at : (shelf : ℕ) (alone : Bool) (seen : InOrder (Unit {0})) (b : kept.Bo
     → (n : ℕ) (f : File) → book_of library (beside_file n f) b ≡ reopened (book_of library (beside_file n f) b)
 again_at shelf alone seen b library way n f = ap (λ (x : Book). record x { length = n; file = f }) way.orderly.again
 
-is_made : (alone : Bool) (w : Made) → made_in_making (making_of alone w) ≡ Some w
+pub is_made : (alone : Bool) (w : Made) → made_in_making (making_of alone w) ≡ Some w
 is_made true w = refl
 is_made false w = refl
 

@@ -1,4 +1,4 @@
-//! The book that the records of a journal make, with the scripts that they told: for the shelf, when it is opened.
+//! The book that the records of a journal make, with the scripts that they told: for the shelf's opening and the audit.
 #![tactic(auto)]
 
 mod found;
@@ -9,3 +9,4 @@ mod sound;
 
 pub use found::{Found, ReadBook};
 pub use read::read_book;
+pub use sound::SoundReader;

@@ -6,7 +6,7 @@ use page_journal::Take;
 use std::alloc::Global;
 use std::marker::Model;
 
-/// A reader whose book, if it has made one, can go on.
+/// Makes the book of a shelf from the records of its journal, as they are handed to it one by one. Its book, if it has made one, can go on.
 #[derive(Drop)]
 pub struct SoundReader {
     reader: Reader,
@@ -57,6 +57,21 @@ impl SoundReader {
                 anew: Vec::new(alloc),
             },
         }
+    }
+
+    /// What was made of the records so far.
+    pub fn found(&self) -> &Found
+        ensures found { result.now ≡ self.now.found }
+        ensures sound { IsSoundReader self.now }
+    {
+        &self.reader.found
+    }
+
+    /// The numbers that the records told of so far.
+    pub fn seen(&self) -> &InOrder<()>
+        ensures seen { result.now ≡ self.now.seen }
+    {
+        &self.reader.seen
     }
 
     /// What was made of the records, what is known of their file, and the bodies that the newest format has of them.
