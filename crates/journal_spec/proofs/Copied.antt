@@ -18,7 +18,7 @@ use Rattle.replay_spec.proofs.Recovered.{Unseen, new_number, place_is}
 use Rattle.replay_spec.proofs.Living.{lives, mend_lives, mend_dead, keeps_commute, without_dead, opened_lives, opened_dead}
 use Rattle.replay_spec.proofs.Compacted.{more_among, with_less, line_orderly, place_lives}
 use Rattle.value_bytes.specs.Laws.{AreBytes}
-use Rattle.journal_records.specs.Records.{changes, renews}
+use Rattle.journal_records.specs.Records.{Record, changes, renews}
 use Rattle.journal_records.specs.Reading.{read_record}
 use Rattle.journal_records.specs.Old.{read_record_in}
 use Rattle.journal_spec.specs.Before.{Made, plain}
@@ -26,12 +26,11 @@ use Rattle.journal_spec.specs.Retaking.{Told, unread, misread, told_in, if_held,
 use Rattle.journal_spec.specs.Making.{Texts, Making, made, beside, made_in}
 use Rattle.journal_spec.specs.Old.{told_of, landing_of, with_bodies_at}
 use Rattle.journal_spec.specs.Reading.{AreAllBytes}
-use Rattle.journal_spec.specs.Owning.{IsOwnState, IsOwnRecord, IsOwnRecordIn}
 use Rattle.journal_spec.specs.Copying.{inside_told, Entry, tells, settles, body_in, then_entry, entries_after, state_now, body_now, entry_by, entries}
 use Rattle.journal_spec.proofs.Retaken.{landing_is, retaken_orderly}
 use Rattle.journal_spec.proofs.Telling.{IsQuiet, quiet_if}
 use Rattle.journal_spec.proofs.Beside.{Beside, held_beside, told_start, told_answer, lands_beside, kept_states, left_states}
-use Rattle.journal_spec.proofs.OwnStates.{state_beside, own_by, HoldsEntry, HoldEntries, AreOwnFrom}
+use Rattle.journal_spec.proofs.OwnStates.{HoldsEntry, HoldEntries, HoldFrom}
 use Rattle.journal_spec.proofs.Walking.{Step, turns, lands, passes, moved, step_orderly, Reads, Onward, onward}
 
 -- ---- what holds of entries
@@ -66,39 +65,39 @@ abbrev pub HasLines : List Instance → (m k : Made) → Type 0
 HasLines ls m k = k.book.file.lines ≡ filter (stays ls) m.book.file.lines
 
 -- Entries land one after the other, and make what goes beside what all bodies make; where each body is copied, with the lines that stay, and each
--- is bytes; and where the states of all bodies are own, those of the entries are.
-pub record Walked (same owned : Type 0) (sure : List ℕ → Type 0) (ls : List Instance) (texts : Texts) (e : Made) (es : List Entry) (k : Made) : Type 0 where
+-- is bytes; and where this is so, a fact holds of each.
+pub record Walked (P : Made → Option Record → Type 0) (same owned : Type 0) (sure : List ℕ → Type 0) (ls : List Instance) (texts : Texts) (e : Made) (es : List Entry) (k : Made) : Type 0 where
   pub taken : AreTakenEntries es k
   pub facts : AreFacts sure texts e.book.logged es
   pub at_end : Beside ls e (entries_after es k)
   pub lines : same → HasLines ls e (entries_after es k)
   pub small : same → AreAllBytes (map body_in es)
-  pub own : owned → HoldEntries IsOwnRecord es k
+  pub own : owned → HoldEntries P es k
 
 -- what holds of an entry that is written behind others
-record Next (same owned : Type 0) (sure : List ℕ → Type 0) (texts : Texts) (top : ℕ) (x : Entry) (k j : Made) : Type 0 where
+record Next (P : Made → Option Record → Type 0) (same owned : Type 0) (sure : List ℕ → Type 0) (texts : Texts) (top : ℕ) (x : Entry) (k j : Made) : Type 0 where
   is : then_entry x k ≡ j
   taken : IsTakenEntry k x
   read : IsReadEntry sure texts x
   below : IsBelowEntry top x
   small : same → AreBytes (body_in x)
-  own : owned → HoldsEntry IsOwnRecord k x
+  own : owned → HoldsEntry P k x
 
-walked_cons : (same here owned : Type 0) (sure : List ℕ → Type 0) (ls : List Instance) (texts : Texts) (e : Made) (x : Entry) (es : List Entry) (k j : Made)
-    → Next same here sure texts e.book.logged x k j → Walked same owned sure ls texts e es j → Walked same (here × owned) sure ls texts e (x ∷ es) k
-walked_cons same here owned sure ls texts e x es k j next w = record {
+walked_cons : (P : Made → Option Record → Type 0) (same here owned : Type 0) (sure : List ℕ → Type 0) (ls : List Instance) (texts : Texts) (e : Made) (x : Entry) (es : List Entry) (k j : Made)
+    → Next P same here sure texts e.book.logged x k j → Walked P same owned sure ls texts e es j → Walked P same (here × owned) sure ls texts e (x ∷ es) k
+walked_cons P same here owned sure ls texts e x es k j next w = record {
   taken = (next.taken, subst (AreTakenEntries es) (sym next.is) w.taken);
   facts = ((next.read, next.below), w.facts);
   at_end = subst (λ (y : Made). Beside ls e (entries_after es y)) (sym next.is) w.at_end;
   lines = λ p. subst (λ (y : Made). HasLines ls e (entries_after es y)) (sym next.is) (w.lines p);
   small = λ p. (next.small p, w.small p);
-  own = λ o. (next.own o.0, subst (HoldEntries IsOwnRecord es) (sym next.is) (w.own o.1));
+  own = λ o. (next.own o.0, subst (HoldEntries P es) (sym next.is) (w.own o.1));
 }
 
 -- a body without an entry asks for nothing
-walked_past : (same here owned : Type 0) (sure : List ℕ → Type 0) (ls : List Instance) (texts : Texts) (e : Made) (es : List Entry) (k : Made) → Walked same owned sure ls texts e es k
-    → Walked same (here × owned) sure ls texts e es k
-walked_past same here owned sure ls texts e es k w =
+walked_past : (P : Made → Option Record → Type 0) (same here owned : Type 0) (sure : List ℕ → Type 0) (ls : List Instance) (texts : Texts) (e : Made) (es : List Entry) (k : Made) → Walked P same owned sure ls texts e es k
+    → Walked P same (here × owned) sure ls texts e es k
+walked_past P same here owned sure ls texts e es k w =
     record { taken = w.taken; facts = w.facts; at_end = w.at_end; lines = w.lines; small = w.small; own = λ o. w.own o.1 }
 
 -- the body of a change in the newest format is read so where it may be written, and tells of its page what was told
@@ -117,6 +116,12 @@ pub record Rewrites (f : ℕ) (same : Type 0) (sure : List ℕ → Type 0) (ls :
       → Onward m e → Onward (retaken (length body) c (Some names) (told_of f m c state) m) e
       → IsWritten sure m c (state_now f m c state) (told_of f m c state) (body_now f m body c state)
   pub copied : same → (m : Made) (body : List ℕ) (c : Change) (state : Option (List ℕ)) → body_now f m body c state ≡ body
+
+-- A fact of this format's records is carried to their copies: it holds of each setup, and of a change that stays, of whose page the same is told.
+pub record IsCarried (f : ℕ) (ls : List Instance) (In P : Made → Option Record → Type 0) : Type 0 where
+  pub setups : (k : Made) (named : List (List ℕ × List ℕ)) → P k (Some (renews named))
+  pub stays : (m k : Made) (c : Change) (state bytes : Option (List ℕ)) → Beside ls m k → stays_in ls c ≡ true → told_in k.earlier k.book c bytes ≡ told_of f m c state
+      → In m (Some (changes c state)) → P k (Some (changes c bytes))
 
 -- ---- a record that stays
 
@@ -213,17 +218,18 @@ left_beside ls m k c n x inside names g gk h f stay gone = record {
 -- ---- all bodies
 
 module _ (f : ℕ) (same : Type 0) (sure : List ℕ → Type 0) (ls : List Instance) (texts : Texts) (e : Made) (Has : Made → Type 0) (r : Rewrites f same sure ls texts e Has)
+    (In P : Made → Option Record → Type 0) (carried : IsCarried f ls In P)
     (over : (n : ℕ) → instance_at n e.book.instances ≡ None → is_there n ls ≡ false) where
   -- one body, and then the others
   stepped : (owned : Type 0) (body : List ℕ) (m k : Made) (es rest : List Entry) (next : Made) → AreBytes body → IsOrderlyMade (plain m) → Has m → IsOrderlyMade (plain k) → Beside ls m k → (same → HasLines ls m k)
       → Step f ls texts body m es next → IsOrderlyMade (plain next) → Onward m e → Onward next e
-      → ((j : Made) → IsOrderlyMade (plain j) → Beside ls next j → (same → HasLines ls next j) → Walked same owned sure ls texts e rest j)
-      → Walked same (IsOwnRecordIn f m (read_record_in f body) × owned) sure ls texts e (es ++ rest) k
+      → ((j : Made) → IsOrderlyMade (plain j) → Beside ls next j → (same → HasLines ls next j) → Walked P same owned sure ls texts e rest j)
+      → Walked P same (In m (read_record_in f body) × owned) sure ls texts e (es ++ rest) k
   stepped owned body m k es rest next small g has gk h lines (turns named scripts read is) gn from on go =
       let j = beside k.earlier (resettled (length body) scripts (plain k)) in
       let l = renewed scripts (length body) in
-      walked_cons same (IsOwnRecordIn f m (read_record_in f body)) owned sure ls texts e (settles scripts body) rest k j
-      (record { is = refl; taken = tt; read = (named, (r.setups body named small read, is)); below = tt; small = λ p. small; own = λ o named. tt })
+      walked_cons P same (In m (read_record_in f body)) owned sure ls texts e (settles scripts body) rest k j
+      (record { is = refl; taken = tt; read = (named, (r.setups body named small read, is)); below = tt; small = λ p. small; own = λ o named. carried.setups k named })
       (go j (line_orderly l (plain k) gk)
       (record {
         shelf = h.shelf;
@@ -237,7 +243,7 @@ module _ (f : ℕ) (same : Type 0) (sure : List ℕ → Type 0) (ls : List Insta
       })
       (λ p. ap (λ (ms : List Line). ms ++ l ∷ []) (lines p) ∙ sym (lines_more ls l true m.book.file.lines refl)))
   stepped owned body m k es rest next small g has gk h lines (passes c state read told_so none) gn from on go =
-      walked_past same (IsOwnRecordIn f m (read_record_in f body)) owned sure ls texts e rest k
+      walked_past P same (In m (read_record_in f body)) owned sure ls texts e rest k
       (go k gk
       (record {
         shelf = h.shelf;
@@ -254,7 +260,7 @@ module _ (f : ℕ) (same : Type 0) (sure : List ℕ → Type 0) (ls : List Insta
       let x = told_of f m c state in
       let n = length body in
       let lands_so = r.reads.lands m c state names g has some in
-      walked_past same (IsOwnRecordIn f m (read_record_in f body)) owned sure ls texts e rest k
+      walked_past P same (In m (read_record_in f body)) owned sure ls texts e rest k
       (go k gk
       (left_beside ls m k c n x (inside_told x) names g gk h lands_so stay
       (λ i used none. over i (on.gone i (λ unseen. used (λ there. unseen (more_among c m.earlier.seen i there))) none)))
@@ -277,14 +283,14 @@ module _ (f : ℕ) (same : Type 0) (sure : List ℕ → Type 0) (ls : List Insta
       (names, (ap (λ (y : Told). landing k c (inside_told y)) alike ∙ fk, λ mis. told_so (sym alike ∙ mis))) in
       let orderly : IsOrderlyMade (plain j) = subst (λ (o : Option (List TxName)). IsOrderlyMade (plain (retaken p c o x k))) fk (retaken_orderly p c (inside_told x) x k gk) in
       let below : logged_by c ≤ e.book.logged = let rises = on.rises in omega (arith, rises) in
-      walked_cons same (IsOwnRecordIn f m (read_record_in f body)) owned sure ls texts e (tells c bytes its) rest k j
+      walked_cons P same (In m (read_record_in f body)) owned sure ls texts e (tells c bytes its) rest k j
       (record {
         is = is;
         taken = taken;
         read = w.read;
         below = below;
         small = λ q. subst AreBytes (sym (r.copied q m body c state)) small;
-        own = λ o. subst (IsOwnState k.book c) (sym alike) (own_by k.book m.book c x (state_beside ls m k c h stay) (subst (IsOwnRecordIn f m) read o));
+        own = λ o. carried.stays m k c state bytes h stay alike (subst (In m) read o);
       })
       (go j orderly
       (kept_beside ls m k c n p x (inside_told x) names g gk h lands_so fk stay (λ un. quiet_if m.earlier m.book c bytes (inside_told x) names (w.told_so ∙ un) t.0) told_so)
@@ -294,9 +300,9 @@ module _ (f : ℕ) (same : Type 0) (sure : List ℕ → Type 0) (ls : List Insta
 
   pub walk : (shelf place : ℕ) (bodies : List (List ℕ)) (m k : Made) → AreAllBytes bodies → IsOrderlyMade (plain m) → Has m → IsOrderlyMade (plain k) → Beside ls m k → (same → HasLines ls m k)
       → made_in (with_bodies_at f texts shelf place bodies (made m)) ≡ Some e
-      → Walked same (AreOwnFrom f texts shelf place bodies (made m)) sure ls texts e (entries f ls texts shelf place bodies (made m)) k
+      → Walked P same (HoldFrom In f texts shelf place bodies (made m)) sure ls texts e (entries f ls texts shelf place bodies (made m)) k
   walk shelf place [] m k small g has gk h lines is =
-      subst (λ (x : Made). Walked same ⊤ sure ls texts x [] k) (let alike : m ≡ e = cc in alike)
+      subst (λ (x : Made). Walked P same ⊤ sure ls texts x [] k) (let alike : m ≡ e = cc in alike)
       (record { taken = tt; facts = tt; at_end = h; lines = lines; small = λ p. tt; own = λ o. tt })
   walk shelf place (body ∷ bodies) m k small g has gk h lines is =
       let later = place + 5 + length body in
@@ -304,9 +310,9 @@ module _ (f : ℕ) (same : Type 0) (sure : List ℕ → Type 0) (ls : List Insta
       let rest = subst (λ (x : Making). made_in (with_bodies_at f texts shelf later bodies x) ≡ Some e) go.is is in
       let gn = step_orderly f ls texts body m go.its go.then_ go.step g in
       let now = r.reads.goes_on body m go.its go.then_ small.0 go.step g has in
-      let its_own : Making → Type 0 = λ x. IsOwnRecordIn f m (read_record_in f body) × AreOwnFrom f texts shelf later bodies x in
-      subst (λ (x : Making). Walked same (its_own x) sure ls texts e (entry_by f ls texts m body (read_record_in f body) ++ entries f ls texts shelf later bodies x) k) (sym go.is)
-      (subst (λ (es : List Entry). Walked same (its_own (made go.then_)) sure ls texts e (es ++ entries f ls texts shelf later bodies (made go.then_)) k) (sym go.entry)
-      (stepped (AreOwnFrom f texts shelf later bodies (made go.then_)) body m k go.its (entries f ls texts shelf later bodies (made go.then_)) go.then_ small.0 g has gk h lines go.step gn (onward f ls texts Has r.reads shelf place (body ∷ bodies) m e small g has is)
+      let its_own : Making → Type 0 = λ x. In m (read_record_in f body) × HoldFrom In f texts shelf later bodies x in
+      subst (λ (x : Making). Walked P same (its_own x) sure ls texts e (entry_by f ls texts m body (read_record_in f body) ++ entries f ls texts shelf later bodies x) k) (sym go.is)
+      (subst (λ (es : List Entry). Walked P same (its_own (made go.then_)) sure ls texts e (es ++ entries f ls texts shelf later bodies (made go.then_)) k) (sym go.entry)
+      (stepped (HoldFrom In f texts shelf later bodies (made go.then_)) body m k go.its (entries f ls texts shelf later bodies (made go.then_)) go.then_ small.0 g has gk h lines go.step gn (onward f ls texts Has r.reads shelf place (body ∷ bodies) m e small g has is)
       (onward f ls texts Has r.reads shelf later bodies go.then_ e small.1 gn now rest)
       (λ j gj hj lj. walk shelf later bodies go.then_ j small.1 gn now gj hj lj rest)))

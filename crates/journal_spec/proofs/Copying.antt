@@ -19,15 +19,15 @@ use Rattle.journal_records.specs.Laws.{TellsNoPage, AreRecordsExact}
 use Rattle.journal_spec.specs.Before.{Earlier, Made, plain}
 use Rattle.journal_spec.specs.Making.{Texts, Making, nothing, begun, made, other, began, first_setup, first_by, with_drawn, second_by, with_body, with_bodies, made_in, book_of}
 use Rattle.journal_spec.specs.Old.{next_at, second_at, with_bodies_at, book_of_format}
-use Rattle.journal_spec.specs.Owning.{OfEach, IsOwnRecord, AreOwn, IsLandedRecord, AreLanded, AreOwnIn}
+use Rattle.journal_spec.specs.Owning.{OfEach, IsLandedRecord, AreLanded}
 use Rattle.journal_spec.specs.Reading.{AreAllBytes}
 use Rattle.journal_spec.specs.Copying.{Entry, body_in, line_of, entries_after, entry_by, entries, entries_joined, copies, SameStates, IsCompacted, IsMigrated}
 use Rattle.journal_spec.proofs.Fitting.{any_fit}
 use Rattle.journal_spec.proofs.Beside.{Beside}
-use Rattle.journal_spec.proofs.OwnStates.{HoldEntries, AreOwnFrom, own_from}
-use Rattle.journal_spec.proofs.OwnEntries.{own_joined, small_joined, landed_entries, EachFrom, of_each, each_made}
+use Rattle.journal_spec.proofs.OwnStates.{HoldEntries, HoldFrom, HoldIn, held_from}
+use Rattle.journal_spec.proofs.OwnEntries.{IsJoined, held_joined, small_joined, landed_entries, EachFrom, of_each, each_made}
 use Rattle.journal_spec.proofs.Walking.{no_book}
-use Rattle.journal_spec.proofs.Copied.{HasLines, Walked, Rewrites, walk}
+use Rattle.journal_spec.proofs.Copied.{HasLines, Walked, Rewrites, IsCarried, walk}
 use Rattle.journal_spec.proofs.Joining.{AreSure, join_entries, facts_joined, lines_joined, entries_orderly, file_of_entries, length_of_entries, logged_of_entries, bodies_made}
 
 -- what tells no page is a record of the newest format too
@@ -70,24 +70,24 @@ first_is f texts shelf n later bodies m (Some (begins s named)) is =
     by_setup (Some scripts) here = by_test scripts (s == shelf) here
 
 -- what stands behind the first record, and behind one that tells of a compaction
-record Second (f : ℕ) (ls : List Instance) (texts : Texts) (shelf place : ℕ) (bodies : List (List ℕ)) (first e : Made) : Type 0 where
+record Second (In : Made → Option Record → Type 0) (f : ℕ) (ls : List Instance) (texts : Texts) (shelf place : ℕ) (bodies : List (List ℕ)) (first e : Made) : Type 0 where
   from : Made
   later : ℕ
   rest : List (List ℕ)
   small : AreAllBytes rest
   is : made_in (with_bodies_at f texts shelf later rest (made from)) ≡ Some e
   same : entries f ls texts shelf place bodies (begun first) ≡ entries f ls texts shelf later rest (made from)
-  own : AreOwnFrom f texts shelf place bodies (begun first) → AreOwnFrom f texts shelf later rest (made from)
+  own : HoldFrom In f texts shelf place bodies (begun first) → HoldFrom In f texts shelf later rest (made from)
   which : (from ≡ first) ⊎ ((number : ℕ) × (from ≡ with_drawn number first))
 
-second_is : (f : ℕ) (ls : List Instance) (texts : Texts) (shelf place : ℕ) (bodies : List (List ℕ)) (first e : Made) → AreAllBytes bodies
-    → made_in (with_bodies_at f texts shelf place bodies (begun first)) ≡ Some e → Second f ls texts shelf place bodies first e
-second_is f ls texts shelf place [] first e small is =
+second_is : (In : Made → Option Record → Type 0) (f : ℕ) (ls : List Instance) (texts : Texts) (shelf place : ℕ) (bodies : List (List ℕ)) (first e : Made) → AreAllBytes bodies
+    → made_in (with_bodies_at f texts shelf place bodies (begun first)) ≡ Some e → Second In f ls texts shelf place bodies first e
+second_is In f ls texts shelf place [] first e small is =
     record { from = first; later = place; rest = []; small = tt; is = is; same = refl; own = λ o. tt; which = inl refl }
-second_is f ls texts shelf place (body ∷ bodies) first e small is = by_record (read_record_in f body) refl
+second_is In f ls texts shelf place (body ∷ bodies) first e small is = by_record (read_record_in f body) refl
   where
     plainly : (r : Option Record) → read_record_in f body ≡ r → second_at f texts place (length body) first r ≡ next_at f texts place (length body) first r
-        → Second f ls texts shelf place (body ∷ bodies) first e
+        → Second In f ls texts shelf place (body ∷ bodies) first e
     plainly r read alike =
         let one : second_at f texts place (length body) first (read_record_in f body) ≡ next_at f texts place (length body) first (read_record_in f body) =
         ap (second_at f texts place (length body) first) read ∙ (alike ∙ sym (ap (next_at f texts place (length body) first) read)) in
@@ -98,11 +98,11 @@ second_is f ls texts shelf place (body ∷ bodies) first e small is = by_record 
           small = small;
           is = ap (λ (x : Making). made_in (with_bodies_at f texts shelf (place + 5 + length body) bodies x)) (sym one) ∙ is;
           same = ap (λ (x : Making). entry_by f ls texts first body (read_record_in f body) ++ entries f ls texts shelf (place + 5 + length body) bodies x) one;
-          own = λ o. (o.0, subst (AreOwnFrom f texts shelf (place + 5 + length body) bodies) one o.1);
+          own = λ o. (o.0, subst (HoldFrom In f texts shelf (place + 5 + length body) bodies) one o.1);
           which = inl refl;
         }
 
-    by_record : (r : Option Record) → read_record_in f body ≡ r → Second f ls texts shelf place (body ∷ bodies) first e
+    by_record : (r : Option Record) → read_record_in f body ≡ r → Second In f ls texts shelf place (body ∷ bodies) first e
     by_record (Some (draws number)) read = record {
       from = with_drawn number first;
       later = place + 5 + length body;
@@ -110,7 +110,7 @@ second_is f ls texts shelf place (body ∷ bodies) first e small is = by_record 
       small = small.1;
       is = ap (λ (r : Option Record). made_in (with_bodies_at f texts shelf (place + 5 + length body) bodies (second_at f texts place (length body) first r))) (sym read) ∙ is;
       same = ap (λ (r : Option Record). entry_by f ls texts first body r ++ entries f ls texts shelf (place + 5 + length body) bodies (second_at f texts place (length body) first r)) read;
-      own = λ o. subst (λ (r : Option Record). AreOwnFrom f texts shelf (place + 5 + length body) bodies (second_at f texts place (length body) first r)) read o.1;
+      own = λ o. subst (λ (r : Option Record). HoldFrom In f texts shelf (place + 5 + length body) bodies (second_at f texts place (length body) first r)) read o.1;
       which = inr (number, refl);
     }
     by_record None read = plainly None read refl
@@ -148,7 +148,7 @@ drawn_orderly shelf n number scripts = first_orderly shelf (record (first_file (
 
 -- ---- what copies make
 
-module _ (same owned : Type 0) (sure : List ℕ → Type 0) (texts : Texts) (shelf n : ℕ) (scripts : List Named) (m : Made) (es : List Entry) (again : m.book ≡ reopened m.book) where
+module _ (P : Made → Option Record → Type 0) (same owned : Type 0) (sure : List ℕ → Type 0) (texts : Texts) (shelf n : ℕ) (scripts : List Named) (m : Made) (es : List Entry) (again : m.book ≡ reopened m.book) where
   abbrev start : Made
   start = with_drawn m.book.logged (began shelf n scripts)
 
@@ -156,7 +156,7 @@ module _ (same owned : Type 0) (sure : List ℕ → Type 0) (texts : Texts) (she
   is = m.book.instances
 
   -- the book behind the copies is the one that was compacted, but for its length and its file
-  made_again : Walked same owned sure is texts m es start → let k = entries_after (entries_joined es) start in
+  made_again : Walked P same owned sure is texts m es start → let k = entries_after (entries_joined es) start in
       (size : ℕ) (file : File) → k.book.length ≡ size → k.book.file ≡ file → k.book ≡ record m.book { length = size; file = file }
   made_again w size file size_is file_is =
       let mid = entries_after es start in
@@ -171,14 +171,14 @@ module _ (same owned : Type 0) (sure : List ℕ → Type 0) (texts : Texts) (she
       let parts = parts_same k.book m.book size file (like.shelf ∙ h.shelf) (like.scripts ∙ h.scripts) (like.clock ∙ h.clock) logged size_is file_is (like.instances ∙ whole) in
       after ∙ (parts ∙ ap (λ (y : Book). record y { length = size; file = file }) (sym again))
 
-  same_states : Walked same owned sure is texts m es start → SameStates is m.earlier (entries_after (entries_joined es) start).earlier
+  same_states : Walked P same owned sure is texts m es start → SameStates is m.earlier (entries_after (entries_joined es) start).earlier
   same_states w =
       let mid = entries_after es start in
       let joined = join_entries es start w.taken in
       let whole : mid.book.instances ≡ is = w.at_end.instances ∙ all_live is is (λ i e. e) in
       subst (λ (e : Earlier). SameStates is m.earlier e) (sym joined.1.earlier) (subst (λ (js : List Instance). SameStates js m.earlier mid.earlier) whole w.at_end.states)
 
-  pub compacted : Walked same owned sure is texts m es start → IsMigrated m (entries_after (entries_joined es) start) × (same → IsCompacted m (entries_after (entries_joined es) start))
+  pub compacted : Walked P same owned sure is texts m es start → IsMigrated m (entries_after (entries_joined es) start) × (same → IsCompacted m (entries_after (entries_joined es) start))
   compacted w =
       let mid = entries_after es start in
       let ts = entries_joined es in
@@ -203,7 +203,7 @@ module _ (same owned : Type 0) (sure : List ℕ → Type 0) (texts : Texts) (she
       )
 
   pub copied : AreRecordsExact → m.book.logged < numbers_end + 1 → (first : List ℕ) → first_by texts shelf 8 (length first) (read_record first) ≡ begun (began shelf n scripts)
-      → Walked same owned sure is texts m es start → AreSure sure (map body_in (entries_joined es))
+      → Walked P same owned sure is texts m es start → AreSure sure (map body_in (entries_joined es))
       → made_in (book_of texts shelf (first ∷ (body_of (draws m.book.logged) ∷ map body_in (entries_joined es)))) ≡ Some (entries_after (entries_joined es) start)
   copied x low first at_first w all =
       let d = body_of (draws m.book.logged) in
@@ -216,10 +216,10 @@ module _ (same owned : Type 0) (sure : List ℕ → Type 0) (texts : Texts) (she
 
   -- what holds of each entry that is left holds of each body of the file
   pub each_copied : AreRecordsExact → m.book.logged < numbers_end + 1 → (first : List ℕ) → first_by texts shelf 8 (length first) (read_record first) ≡ begun (began shelf n scripts)
-      → Walked same owned sure is texts m es start → AreSure sure (map body_in (entries_joined es))
-      → (P : Made → Option Record → Type 0) → ((k : Made) (number : ℕ) → P k (Some (draws number))) → HoldEntries P (entries_joined es) start
-      → OfEach P texts shelf (first ∷ (body_of (draws m.book.logged) ∷ map body_in (entries_joined es)))
-  each_copied x low first at_first w all P drawn held =
+      → Walked P same owned sure is texts m es start → AreSure sure (map body_in (entries_joined es))
+      → (Q : Made → Option Record → Type 0) → ((k : Made) (number : ℕ) → Q k (Some (draws number))) → HoldEntries Q (entries_joined es) start
+      → OfEach Q texts shelf (first ∷ (body_of (draws m.book.logged) ∷ map body_in (entries_joined es)))
+  each_copied x low first at_first w all Q drawn held =
       let d = body_of (draws m.book.logged) in
       let p = 8 + 5 + length first in
       let later = p + 5 + length d in
@@ -228,12 +228,12 @@ module _ (same owned : Type 0) (sure : List ℕ → Type 0) (texts : Texts) (she
       let behind : with_body texts shelf p d (with_body texts shelf 8 first nothing) ≡ made start =
       ap (with_body texts shelf p d) at_first ∙ ap (second_by texts p (length d) (began shelf n scripts)) back in
       let facts = facts_joined sure texts m.book.logged es w.facts in
-      of_each P texts shelf (first ∷ (d ∷ rest)) (
+      of_each Q texts shelf (first ∷ (d ∷ rest)) (
         λ k none. absurd (let no : ⊥ = cc in no),
         (
-          λ k is. subst (P k) (sym back) (drawn k m.book.logged),
-          subst (EachFrom P texts shelf later rest) (sym behind)
-              (each_made P texts shelf sure m.book.logged later (entries_joined es) start (join_entries es start w.taken).0 facts all held),
+          λ k is. subst (Q k) (sym back) (drawn k m.book.logged),
+          subst (EachFrom Q texts shelf later rest) (sym behind)
+              (each_made Q texts shelf sure m.book.logged later (entries_joined es) start (join_entries es start w.taken).0 facts all held),
         ),
       )
 
@@ -263,25 +263,25 @@ abbrev pub AtStart : (f : ℕ) → Texts → (shelf n : ℕ) → (e : Made) → 
 AtStart f texts shelf n e Has =
     (from : Made) (later : ℕ) (rest : List (List ℕ)) → AreAllBytes rest → made_in (with_bodies_at f texts shelf later rest (made from)) ≡ Some e → Starts shelf n from.book.scripts Has
 
--- What the bodies of a file of this format that stay make: its book again. Their states are own where those of the file are, none is passed over,
--- they tell of no other number, and those that are copied are bytes.
-pub record Rewritten (f : ℕ) (same : Type 0) (texts : Texts) (shelf : ℕ) (first : List ℕ) (bodies : List (List ℕ)) (m : Made) : Type 0 where
+-- What the bodies of a file of this format that stay make: its book again. A fact holds of them where one does of those of the file, none is passed
+-- over, they tell of no other number, and those that are copied are bytes.
+pub record Rewritten (In P : Made → Option Record → Type 0) (f : ℕ) (same : Type 0) (texts : Texts) (shelf : ℕ) (first : List ℕ) (bodies : List (List ℕ)) (m : Made) : Type 0 where
   pub k : Made
   pub makes : made_in (book_of texts shelf (copies f texts shelf first bodies m)) ≡ Some k
   pub migrated : IsMigrated m k
   pub compacted : same → IsCompacted m k
-  pub own : AreOwnIn f texts shelf (first ∷ bodies) → AreOwn texts shelf (copies f texts shelf first bodies m)
+  pub held : HoldIn In f texts shelf (first ∷ bodies) → OfEach P texts shelf (copies f texts shelf first bodies m)
   pub landed : AreLanded texts shelf (copies f texts shelf first bodies m)
   pub seen : (i : ℕ) → Among i k.earlier.seen → Among i m.earlier.seen
   pub small : same → AreAllBytes (copies f texts shelf first bodies m)
 
--- so it is of those of whose records this holds
-pub rewritten : AreRecordsExact → (f : ℕ) (same : Type 0) (sure : List ℕ → Type 0) (texts : Texts) (shelf : ℕ) (first : List ℕ) (bodies : List (List ℕ)) (m : Made) (Has : Made → Type 0)
-    → Rewrites f same sure m.book.instances texts m Has → AtStart f texts shelf (length first) m Has
+-- so it is of those of whose records this holds, for each fact that is carried to copies
+pub rewritten : AreRecordsExact → (In P : Made → Option Record → Type 0) → IsJoined P → (f : ℕ) (same : Type 0) (sure : List ℕ → Type 0) (texts : Texts) (shelf : ℕ) (first : List ℕ) (bodies : List (List ℕ)) (m : Made) (Has : Made → Type 0)
+    → IsCarried f m.book.instances In P → Rewrites f same sure m.book.instances texts m Has → AtStart f texts shelf (length first) m Has
     → AreAllBytes (first ∷ bodies) → made_in (book_of_format f texts shelf (first ∷ bodies)) ≡ Some m
     → ((d : List ℕ) (rest : List (List ℕ)) → copies f texts shelf first bodies m ≡ first ∷ (d ∷ rest) → AreSure sure rest)
-    → Rewritten f same texts shelf first bodies m
-rewritten x f same sure texts shelf first bodies m Has r starts bytes makes all =
+    → Rewritten In P f same texts shelf first bodies m
+rewritten x In P j f same sure texts shelf first bodies m Has carried r starts bytes makes all =
     let n = length first in
     let fits = any_fit x f texts shelf (first ∷ bodies) m makes in
     let is = m.book.instances in
@@ -289,7 +289,7 @@ rewritten x f same sure texts shelf first bodies m Has r starts bytes makes all 
     let scripts = one.scripts in
     let m0 = began shelf n scripts in
     let here = ap (λ (y : Making). made_in (with_bodies_at f texts shelf (8 + 5 + n) bodies y)) (sym one.is) ∙ makes in
-    let two = second_is f is texts shelf (8 + 5 + n) bodies m0 m bytes.1 here in
+    let two = second_is In f is texts shelf (8 + 5 + n) bodies m0 m bytes.1 here in
     let start = with_drawn m.book.logged m0 in
     let es = entries f is texts shelf two.later two.rest (made two.from) in
     let setup : two.from.book.scripts ≡ scripts = ⊎_elim
@@ -310,9 +310,9 @@ rewritten x f same sure texts shelf first bodies m Has r starts bytes makes all 
     (λ (number, alike). subst (λ (y : Made). IsOrderlyMade (plain y)) (sym alike) (drawn_orderly shelf n number scripts))
     two.which in
     let has : Has two.from = ⊎_elim (λ alike. subst Has (sym alike) started.begins) (λ (number, alike). subst Has (sym alike) (started.drawn number)) two.which in
-    let owned : Type 0 = AreOwnFrom f texts shelf two.later two.rest (made two.from) in
-    let w : Walked same owned sure is texts m es start =
-    walk f same sure is texts m Has r (λ i none. none_there i is none) shelf two.later two.rest two.from start two.small orderly has (drawn_orderly shelf n m.book.logged scripts) beside (λ p. lines) two.is in
+    let owned : Type 0 = HoldFrom In f texts shelf two.later two.rest (made two.from) in
+    let w : Walked P same owned sure is texts m es start =
+    walk f same sure is texts m Has r In P carried (λ i none. none_there i is none) shelf two.later two.rest two.from start two.small orderly has (drawn_orderly shelf n m.book.logged scripts) beside (λ p. lines) two.is in
     let low : m.book.logged < numbers_end + 1 = (let few = (fits.range bytes).drawn in let again : m.book.drawn ≡ m.book.logged = ap (λ (b : Book). b.drawn) fits.again in omega (arith, few, again)) in
     let alike : entries f is texts shelf 8 (first ∷ bodies) nothing ≡ es = ap (entries f is texts shelf (8 + 5 + n) bodies) one.is ∙ two.same in
     let others : copies f texts shelf first bodies m ≡ first ∷ (body_of (draws m.book.logged) ∷ map body_in (entries_joined es)) =
@@ -322,20 +322,20 @@ rewritten x f same sure texts shelf first bodies m Has r starts bytes makes all 
     let ts = entries_joined es in
     let joined = join_entries es start w.taken in
     let may = all (body_of (draws m.book.logged)) (map body_in ts) others in
-    let whole = compacted same owned sure texts shelf n scripts m es fits.again w in
-    let its_own : AreOwnIn f texts shelf (first ∷ bodies) → owned =
-    λ own. two.own (subst (AreOwnFrom f texts shelf (8 + 5 + n) bodies) one.is (own_from f texts shelf (first ∷ bodies) own [] (first ∷ bodies) 8 nothing refl (λ bs. refl)).1) in
+    let whole = compacted P same owned sure texts shelf n scripts m es fits.again w in
+    let its_own : HoldIn In f texts shelf (first ∷ bodies) → owned =
+    λ held. two.own (subst (HoldFrom In f texts shelf (8 + 5 + n) bodies) one.is (held_from In f texts shelf (first ∷ bodies) held [] (first ∷ bodies) 8 nothing refl (λ bs. refl)).1) in
     record {
       k = entries_after ts start;
-      makes = ap (λ (bs : List (List ℕ)). made_in (book_of texts shelf bs)) others ∙ copied same owned sure texts shelf n scripts m es fits.again x low first now w may;
+      makes = ap (λ (bs : List (List ℕ)). made_in (book_of texts shelf bs)) others ∙ copied P same owned sure texts shelf n scripts m es fits.again x low first now w may;
       migrated = whole.0;
       compacted = whole.1;
-      own = λ own.
-          subst (AreOwn texts shelf) (sym others)
-          (each_copied same owned sure texts shelf n scripts m es fits.again x low first now w may IsOwnRecord (λ y number. tt) (own_joined es start w.taken (w.own (its_own own))));
+      held = λ held.
+          subst (OfEach P texts shelf) (sym others)
+          (each_copied P same owned sure texts shelf n scripts m es fits.again x low first now w may P j.drawn (held_joined P j es start w.taken (w.own (its_own held))));
       landed =
           subst (AreLanded texts shelf) (sym others)
-          (each_copied same owned sure texts shelf n scripts m es fits.again x low first now w may IsLandedRecord (λ y number. tt) (landed_entries ts start joined.0));
+          (each_copied P same owned sure texts shelf n scripts m es fits.again x low first now w may IsLandedRecord (λ y number. tt) (landed_entries ts start joined.0));
       seen = λ i there. w.at_end.seen i (subst (λ (e : Earlier). Among i e.seen) joined.1.earlier there);
       small = λ p. subst AreAllBytes (sym others) (bytes.0, (drawn_small m.book.logged, small_joined es (w.small p)));
     }

@@ -81,7 +81,7 @@ grow = (line_more, land_more, renew_more)
 
 -- ---- what can be written
 
-written_more : (texts : Texts) (ls : List Line) (l : Line) (m : Made) → AreWritten texts ls m → OneWritten texts l (lines_after ls m) → AreWritten texts (ls ++ l ∷ []) m
+pub written_more : (texts : Texts) (ls : List Line) (l : Line) (m : Made) → AreWritten texts ls m → OneWritten texts l (lines_after ls m) → AreWritten texts (ls ++ l ∷ []) m
 written_more texts [] l m h one = one
 written_more texts (changed c n ∷ ls) l m h one = (h.0, h.1, written_more texts ls l (redo (of_length n) c m) h.2 one)
 written_more texts (renewed scripts n ∷ ls) l m h one = (h.0, h.1, h.2, h.3, written_more texts ls l (resettled n scripts m) h.4 one)

@@ -28,7 +28,7 @@ use Rattle.journal_spec.proofs.Retaken.{held_script}
 use Rattle.journal_spec.proofs.Telling.{own_before_is, told_retaken, quiet_retaken}
 use Rattle.journal_spec.proofs.Remaking.{Agrees, remade_agrees}
 
-whole_redo : (c : Change) (n : ℕ) (m : recovery.Made) (inside : List TxName) → taken_in m c ≡ Some inside → IsOrderlyMade m → HasWholeScripts m.book → HasWholeScripts (redo (of_length n) c m).book
+pub whole_redo : (c : Change) (n : ℕ) (m : recovery.Made) (inside : List TxName) → taken_in m c ≡ Some inside → IsOrderlyMade m → HasWholeScripts m.book → HasWholeScripts (redo (of_length n) c m).book
 whole_redo c n m inside e g h =
     subst (λ (x : recovery.Made). HasWholeScripts x.book) (sym (taken_redo (of_length n) c m inside e))
     (record { setup = h.setup; instances = whole_by m.book.scripts m.book.instances c inside g.instances.apart h.setup h.instances })

@@ -1,5 +1,5 @@
--- What the bodies of joined entries have: own states, where those of all entries are own; and none is passed over.
-use Rattle.std.proofs.Common.{◌≡◌, ℕ, ◌+◌, List, [], ◌∷◌, ◌++◌, map, length, Option, Some, None, Bool, true, false, refl, sym, ap, subst, ◌∙◌, if◌then◌else◌, slice_get}
+-- What the bodies of joined entries have: what all entries have; and none is passed over.
+use Rattle.std.proofs.Common.{◌≡◌, ℕ, ◌+◌, List, [], ◌∷◌, ◌++◌, map, length, Option, Some, Bool, true, false, refl, sym, ap, subst, ◌∙◌, if◌then◌else◌, slice_get}
 use Rattle.std.specs.Prelude.{◌&&◌, nat_lt, ⊤}
 use Rattle.std.proofs.lemmas.Option.{same_Some}
 use Rattle.script_value.specs.declared.outcome.TxName.{TxName}
@@ -10,7 +10,7 @@ use Rattle.replay_spec.proofs.Admitted.{came_from, when_is}
 use Rattle.replay_spec.proofs.Filed.{bare_like}
 use Rattle.replay_spec.proofs.Recovered.{if_can}
 use Rattle.value_bytes.specs.Laws.{AreBytes}
-use Rattle.journal_records.specs.Records.{Record, changes, renews}
+use Rattle.journal_records.specs.Records.{Record, changes, draws}
 use Rattle.journal_records.specs.Reading.{read_record}
 use Rattle.journal_spec.specs.Before.{Made}
 use Rattle.journal_spec.specs.Retaking.{Told, unread, misread, told, told_in, if_held, held, landing, IsLanded}
@@ -18,7 +18,7 @@ use Rattle.journal_spec.specs.Lengths.{state_by}
 use Rattle.journal_spec.specs.Making.{Texts, Making, nothing, made, made_in, with_body, with_bodies}
 use Rattle.journal_spec.specs.Owning.{OfEach, IsOwnState, IsOwnRecord, IsLandedRecord}
 use Rattle.journal_spec.specs.Reading.{AreAllBytes}
-use Rattle.journal_spec.specs.Copying.{inside_told, Entry, tells, settles, body_in, line_of, then_entry, entries_after, entry_ahead, entries_joined}
+use Rattle.journal_spec.specs.Copying.{inside_told, Entry, tells, settles, body_in, line_of, then_entry, entry_ahead, entries_joined}
 use Rattle.journal_spec.proofs.Retaken.{landing_is}
 use Rattle.journal_spec.proofs.Telling.{IsQuiet}
 use Rattle.journal_spec.proofs.OwnStates.{state_bare, own_by, HoldsEntry, HoldEntries}
@@ -34,31 +34,42 @@ own_like (tells c state body) m k h own =
     state_bare k.book c ∙ (ap (λ (b : Book). state_by b c) (bare_like k.book m.book h.like) ∙ sym (state_bare m.book c)) in
     subst (IsOwnState k.book c) (sym (told_like m k c state h)) (own_by k.book m.book c (told_in m.earlier m.book c state) same own)
 
-own_alike : (es : List Entry) (m k : Made) → AreTakenEntries es m → Alike m k → HoldEntries IsOwnRecord es m → HoldEntries IsOwnRecord es k
-own_alike [] m k taken h own = tt
-own_alike (e ∷ es) m k taken h own = (own_like e m k h own.0, own_alike es (then_entry e m) (then_entry e k) taken.1 (alike_entry e m k taken.0 h).1 own.1)
+-- A fact of entries that stays where sweeps are joined: it needs no more than what was made alike, and holds of each sweep that lands, and of the
+-- number that a compaction tells.
+pub record IsJoined (P : Made → Option Record → Type 0) : Type 0 where
+  pub alike : (e : Entry) (m k : Made) → Alike m k → HoldsEntry P m e → HoldsEntry P k e
+  pub sweeps : (m : Made) (tick : ℕ) (state : Option (List ℕ)) (body : List ℕ) → IsTakenEntry m (tells (sweeps tick) state body) → P m (Some (changes (sweeps tick) state))
+  pub drawn : (k : Made) (number : ℕ) → P k (Some (draws number))
 
-own_ahead : (e : Entry) (es : List Entry) (m : Made) → IsTakenEntry m e → AreTakenEntries es (then_entry e m) → HoldEntries IsOwnRecord (e ∷ es) m → HoldEntries IsOwnRecord (entry_ahead e es) m
-own_ahead e [] m one all own = own
-own_ahead (settles scripts a) (f ∷ es) m one all own = own
-own_ahead (tells (opens o) p a) (f ∷ es) m one all own = own
-own_ahead (tells (extends x) p a) (f ∷ es) m one all own = own
-own_ahead (tells (ends x) p a) (f ∷ es) m one all own = own
-own_ahead (tells (finishes x) p a) (f ∷ es) m one all own = own
-own_ahead (tells (sweeps s) p a) (settles scripts b ∷ es) m one all own = own
-own_ahead (tells (sweeps s) p a) (tells (opens o) q b ∷ es) m one all own = own
-own_ahead (tells (sweeps s) p a) (tells (extends x) q b ∷ es) m one all own = own
-own_ahead (tells (sweeps s) p a) (tells (ends x) q b ∷ es) m one all own = own
-own_ahead (tells (sweeps s) p a) (tells (finishes x) q b ∷ es) m one all own = own
-own_ahead (tells (sweeps s) p a) (tells (sweeps t) q b ∷ es) m one all own =
-    let mid = then_entry (tells (sweeps s) p a) m in
-    let skipped = sweep_skips s t p q a b m one all.0 in
-    (tt, own_alike es (then_entry (tells (sweeps t) q b) mid) (then_entry (tells (sweeps t) q b) m) all.1 skipped.1 own.1.1)
+pub own_is_joined : IsJoined IsOwnRecord
+own_is_joined = record { alike = own_like; sweeps = λ m tick state body taken. tt; drawn = λ k number. tt }
 
-pub own_joined : (es : List Entry) (m : Made) → AreTakenEntries es m → HoldEntries IsOwnRecord es m → HoldEntries IsOwnRecord (entries_joined es) m
-own_joined [] m taken own = tt
-own_joined (e ∷ es) m taken own =
-    own_ahead e (entries_joined es) m taken.0 (join_entries es (then_entry e m) taken.1).0 (own.0, own_joined es (then_entry e m) taken.1 own.1)
+module _ (P : Made → Option Record → Type 0) (j : IsJoined P) where
+  held_alike : (es : List Entry) (m k : Made) → AreTakenEntries es m → Alike m k → HoldEntries P es m → HoldEntries P es k
+  held_alike [] m k taken h held = tt
+  held_alike (e ∷ es) m k taken h held = (j.alike e m k h held.0, held_alike es (then_entry e m) (then_entry e k) taken.1 (alike_entry e m k taken.0 h).1 held.1)
+
+  held_ahead : (e : Entry) (es : List Entry) (m : Made) → IsTakenEntry m e → AreTakenEntries es (then_entry e m) → HoldEntries P (e ∷ es) m → HoldEntries P (entry_ahead e es) m
+  held_ahead e [] m one all held = held
+  held_ahead (settles scripts a) (f ∷ es) m one all held = held
+  held_ahead (tells (opens o) p a) (f ∷ es) m one all held = held
+  held_ahead (tells (extends x) p a) (f ∷ es) m one all held = held
+  held_ahead (tells (ends x) p a) (f ∷ es) m one all held = held
+  held_ahead (tells (finishes x) p a) (f ∷ es) m one all held = held
+  held_ahead (tells (sweeps s) p a) (settles scripts b ∷ es) m one all held = held
+  held_ahead (tells (sweeps s) p a) (tells (opens o) q b ∷ es) m one all held = held
+  held_ahead (tells (sweeps s) p a) (tells (extends x) q b ∷ es) m one all held = held
+  held_ahead (tells (sweeps s) p a) (tells (ends x) q b ∷ es) m one all held = held
+  held_ahead (tells (sweeps s) p a) (tells (finishes x) q b ∷ es) m one all held = held
+  held_ahead (tells (sweeps s) p a) (tells (sweeps t) q b ∷ es) m one all held =
+      let mid = then_entry (tells (sweeps s) p a) m in
+      let skipped = sweep_skips s t p q a b m one all.0 in
+      (j.sweeps m t q b skipped.0, held_alike es (then_entry (tells (sweeps t) q b) mid) (then_entry (tells (sweeps t) q b) m) all.1 skipped.1 held.1.1)
+
+  pub held_joined : (es : List Entry) (m : Made) → AreTakenEntries es m → HoldEntries P es m → HoldEntries P (entries_joined es) m
+  held_joined [] m taken held = tt
+  held_joined (e ∷ es) m taken held =
+      held_ahead e (entries_joined es) m taken.0 (join_entries es (then_entry e m) taken.1).0 (held.0, held_joined es (then_entry e m) taken.1 held.1)
 
 -- ---- bytes of joined entries
 

@@ -1,5 +1,5 @@
--- A change that stays has the same state in a book without what goes; and of which bodies the states are own.
-use Rattle.std.proofs.Common.{◌≡◌, ℕ, ◌+◌, List, [], ◌∷◌, ◌++◌, filter, length, Option, Some, true, refl, sym, ap, ◌∙◌, append_assoc}
+-- A change that stays has the same state in a book without what goes; and facts of records, by entries and by bodies.
+use Rattle.std.proofs.Common.{◌≡◌, ℕ, ◌+◌, List, [], ◌∷◌, ◌++◌, length, Option, Some, true, refl, sym, ap, ◌∙◌, append_assoc}
 use Rattle.std.specs.Prelude.{⊤}
 use Rattle.std.proofs.lemmas.List.{append-nil}
 use Rattle.instance_cells.specs.Cells.{reads_of}
@@ -17,8 +17,8 @@ use Rattle.journal_spec.specs.Before.{Made}
 use Rattle.journal_spec.specs.Retaking.{Told, unread, misread, told}
 use Rattle.journal_spec.specs.Lengths.{state_over, state_by}
 use Rattle.journal_spec.specs.Making.{Texts, Making, nothing, begun, made, damaged, other, made_in}
-use Rattle.journal_spec.specs.Old.{with_body_at, with_bodies_at}
-use Rattle.journal_spec.specs.Owning.{IsOwnState, IsOwnRecordIn, AreOwnIn}
+use Rattle.journal_spec.specs.Old.{with_body_at, with_bodies_at, book_of_format}
+use Rattle.journal_spec.specs.Owning.{IsOwnState}
 use Rattle.journal_spec.specs.Copying.{Entry, tells, settles, then_entry}
 use Rattle.journal_spec.proofs.Beside.{Beside}
 
@@ -62,32 +62,38 @@ HoldEntries P (e ∷ es) k = HoldsEntry P k e × HoldEntries P es (then_entry e 
 
 -- ---- bodies of a format
 
--- a body tells the state that its script leaves, behind what was made
-abbrev pub IsOwnAt : (format : ℕ) → Making → List ℕ → Type 0
-IsOwnAt format (begun m) body = IsOwnRecordIn format m (read_record_in format body)
-IsOwnAt format (made m) body = IsOwnRecordIn format m (read_record_in format body)
-IsOwnAt format _ body = ⊤
+-- a fact of the record of a body, behind what was made
+abbrev pub HoldsAt : (Made → Option Record → Type 0) → (format : ℕ) → Making → List ℕ → Type 0
+HoldsAt P format (begun m) body = P m (read_record_in format body)
+HoldsAt P format (made m) body = P m (read_record_in format body)
+HoldsAt P format _ body = ⊤
 
--- each of these bodies does, the gate of the first at this place
-abbrev pub AreOwnFrom : (format : ℕ) → Texts → (shelf place : ℕ) → List (List ℕ) → Making → Type 0
-AreOwnFrom format texts shelf place [] x = ⊤
-AreOwnFrom format texts shelf place (body ∷ bodies) x =
-    IsOwnAt format x body × AreOwnFrom format texts shelf (place + 5 + length body) bodies (with_body_at format texts shelf place body x)
+-- a fact of the record of each of these bodies, the gate of the first at this place
+abbrev pub HoldFrom : (Made → Option Record → Type 0) → (format : ℕ) → Texts → (shelf place : ℕ) → List (List ℕ) → Making → Type 0
+HoldFrom P format texts shelf place [] x = ⊤
+HoldFrom P format texts shelf place (body ∷ bodies) x =
+    HoldsAt P format x body × HoldFrom P format texts shelf (place + 5 + length body) bodies (with_body_at format texts shelf place body x)
 
-module _ (format : ℕ) (texts : Texts) (shelf : ℕ) (all : List (List ℕ)) (own : AreOwnIn format texts shelf all) where
-  own_at : (front rest : List (List ℕ)) (body : List ℕ) (x : Making) → all ≡ front ++ body ∷ rest → with_bodies_at format texts shelf 8 front nothing ≡ x → IsOwnAt format x body
-  own_at front rest body (begun m) is reach = own front rest body m is (ap made_in reach)
-  own_at front rest body (made m) is reach = own front rest body m is (ap made_in reach)
-  own_at front rest body nothing is reach = tt
-  own_at front rest body (damaged place) is reach = tt
-  own_at front rest body (other place) is reach = tt
+-- a fact of the record of each of these bodies, on what those before it make in this format
+abbrev pub HoldIn : (Made → Option Record → Type 0) → (format : ℕ) → Texts → (shelf : ℕ) → List (List ℕ) → Type 0
+HoldIn P format texts shelf bodies =
+    (front rest : List (List ℕ)) (body : List ℕ) (m : Made) → bodies ≡ front ++ body ∷ rest → made_in (book_of_format format texts shelf front) ≡ Some m
+    → P m (read_record_in format body)
 
-  -- so do those behind a front of a file whose states are own
-  pub own_from : (front bodies : List (List ℕ)) (place : ℕ) (x : Making) → all ≡ front ++ bodies
-      → ((bs : List (List ℕ)) → with_bodies_at format texts shelf 8 (front ++ bs) nothing ≡ with_bodies_at format texts shelf place bs x) → AreOwnFrom format texts shelf place bodies x
-  own_from front [] place x is reach = tt
-  own_from front (body ∷ bodies) place x is reach = (
-    own_at front bodies body x is (ap (λ (bs : List (List ℕ)). with_bodies_at format texts shelf 8 bs nothing) (sym (append-nil front)) ∙ reach []),
-    own_from (front ++ body ∷ []) bodies (place + 5 + length body) (with_body_at format texts shelf place body x) (is ∙ sym (append_assoc front (body ∷ []) bodies))
+module _ (P : Made → Option Record → Type 0) (format : ℕ) (texts : Texts) (shelf : ℕ) (all : List (List ℕ)) (held : HoldIn P format texts shelf all) where
+  held_at : (front rest : List (List ℕ)) (body : List ℕ) (x : Making) → all ≡ front ++ body ∷ rest → with_bodies_at format texts shelf 8 front nothing ≡ x → HoldsAt P format x body
+  held_at front rest body (begun m) is reach = held front rest body m is (ap made_in reach)
+  held_at front rest body (made m) is reach = held front rest body m is (ap made_in reach)
+  held_at front rest body nothing is reach = tt
+  held_at front rest body (damaged place) is reach = tt
+  held_at front rest body (other place) is reach = tt
+
+  -- it holds of those behind a front of a file, where it does of each of the file
+  pub held_from : (front bodies : List (List ℕ)) (place : ℕ) (x : Making) → all ≡ front ++ bodies
+      → ((bs : List (List ℕ)) → with_bodies_at format texts shelf 8 (front ++ bs) nothing ≡ with_bodies_at format texts shelf place bs x) → HoldFrom P format texts shelf place bodies x
+  held_from front [] place x is reach = tt
+  held_from front (body ∷ bodies) place x is reach = (
+    held_at front bodies body x is (ap (λ (bs : List (List ℕ)). with_bodies_at format texts shelf 8 bs nothing) (sym (append-nil front)) ∙ reach []),
+    held_from (front ++ body ∷ []) bodies (place + 5 + length body) (with_body_at format texts shelf place body x) (is ∙ sym (append_assoc front (body ∷ []) bodies))
         (λ bs. ap (λ (cs : List (List ℕ)). with_bodies_at format texts shelf 8 cs nothing) (append_assoc front (body ∷ []) bs) ∙ reach (body ∷ bs)),
   )

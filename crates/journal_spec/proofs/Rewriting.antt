@@ -14,22 +14,25 @@ use Rattle.replay_spec.specs.Remade.{IsOrderlyMade}
 use Rattle.machine_states.specs.Machine.{Suspended}
 use Rattle.value_bytes.specs.Laws.{AreBytes}
 use Rattle.frame_codec.specs.Forms.{form_bytes}
-use Rattle.journal_records.specs.Records.{changes, renews, body_of}
+use Rattle.journal_records.specs.Records.{Record, changes, renews, body_of}
 use Rattle.journal_records.specs.Reading.{read_record}
 use Rattle.journal_records.specs.Old.{newest_format, read_record_in}
 use Rattle.journal_records.specs.Laws.{AreRecordsExact}
 use Rattle.journal_spec.specs.Before.{Made, plain, before_told}
 use Rattle.journal_spec.specs.Retaking.{Told, unread, misread, told, script_for, told_in, landing, retaken}
 use Rattle.journal_spec.specs.Lengths.{own_told}
-use Rattle.journal_spec.specs.Making.{Texts, made_in, book_of}
+use Rattle.journal_spec.specs.Making.{Texts, made_in}
 use Rattle.journal_spec.specs.Old.{told_of, told_alone, landing_told, landing_of, book_of_format, format_of_now}
 use Rattle.journal_spec.specs.Whole.{AreWhole}
+use Rattle.journal_spec.specs.Owning.{IsOwnState, IsOwnRecord, IsOwnRecordIn}
 use Rattle.journal_spec.specs.Reading.{AreAllBytes}
 use Rattle.journal_spec.specs.Copying.{inside_told, bytes_now, state_now, body_now, copies, CopiesMakeTheBook, HasStored, IsToldAnew, MigrationsMakeTheBook}
 use Rattle.journal_spec.specs.OwnCopies.{CanBeCopied, CopiesAreOwn}
 use Rattle.journal_spec.proofs.Anew.{alone, alone_unread, binds_is, form_told, bytes_fit}
 use Rattle.journal_spec.proofs.Walking.{Onward}
-use Rattle.journal_spec.proofs.Copied.{IsWritten, Rewrites}
+use Rattle.journal_spec.proofs.OwnStates.{state_beside, own_by}
+use Rattle.journal_spec.proofs.OwnEntries.{IsJoined, own_is_joined}
+use Rattle.journal_spec.proofs.Copied.{IsWritten, Rewrites, IsCarried}
 use Rattle.journal_spec.proofs.Staying.{before_rises_stored, new_stored}
 use Rattle.journal_spec.proofs.Again.{IsOwn, agrees, lands_again, own_on, setup_stays, written_again}
 use Rattle.journal_spec.proofs.Joining.{AreSure}
@@ -87,9 +90,17 @@ any_bodies : (bodies : List (List ℕ)) → AreSure AnyBody bodies
 any_bodies [] = tt
 any_bodies (body ∷ bodies) = (tt, any_bodies bodies)
 
+-- own states are carried
+own_is_carried : (f : ℕ) (ls : List Instance) → IsCarried f ls (IsOwnRecordIn f) IsOwnRecord
+own_is_carried f ls = record {
+  setups = λ k named. tt;
+  stays = λ m k c state bytes h stay alike own.
+      subst (IsOwnState k.book c) (sym alike) (own_by k.book m.book c (told_of f m c state) (state_beside ls m k c h stay) own);
+}
+
 pub copies_make : AreRecordsExact → CopiesMakeTheBook
 copies_make x texts shelf first bodies m bytes makes =
-    let r = rewritten x newest_format (newest_format ≡ newest_format) AnyBody texts shelf first bodies m Any (newest_rewrites x m.book.instances texts m)
+    let r = rewritten x (IsOwnRecordIn newest_format) IsOwnRecord own_is_joined newest_format (newest_format ≡ newest_format) AnyBody texts shelf first bodies m Any (own_is_carried newest_format m.book.instances) (newest_rewrites x m.book.instances texts m)
     (any_start newest_format texts shelf (length first) m) bytes (ap made_in (format_of_now texts shelf (first ∷ bodies)) ∙ makes) (λ d rest is. any_bodies rest) in
     (r.k, r.makes, r.compacted refl)
 
@@ -184,18 +195,19 @@ own_start x texts shelf n e whole from later rest small is =
 
 -- ---- all formats
 
-module _ (x : AreRecordsExact) (texts : Texts) (shelf : ℕ) (first : List ℕ) (bodies : List (List ℕ)) (m : Made) (bytes : AreAllBytes (first ∷ bodies)) where
+module _ (x : AreRecordsExact) (In : ℕ → Made → Option Record → Type 0) (P : Made → Option Record → Type 0) (j : IsJoined P) (texts : Texts) (shelf : ℕ) (first : List ℕ)
+    (bodies : List (List ℕ)) (m : Made) (carried : (f : ℕ) → IsCarried f m.book.instances (In f) P) (bytes : AreAllBytes (first ∷ bodies)) where
   -- a file of this format, of which that is known
   abbrev Comes : ℕ → Type 0
   Comes f =
       IsToldAnew f m → made_in (book_of_format f texts shelf (first ∷ bodies)) ≡ Some m
-      → ((f ≡ newest_format → ⊥) → length (at_rest (copies f texts shelf first bodies m)) ≤ 2 ^ 30) → Rewritten f (f ≡ newest_format) texts shelf first bodies m
+      → ((f ≡ newest_format → ⊥) → length (at_rest (copies f texts shelf first bodies m)) ≤ 2 ^ 30) → Rewritten (In f) P f (f ≡ newest_format) texts shelf first bodies m
 
   older : (f : ℕ) → (f ≡ newest_format → ⊥) → (Has : Made → Type 0) → Rewrites f (f ≡ newest_format) IsShortBody m.book.instances texts m Has → AtStart f texts shelf (length first) m Has
       → made_in (book_of_format f texts shelf (first ∷ bodies)) ≡ Some m → ((f ≡ newest_format → ⊥) → length (at_rest (copies f texts shelf first bodies m)) ≤ 2 ^ 30)
-      → Rewritten f (f ≡ newest_format) texts shelf first bodies m
+      → Rewritten (In f) P f (f ≡ newest_format) texts shelf first bodies m
   older f old Has r starts makes fits =
-      rewritten x f (f ≡ newest_format) IsShortBody texts shelf first bodies m Has r starts bytes makes (λ d rest is. rest_short (copies f texts shelf first bodies m) first d rest is (fits old))
+      rewritten x (In f) P j f (f ≡ newest_format) IsShortBody texts shelf first bodies m Has (carried f) r starts bytes makes (λ d rest is. rest_short (copies f texts shelf first bodies m) first d rest is (fits old))
 
   late : (f : ℕ) → (f ≡ newest_format → ⊥) → ((m : Made) (c : Change) (state : Option (List ℕ)) → told_of f m c state ≡ told_in m.earlier m.book c state)
       → ((m : Made) (c : Change) (x : Told) → landing_of f m c x ≡ landing_told m c x) → ((m : Made) (c : Change) (state : Option (List ℕ)) → state_now f m c state ≡ state)
@@ -222,7 +234,7 @@ module _ (x : AreRecordsExact) (texts : Texts) (shelf : ℕ) (first : List ℕ) 
 
   from_6 : Comes 6
   from_6 anew makes fits =
-      rewritten x newest_format (newest_format ≡ newest_format) AnyBody texts shelf first bodies m Any (newest_rewrites x m.book.instances texts m) (any_start newest_format texts shelf (length first) m) bytes makes
+      rewritten x (In newest_format) P j newest_format (newest_format ≡ newest_format) AnyBody texts shelf first bodies m Any (carried newest_format) (newest_rewrites x m.book.instances texts m) (any_start newest_format texts shelf (length first) m) bytes makes
       (λ d rest is. any_bodies rest)
 
   by_format : (f : ℕ) → 1 ≤ f → f ≤ 6 → Comes f
@@ -235,17 +247,24 @@ module _ (x : AreRecordsExact) (texts : Texts) (shelf : ℕ) (first : List ℕ) 
   by_format (suc (suc (suc (suc (suc (suc zero)))))) low high = from_6
   by_format (suc (suc (suc (suc (suc (suc (suc f))))))) low high = absurd (omega (arith, high))
 
-  known_comes : (f : ℕ) → is_format f ≡ true → Comes f
+  pub known_comes : (f : ℕ) → is_format f ≡ true → Comes f
   known_comes f known =
       let both = and_parts (nat_le 1 f) (nat_le f 6) known in
       by_format f (let low = both.0 in grind (arith, nat_tests, low)) (let high = both.1 in grind (arith, nat_tests, high))
 
+-- own states
+own_comes : (x : AreRecordsExact) (texts : Texts) (shelf : ℕ) (first : List ℕ) (bodies : List (List ℕ)) (m : Made) → AreAllBytes (first ∷ bodies) → (f : ℕ) → is_format f ≡ true
+    → IsToldAnew f m → made_in (book_of_format f texts shelf (first ∷ bodies)) ≡ Some m
+    → ((f ≡ newest_format → ⊥) → length (at_rest (copies f texts shelf first bodies m)) ≤ 2 ^ 30) → Rewritten (IsOwnRecordIn f) IsOwnRecord f (f ≡ newest_format) texts shelf first bodies m
+own_comes x texts shelf first bodies m bytes f known =
+    known_comes x IsOwnRecordIn IsOwnRecord own_is_joined texts shelf first bodies m (λ g. own_is_carried g m.book.instances) bytes f known
+
 pub migrations_make : AreRecordsExact → MigrationsMakeTheBook
 migrations_make x format texts shelf first bodies m known anew bytes makes fits =
-    let r = known_comes x texts shelf first bodies m bytes format known anew makes (λ older. fits) in (r.k, r.makes, r.migrated)
+    let r = own_comes x texts shelf first bodies m bytes format known anew makes (λ older. fits) in (r.k, r.makes, r.migrated)
 
 pub copies_own : AreRecordsExact → CopiesAreOwn
 copies_own x format texts shelf first bodies m k can bytes makes again =
-    let r = known_comes x texts shelf first bodies m bytes format can.known can.anew makes can.room in
+    let r = own_comes x texts shelf first bodies m bytes format can.known can.anew makes can.room in
     let same : k ≡ r.k = same_Some k r.k (sym again ∙ r.makes) in
-    record { own = r.own; landed = r.landed; seen = λ n there. r.seen n (subst (λ (y : Made). Among n y.earlier.seen) same there); bytes = r.small }
+    record { own = r.held; landed = r.landed; seen = λ n there. r.seen n (subst (λ (y : Made). Among n y.earlier.seen) same there); bytes = r.small }
