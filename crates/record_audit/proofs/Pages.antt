@@ -1,0 +1,66 @@
+-- Records of pages, and of what shows none.
+use Rattle.std.proofs.Common.{◌≡◌, ℕ, ◌==◌, List, Bool, true, false, Some, None, refl, if◌then◌else◌}
+use Rattle.std.specs.Prelude.{⊤}
+use Rattle.script_value.specs.declared.outcome.TxName.{TxName}
+use Rattle.script_nodes.specs.declared.script.SendKind.{SendKind}
+use Rattle.instance_cells.specs.Cells.{Effect}
+use Rattle.replay_spec.specs.Book as spec
+use Rattle.replay_spec.specs.Book.{Change, opens, extends, ends, finishes, sweeps}
+use Rattle.replay_spec.specs.Recovery.{number_in}
+use Rattle.journal_records.specs.Fields as fields
+use Rattle.journal_records.specs.Reading.{change_from}
+use Rattle.journal_records.specs.Views.{origin_of, page_change}
+use Rattle.journal_records.specs.declared.records.PageRecord.{PageRecord}
+use Rattle.journal_spec.specs.Before.{Made}
+use Rattle.journal_spec.specs.Retaking.{unread}
+use Rattle.older_records.proofs.Over.{page_number}
+use Rattle.audit_spec.specs.Tests.{goes_on, is_due, is_in_time, tells_state, tells_own}
+
+-- a change that shows a page
+abbrev pub IsPage : Change → Type 0
+IsPage (opens o) = ⊤
+IsPage (extends x) = ⊤
+IsPage _ = ⊥
+
+module _ (t n : ℕ) (es : List Effect) (ns : List TxName) (k : SendKind) (d : ℕ) (gone : List ℕ) where
+  page_from : (o : fields.Origin) → IsPage (change_from t n o es ns k d gone)
+  page_from (fields.start s) = tt
+  page_from (fields.answered i p v) = tt
+
+  goes_from : (b : spec.Book) (o : fields.Origin) → goes_on b (change_from t n o es ns k d gone) ≡ true
+  goes_from b (fields.start s) = refl
+  goes_from b (fields.answered i p v) = refl
+
+  time_from : (b : spec.Book) (o : fields.Origin) → is_in_time b (change_from t n o es ns k d gone) ≡ is_due b.clock d
+  time_from b (fields.start s) = refl
+  time_from b (fields.answered i p v) = refl
+
+pub is_page : (r : PageRecord) → IsPage (page_change r)
+is_page r = page_from _ _ _ _ _ _ _ (origin_of r.origin)
+
+pub page_goes : (b : spec.Book) (r : PageRecord) → goes_on b (page_change r) ≡ true
+page_goes b r = goes_from _ _ _ _ _ _ _ b (origin_of r.origin)
+
+pub page_time : (b : spec.Book) (r : PageRecord) → is_in_time b (page_change r) ≡ is_due b.clock r.deadline
+page_time b r = time_from _ _ _ _ _ _ _ b (origin_of r.origin)
+
+pub its_number : (r : PageRecord) → number_in (page_change r) ≡ Some r.ticket
+its_number r = page_number r (origin_of r.origin) refl
+
+-- what shows no page tells no state
+abbrev pub ShowsNone : Change → Type 0
+ShowsNone (opens o) = ⊥
+ShowsNone (extends x) = ⊥
+ShowsNone _ = ⊤
+
+nothing_told : (first second : Bool) → (if first then true else tells_state (if second then unread else unread) None) ≡ true
+nothing_told true second = refl
+nothing_told false true = refl
+nothing_told false false = refl
+
+pub no_state : (format : ℕ) (m : Made) (c : Change) → ShowsNone c → tells_own format m c None ≡ true
+no_state format m (opens o) h = absurd h
+no_state format m (extends x) h = absurd h
+no_state format m (ends e) h = nothing_told (format == 1) (format == 2)
+no_state format m (finishes f) h = nothing_told (format == 1) (format == 2)
+no_state format m (sweeps tick) h = nothing_told (format == 1) (format == 2)
