@@ -1,0 +1,4 @@
+pub mod Looking
+pub mod Going
+pub mod All
+pub mod Unwritten
