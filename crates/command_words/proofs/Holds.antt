@@ -1,5 +1,5 @@
 -- Words that clap takes hold each value that their command needs, in its range.
-use Rattle.std.proofs.Common.{◌≡◌, ◌∙◌, ◌<◌, ◌≤◌, length, ℕ, Bool, cond, true, false, sym, ap, subst, List, [], ◌∷◌, drop, Option, Some, None, is_some, option_map, refl, codes}
+use Rattle.std.proofs.Common.{◌≡◌, ◌∙◌, ◌<◌, ◌≤◌, ◌⊎◌, ◌||◌, inl, inr, length, ℕ, Bool, cond, true, false, sym, ap, subst, List, [], ◌∷◌, drop, Option, Some, None, is_some, option_map, refl, codes}
 use Rattle.std.specs.Prelude.{option_and_then, slice_get}
 use Rattle.std.specs.List.{AllByRecursion as Each, find, fold}
 use Rattle.std.specs.Option.{option_map_or}
@@ -20,17 +20,17 @@ use Rattle.clap.specs.declared.builder.value_parser.ValueParser.TheVariants as v
 use Rattle.clap.specs.declared.error.kind.ErrorKind.TheVariants.{MissingRequiredArgument}
 use Rattle.clap.proofs.OnLiterals.{clap_on_literals}
 use Rattle.clap.proofs.ValueTestLemmas.{accepts-Accepts}
-use Rattle.command_words.specs.App.{app, check_shape, load_shape, play_shape, serve_shape}
+use Rattle.command_words.specs.App.{app, audit_shape, check_shape, load_shape, play_shape, serve_shape}
 use Rattle.server_limits.specs.Limits.{most_connections, most_fuel, most_instances, most_life, most_pages, most_shelves}
-use Rattle.command_words.specs.Options.{Item, Kind, bare, directory, flag, load_items, most_run, number, play_items, serve_items, most_requests, most_workers}
-use Rattle.command_words.specs.Plain.{AreInRange, CanLoad, CanServe, IsInRange}
-use Rattle.command_words.specs.Reads.{Holds, HoldsAs, HoldsAsked, HoldsFor, HoldsNumber, HoldsText, asked_as, asked_from, for_check, for_load, for_play, for_serve, load_at, number_at, options_at, service_at, text_at}
+use Rattle.command_words.specs.Options.{Item, Kind, audit_items, bare, directory, flag, load_items, most_run, number, play_items, serve_items, most_requests, most_workers}
+use Rattle.command_words.specs.Plain.{AreInRange, CanAudit, CanLoad, CanServe, IsInRange}
+use Rattle.command_words.specs.Reads.{Holds, HoldsAs, HoldsAsked, HoldsFlag, HoldsFor, HoldsNumber, HoldsText, asked_as, asked_from, audit_at, for_audit, for_check, for_load, for_play, for_serve, load_at, number_at, options_at, service_at, text_at}
 use Rattle.command_words.specs.declared.Command.{Command}
-use Rattle.command_words.specs.declared.Command.TheVariants.{Check, Play, Serve, Load}
+use Rattle.command_words.specs.declared.Command.TheVariants.{Audit, Check, Play, Serve, Load}
 use Rattle.command_words.proofs.Found.{HasDefault}
 use Rattle.command_words.proofs.Rows.{filled_in, find_row, has_of, kept}
-use Rattle.command_words.proofs.Sound.{AllKnown, Level, Sound, find_all, good_row, level_sound, neither, sets_value, shows_help}
-use Rattle.command_words.proofs.Tables.{IsIn, built_sub, has_default, load_in, load_rules, play_in, serve_in}
+use Rattle.command_words.proofs.Sound.{AllKnown, Level, Sound, find_all, good_row, level_sound, neither, sets_flag, sets_value, shows_help}
+use Rattle.command_words.proofs.Tables.{IsIn, audit_in, built_sub, has_default, load_in, load_rules, play_in, serve_in}
 use Rattle.command_words.proofs.Uses.{Fits, built_rule, value_fault}
 
 -- ---- one value
@@ -76,6 +76,19 @@ accepted_by a p text is fine = accepts-Accepts a.ignore_case p text (accepted a.
 number_in : (a : Rule) (rows : List Row) (id : Text) (low high : ℕ) → parser_of_value a.parser ≡ vp.Unsigned low high → Value a rows id → HoldsNumber low high rows id
 number_in a rows id low high is v = (v.text, v.one, accepted_by a (vp.Unsigned low high) v.text is v.passes)
 
+-- a text that a flag's parser takes is one of two
+flag_text : (text : Text) (b c : Bool) → bytes_eq text (codes "true") ≡ b → bytes_eq text (codes "false") ≡ c → (b || c) ≡ true
+    → (text ≡ codes "true") ⊎ (text ≡ codes "false")
+flag_text text true c e f either = inl ((bytes_eq-Decides text (codes "true")).0 e)
+flag_text text false true e f either = inr ((bytes_eq-Decides text (codes "false")).0 f)
+flag_text text false false e f either = cc
+
+flag_in : (a : Rule) (rows : List Row) (id : Text) → parser_of_value a.parser ≡ vp.Bool → Value a rows id → HoldsFlag rows id
+flag_in a rows id is v = elim (flag_text v.text _ _ refl refl (accepted_by a vp.Bool v.text is v.passes)) [
+  | inl set ↦ inl (v.one ∙ ap (λ t. Some t) set)
+  | inr unset ↦ inr (v.one ∙ ap (λ t. Some t) unset)
+]
+
 -- ---- an option with a default has a row
 
 default_row : (c : List Rule) (before : List Row) (i : Item) (text : Text) → HasDefault c i text → (r : Row) × (find_row i.name (fold with_default before c) ≡ Some r)
@@ -107,7 +120,7 @@ holds_as : (kind : Kind) (c : List Rule) (a : Rule) (rows : List Row) (id : Text
 holds_as (number low high) c a rows id fits v = number_in a rows id low high fits.1 v
 holds_as (bare low high) c a rows id fits v = number_in a rows id low high fits.1 v
 holds_as directory c a rows id fits v = (v.text, v.first, accepted_by a vp.NonEmptyString v.text fits.1 v.passes)
-holds_as flag c a rows id fits v = (v.text, v.one)
+holds_as flag c a rows id fits v = flag_in a rows id fits.3 v
 
 holds_each : (s : Shape) (whole table : List Item) (words : List Text) → Level s words → Each (IsIn s.rules whole) table
     → Each (λ i. i.default ≡ None → is_some (find_row i.name (rows_after s.rules [] words)) ≡ true) table → Holds table (rows_after s.rules [] words)
@@ -131,7 +144,7 @@ play_holds words fine =
 
 serve_known : AllKnown (built_sub serve_shape).rules
 unfolding clap_on_literals
-serve_known = (record { does = sets_value refl refl; by_id = refl }, (record { does = sets_value refl refl; by_id = refl }, (record { does = sets_value refl refl; by_id = refl }, (record { does = sets_value refl refl; by_id = refl }, (record { does = sets_value refl refl; by_id = refl }, (record { does = sets_value refl refl; by_id = refl }, (record { does = sets_value refl refl; by_id = refl }, (record { does = sets_value refl refl; by_id = refl }, (record { does = sets_value refl refl; by_id = refl }, (record { does = sets_value refl refl; by_id = refl }, (record { does = shows_help refl; by_id = refl }, tt)))))))))))
+serve_known = (record { does = sets_value refl refl; by_id = refl }, (record { does = sets_value refl refl; by_id = refl }, (record { does = sets_value refl refl; by_id = refl }, (record { does = sets_value refl refl; by_id = refl }, (record { does = sets_value refl refl; by_id = refl }, (record { does = sets_value refl refl; by_id = refl }, (record { does = sets_value refl refl; by_id = refl }, (record { does = sets_value refl refl; by_id = refl }, (record { does = sets_value refl refl; by_id = refl }, (record { does = sets_value refl refl; by_id = refl }, (record { does = sets_flag refl (_, _, refl); by_id = refl }, (record { does = shows_help refl; by_id = refl }, tt))))))))))))
 
 no_port : (rows : List Row) → is_given (codes "port") rows ≡ false → check_fault (built_sub serve_shape) rows false ≡ MissingRequiredArgument ∷ []
 unfolding clap_on_literals
@@ -159,7 +172,7 @@ serve_holds words fine =
     let port = port_row (rows_after (built_sub serve_shape).rules [] words) l.checked in
     for_serve refl
     (holds_each (built_sub serve_shape) serve_items serve_items words l serve_in
-    (λ e. cc, (λ e. cc, (λ e. cc, (λ e. cc, (λ e. cc, (λ e. cc, (λ e. port, (λ e. cc, (λ e. cc, (λ e. cc, tt)))))))))))
+    (λ e. cc, (λ e. cc, (λ e. cc, (λ e. cc, (λ e. cc, (λ e. cc, (λ e. port, (λ e. cc, (λ e. cc, (λ e. cc, (λ e. cc, tt))))))))))))
 
 -- ---- `load`
 
@@ -191,6 +204,18 @@ load_holds words fine =
     (holds_each (built_sub load_shape) load_items load_items words l load_in
     (λ e. given, (λ e. cc, (λ e. cc, (λ e. cc, (λ e. cc, (λ e. cc, (λ e. cc, tt))))))))
 
+-- ---- `audit`
+
+audit_known : AllKnown (built_sub audit_shape).rules
+unfolding clap_on_literals
+audit_known = (record { does = sets_value refl refl; by_id = refl }, (record { does = sets_value refl refl; by_id = refl }, (record { does = shows_help refl; by_id = refl }, tt)))
+
+audit_holds : (words : List Text) → level_fault (built_sub audit_shape) [] nothing_held words false [] ≡ [] → HoldsFor (codes "audit") (rows_after (built_sub audit_shape).rules [] words)
+audit_holds words fine =
+    for_audit refl
+    (holds_each (built_sub audit_shape) audit_items audit_items words (level_sound (built_sub audit_shape) words refl audit_known fine) audit_in
+    (λ e. cc, (λ e. cc, tt)))
+
 -- ---- the command
 
 data IsSub (s : Shape) : Type 0 where
@@ -198,9 +223,10 @@ data IsSub (s : Shape) : Type 0 where
   sub_play : s ≡ built_sub play_shape → IsSub s
   sub_serve : s ≡ built_sub serve_shape → IsSub s
   sub_load : s ≡ built_sub load_shape → IsSub s
+  sub_audit : s ≡ built_sub audit_shape → IsSub s
 
 all_subs : Each IsSub (built app).subs
-all_subs = (sub_check refl, (sub_play refl, (sub_serve refl, (sub_load refl, tt))))
+all_subs = (sub_check refl, (sub_play refl, (sub_serve refl, (sub_load refl, (sub_audit refl, tt)))))
 
 sub_holds : (s : Shape) (words : List Text) → IsSub s → level_fault s [] nothing_held words false [] ≡ [] → HoldsFor s.name (rows_after s.rules [] words)
 sub_holds s words (sub_check e) fine = for_check (ap (λ (x : Shape). x.name) e)
@@ -210,6 +236,8 @@ sub_holds s words (sub_serve e) fine =
     subst (λ (x : Shape). HoldsFor x.name (rows_after x.rules [] words)) (sym e) (serve_holds words (subst (λ (x : Shape). level_fault x [] nothing_held words false [] ≡ []) e fine))
 sub_holds s words (sub_load e) fine =
     subst (λ (x : Shape). HoldsFor x.name (rows_after x.rules [] words)) (sym e) (load_holds words (subst (λ (x : Shape). level_fault x [] nothing_held words false [] ≡ []) e fine))
+sub_holds s words (sub_audit e) fine =
+    subst (λ (x : Shape). HoldsFor x.name (rows_after x.rules [] words)) (sym e) (audit_holds words (subst (λ (x : Shape). level_fault x [] nothing_held words false [] ≡ []) e fine))
 
 no_command : (rows : List Row) → check_fault (built app).top rows false ≡ [] → ⊥
 unfolding clap_on_literals
@@ -267,11 +295,18 @@ load_range rows h =
     let number = number_range 1 most_run rows (codes "number") h.0 in
     record { options = options_range rows h.1; low = number.0; high = number.1 }
 
+audit_range : (rows : List Row) → Holds audit_items rows → CanAudit (audit_at rows)
+audit_range rows h = record {
+  journal = text_range rows (codes "journal") h.0;
+  shelves = number_range 1 most_shelves rows (codes "shelves") h.1.0;
+}
+
 for_range : (name : Text) (rows : List Row) (asked : Command) → HoldsFor name rows → asked_as name rows ≡ Some asked → IsInRange asked
 for_range name rows asked (for_check is) e = subst IsInRange (same_some (asked_as name rows) Check asked (ap (λ n. asked_as n rows) is) e) tt
 for_range name rows asked (for_play is h) e = subst IsInRange (same_some (asked_as name rows) (Play (options_at rows)) asked (ap (λ n. asked_as n rows) is) e) (options_range rows h)
 for_range name rows asked (for_serve is h) e = subst IsInRange (same_some (asked_as name rows) (Serve (service_at rows)) asked (ap (λ n. asked_as n rows) is) e) (service_range rows h)
 for_range name rows asked (for_load is h) e = subst IsInRange (same_some (asked_as name rows) (Load (load_at rows)) asked (ap (λ n. asked_as n rows) is) e) (load_range rows h)
+for_range name rows asked (for_audit is h) e = subst IsInRange (same_some (asked_as name rows) (Audit (audit_at rows)) asked (ap (λ n. asked_as n rows) is) e) (audit_range rows h)
 
 in_range : (o : Option (Text × List Row)) (asked : Command) → HoldsAsked o → asked_from o ≡ Some asked → IsInRange asked
 in_range None asked held e = absurd held

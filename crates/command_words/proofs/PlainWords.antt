@@ -11,21 +11,22 @@ use Rattle.clap.specs.Simple.{Shape, subcommand_of}
 use Rattle.clap.specs.Takes.{is_given}
 use Rattle.clap.specs.Walk.{Row, Rule, Text, is_empty, nothing_held, with_default}
 use Rattle.clap.proofs.OnLiterals.{clap_on_literals}
-use Rattle.command_words.specs.App.{app, load_shape, play_shape, serve_shape}
-use Rattle.command_words.specs.Options.{ArePlain, IsOneOf, IsPlainNumber, IsPlainText, Item, Kind, Setting, bare, directory, flag, given, load_items, most_run, number, number_of, play_items, run_number, serve_items, spelled, text_of}
-use Rattle.command_words.specs.Options.{connections, fuel, instances, journal, life, pages, port, requests, shelves, workers}
-use Rattle.command_words.specs.Plain.{ArePlainFor, IsPlain, chosen, load_chosen, service_chosen}
-use Rattle.command_words.specs.Reads.{asked_from, load_at, number_at, options_at, service_at, text_at, value_number}
+use Rattle.command_words.specs.App.{app, audit_shape, load_shape, play_shape, serve_shape}
+use Rattle.command_words.specs.Options.{ArePlain, IsOneOf, IsPlainNumber, IsPlainText, Item, Kind, Setting, audit_items, bare, directory, flag, flag_of, given, load_items, most_run, number, number_of, play_items, run_number, serve_items, spelled, text_of}
+use Rattle.command_words.specs.Options.{audit, connections, fuel, instances, journal, life, pages, port, requests, shelves, workers}
+use Rattle.command_words.specs.Plain.{ArePlainFor, IsPlain, audit_chosen, chosen, load_chosen, service_chosen}
+use Rattle.command_words.specs.Reads.{asked_from, audit_at, flag_at, load_at, number_at, options_at, service_at, text_at, value_number}
 use Rattle.command_words.specs.declared.Command.{Command}
-use Rattle.command_words.specs.declared.Command.TheVariants.{Check, Play, Serve, Load}
+use Rattle.command_words.specs.declared.Command.TheVariants.{Audit, Check, Play, Serve, Load}
 use Rattle.command_words.specs.declared.Options.{Options}
 use Rattle.command_words.specs.declared.Service.{Service}
 use Rattle.command_words.specs.declared.LoadOptions.{LoadOptions}
+use Rattle.command_words.specs.declared.AuditOptions.{AuditOptions}
 use Rattle.command_words.proofs.Rows.{find_row}
 use Rattle.command_words.proofs.Uses.{Goes, IsFor, Stands, bare_goes, built_rule, has_name, no_plus, number_value, row_of, setting_row, settings_go}
 use Rattle.command_words.proofs.Found.{IsNamed, Tells, given_tells, tells, tells_first, tells_one}
-use Rattle.command_words.proofs.Tables.{IsIn, at_item, built_sub, has_default, is_number, is_numeric, load_in, load_rules, play_in, serve_in}
-use Rattle.command_words.proofs.Levels.{Enters, default_kinds, enters_load, enters_play, enters_serve, entering, level_goes}
+use Rattle.command_words.proofs.Tables.{IsIn, at_item, audit_in, built_sub, has_default, is_number, is_numeric, load_in, load_rules, play_in, serve_in}
+use Rattle.command_words.proofs.Levels.{Enters, default_kinds, enters_audit, enters_load, enters_play, enters_serve, entering, level_goes}
 
 -- ---- the numbers
 
@@ -133,6 +134,11 @@ words_told : (c : List Rule) (table : List Item) (i : Item) (set : List Setting)
     → (i.default ≡ None → is_some (given i.name set) ≡ true) → text_at (ends_with c set) i.name ≡ text_of i set
 words_told c table i set in_table named there = ap (λ o. unwrap_or o []) (tells_first _ i.name _ (text_told c table i set in_table named there))
 
+flag_told : (c : List Rule) (table : List Item) (i : Item) (set : List Setting) → IsIn c table i → Each (λ t. IsNamed t.item) set
+    → (i.default ≡ None → is_some (given i.name set) ≡ true) → flag_at (ends_with c set) i.name ≡ flag_of i set
+flag_told c table i set in_table named there =
+    ap (λ o. bytes_eq (unwrap_or o []) (codes "true")) (tells_one _ i.name _ (text_told c table i set in_table named there))
+
 options_same : (a b : Options) → a.fuel ≡ b.fuel → a.life ≡ b.life → a.instances ≡ b.instances → a.pages ≡ b.pages → a.journal ≡ b.journal
     → a.shelves ≡ b.shelves → a ≡ b
 options_same a b f l i p j s = λ at. record { fuel = f at; life = l at; instances = i at; pages = p at; journal = j at; shelves = s at }
@@ -176,7 +182,7 @@ play_means name set p =
 
 serve_defaults : Each (λ a. default_kinds (is_empty a.defaults) a ≡ []) (built_sub serve_shape).rules
 unfolding clap_on_literals
-serve_defaults = (refl, (refl, (refl, (refl, (refl, (refl, (refl, (refl, (refl, (refl, (refl, tt)))))))))))
+serve_defaults = (refl, (refl, (refl, (refl, (refl, (refl, (refl, (refl, (refl, (refl, (refl, (refl, tt))))))))))))
 
 -- the port is what is required
 serve_checked : (rows : List Row) → is_given (codes "port") rows ≡ true → check_fault (built_sub serve_shape) rows false ≡ []
@@ -190,22 +196,23 @@ port_given set named p = by_given (given (codes "port") set) refl (p.there.1.1.1
     by_given None e some = cc
     by_given (Some t) e some = let told = given_tells (built_sub serve_shape).rules [] (codes "port") t set refl named e in rw (told.tells.is, told.source) refl
 
-service_same : (a b : Service) → a.options ≡ b.options → a.port ≡ b.port → a.connections ≡ b.connections → a.workers ≡ b.workers → a.requests ≡ b.requests → a ≡ b
-service_same a b o p n w r = λ at. record { options = o at; port = p at; connections = n at; workers = w at; requests = r at }
+service_same : (a b : Service) → a.options ≡ b.options → a.port ≡ b.port → a.connections ≡ b.connections → a.workers ≡ b.workers → a.requests ≡ b.requests → a.audit ≡ b.audit → a ≡ b
+service_same a b o p n w r u = λ at. record { options = o at; port = p at; connections = n at; workers = w at; requests = r at; audit = u at }
 
 serve_means : (name : Text) (set : List Setting) → ArePlain serve_items set
     → (fault_of app (name ∷ codes "serve" ∷ spelled set) ≡ []) × (asked_from (subcommand_of app (name ∷ codes "serve" ∷ spelled set)) ≡ Some (Serve (service_chosen set)))
 serve_means name set p =
     let rules = (built_sub serve_shape).rules in
     let named = each_named rules serve_items set serve_in p in
-    let goes = command_goes name (codes "serve") serve_shape serve_items set (refl, (refl, (refl, (refl, (refl, (refl, (refl, (refl, (refl, (refl, tt)))))))))) enters_serve serve_in p serve_defaults (record { fine = refl; got = refl })
+    let goes = command_goes name (codes "serve") serve_shape serve_items set (refl, (refl, (refl, (refl, (refl, (refl, (refl, (refl, (refl, (refl, (refl, tt))))))))))) enters_serve serve_in p serve_defaults (record { fine = refl; got = refl })
     (serve_checked (ends_with rules set) (port_given set named p)) in
     let shared : Each (IsIn rules serve_items) play_items = (serve_in.0, (serve_in.1.0, (serve_in.1.1.0, (serve_in.1.1.1.0, (serve_in.1.1.1.1.0, (serve_in.1.1.1.1.1.0, tt)))))) in
     let told = service_same (service_at (ends_with rules set)) (service_chosen set) (options_told rules serve_items set shared p named)
     (number_told rules serve_items port set serve_in.1.1.1.1.1.1.0 refl p named p.there.1.1.1.1.1.1.0)
     (number_told rules serve_items connections set serve_in.1.1.1.1.1.1.1.0 refl p named (λ e. cc))
     (number_told rules serve_items workers set serve_in.1.1.1.1.1.1.1.1.0 refl p named (λ e. cc))
-    (number_told rules serve_items requests set serve_in.1.1.1.1.1.1.1.1.1.0 refl p named (λ e. cc)) in
+    (number_told rules serve_items requests set serve_in.1.1.1.1.1.1.1.1.1.0 refl p named (λ e. cc))
+    (flag_told rules serve_items audit set serve_in.1.1.1.1.1.1.1.1.1.1.0 named (λ e. cc)) in
     (goes.0, ap asked_from goes.1 ∙ ap (λ v. Some (Serve v)) told)
 
 -- ---- `load`
@@ -283,6 +290,30 @@ load_means name text set plain p =
     chosen_same : (text : Text) (set : List Setting) → chosen (numbered text set) ≡ chosen set
     chosen_same text set = refl
 
+-- ---- `audit`
+
+audit_defaults : Each (λ a. default_kinds (is_empty a.defaults) a ≡ []) (built_sub audit_shape).rules
+unfolding clap_on_literals
+audit_defaults = (refl, (refl, (refl, tt)))
+
+audit_checked : (rows : List Row) → check_fault (built_sub audit_shape) rows false ≡ []
+unfolding clap_on_literals
+audit_checked rows = refl
+
+audit_same : (a b : AuditOptions) → a.journal ≡ b.journal → a.shelves ≡ b.shelves → a ≡ b
+audit_same a b j s = λ at. record { journal = j at; shelves = s at }
+
+audit_means : (name : Text) (set : List Setting) → ArePlain audit_items set
+    → (fault_of app (name ∷ codes "audit" ∷ spelled set) ≡ []) × (asked_from (subcommand_of app (name ∷ codes "audit" ∷ spelled set)) ≡ Some (Audit (audit_chosen set)))
+audit_means name set p =
+    let rules = (built_sub audit_shape).rules in
+    let named = each_named rules audit_items set audit_in p in
+    let goes = command_goes name (codes "audit") audit_shape audit_items set (refl, (refl, tt)) enters_audit audit_in p audit_defaults (record { fine = refl; got = refl }) (audit_checked (ends_with rules set)) in
+    let told = audit_same (audit_at (ends_with rules set)) (audit_chosen set)
+    (words_told rules audit_items journal set audit_in.0 named (λ e. cc))
+    (number_told rules audit_items shelves set audit_in.1.0 refl p named (λ e. cc)) in
+    (goes.0, ap asked_from goes.1 ∙ ap (λ o. Some (Audit o)) told)
+
 -- ---- all
 
 abbrev Means : List Text → Command → Type 0
@@ -302,3 +333,6 @@ plain_means words asked p = subst (λ w. Means w asked) (sym p.2) (go p.1 asked 
     go after (Load l) q =
         subst (λ a. Means (p.0 ∷ a) (Load l)) (sym q.2)
         (subst (λ k. Means (p.0 ∷ codes "load" ∷ q.0 ∷ spelled q.1) (Load k)) (sym q.5) (load_means p.0 q.0 q.1 q.3 q.4))
+    go after (Audit o) q =
+        subst (λ a. Means (p.0 ∷ a) (Audit o)) (sym q.1)
+        (subst (λ k. Means (p.0 ∷ codes "audit" ∷ spelled q.0) (Audit k)) (sym q.3) (audit_means p.0 q.0 q.2))

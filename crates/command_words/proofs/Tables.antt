@@ -18,8 +18,8 @@ use Rattle.clap.specs.declared.builder.value_parser.Reading.TheVariants.{AsWritt
 use Rattle.clap.specs.declared.builder.value_parser.ValueParser.{ValueParser}
 use Rattle.clap.specs.declared.builder.value_parser.ValueParser.TheVariants as vp
 use Rattle.clap.proofs.OnLiterals.{clap_on_literals}
-use Rattle.command_words.specs.App.{app, load_shape, play_shape, serve_shape}
-use Rattle.command_words.specs.Options.{IsOneOf, Item, Kind, Text, bare, directory, flag, load_items, number, play_items, run_number, serve_items}
+use Rattle.command_words.specs.App.{app, audit_shape, load_shape, play_shape, serve_shape}
+use Rattle.command_words.specs.Options.{IsOneOf, Item, Kind, Text, audit_items, bare, directory, flag, load_items, number, play_items, run_number, serve_items}
 use Rattle.command_words.proofs.Uses.{Fits, IsTaken, built_rule, dashed, has_name}
 use Rattle.command_words.proofs.Found.{HasDefault, IsNamed}
 
@@ -44,10 +44,6 @@ is_number _ = false
 -- each option of this name in the table takes a number
 abbrev pub is_numeric : Text → List Item → Bool
 is_numeric name table = list_all (λ i. not (bytes_eq i.name name) || is_number i.kind) table
-
-abbrev parser_by : Kind → ValueParser → ValueParser
-parser_by flag p = vp.NonEmptyString
-parser_by kind p = p
 
 abbrev missing_by : Kind → List Text → List Text
 missing_by flag values = values
@@ -87,7 +83,7 @@ facts_by c table kind i = record {
   least = (unwrap_or_range (built_rule i).range).start_inclusive;
   most = most_values (built_rule i);
   reading = reading_by (built_rule i);
-  parser = parser_by kind (parser_of_value (built_rule i).parser);
+  parser = parser_of_value (built_rule i).parser;
   missing = missing_by kind (built_rule i).missing;
   passes = values_fault (built_rule i) (missing_by kind (built_rule i).missing);
   bounded = is_number kind;
@@ -126,7 +122,7 @@ abbrev wanted_by : Kind → Item → Facts
 wanted_by (number low high) i = standing Set 1 (vp.Unsigned low high) [] true i
 wanted_by (bare low high) i = standing Set 1 (vp.Unsigned low high) [] true i
 wanted_by directory i = standing Set 1 vp.NonEmptyString [] false i
-wanted_by flag i = standing SetTrue 0 vp.NonEmptyString (codes "true" ∷ []) false i
+wanted_by flag i = standing SetTrue 0 vp.Bool (codes "true" ∷ []) false i
 
 abbrev wanted : Item → Facts
 wanted i = wanted_by i.kind i
@@ -179,7 +175,7 @@ stands_as c table (bare low high) i e =
 stands_as c table directory i e =
     stands c table directory i _ _ _ _ _ e (taken c table directory i _ _ _ _ _ e, ap (λ (x : Facts). x.parser) e)
 stands_as c table flag i e =
-    stands c table flag i _ _ _ _ _ e (taken c table flag i _ _ _ _ _ e, ap (λ (x : Facts). x.passes) e, ap (λ (x : Facts). x.missing) e)
+    stands c table flag i _ _ _ _ _ e (taken c table flag i _ _ _ _ _ e, ap (λ (x : Facts). x.passes) e, ap (λ (x : Facts). x.missing) e, ap (λ (x : Facts). x.parser) e)
 
 is_in : (c : List Rule) (table : List Item) (i : Item) → facts c table i ≡ wanted i → IsIn c table i
 is_in c table i e = stands_as c table i.kind i e
@@ -199,6 +195,10 @@ play_in = each_same (facts (built_sub play_shape).rules play_items) wanted _ pla
 pub serve_in : Each (IsIn (built_sub serve_shape).rules serve_items) serve_items
 unfolding clap_on_literals
 serve_in = each_same (facts (built_sub serve_shape).rules serve_items) wanted _ serve_items (is_in _ serve_items) refl
+
+pub audit_in : Each (IsIn (built_sub audit_shape).rules audit_items) audit_items
+unfolding clap_on_literals
+audit_in = each_same (facts (built_sub audit_shape).rules audit_items) wanted _ audit_items (is_in _ audit_items) refl
 
 abbrev pub load_rules : List Rule
 load_rules = (built_sub load_shape).rules

@@ -10,7 +10,7 @@ use Rattle.clap.specs.declared.builder.command.Command.TheViews.{out-Command as 
 use Rattle.clap.specs.declared.builder.action.ArgAction.TheVariants.{Set, SetTrue}
 use Rattle.clap.specs.declared.builder.value_parser.ValueParser.{ValueParser}
 use Rattle.clap.specs.declared.builder.value_parser.ValueParser.TheVariants as vp
-use Rattle.command_words.specs.Options.{Item, Kind, Text, number, bare, directory, flag, play_items, serve_items, load_items}
+use Rattle.command_words.specs.Options.{Item, Kind, Text, number, bare, directory, flag, play_items, serve_items, load_items, audit_items}
 
 abbrev pub texts : List (Bor (List ℕ)) → List (List ℕ)
 texts words = map (λ w. w.now) words
@@ -70,6 +70,9 @@ serve_shape = shape_for (codes "serve") (map rule_for serve_items)
 abbrev pub load_shape : Shape
 load_shape = shape_for (codes "load") (map rule_for load_items)
 
+abbrev pub audit_shape : Shape
+audit_shape = shape_for (codes "audit") (map rule_for audit_items)
+
 abbrev pub bare_top : Shape
 bare_top = record (new_shape (codes "script_server")) {
   subcommand_required = true;
@@ -79,7 +82,7 @@ bare_top = record (new_shape (codes "script_server")) {
 abbrev pub app : App
 app = record {
   top = record bare_top { is_leaf = false };
-  subs = check_shape ∷ play_shape ∷ serve_shape ∷ load_shape ∷ [];
+  subs = check_shape ∷ play_shape ∷ serve_shape ∷ load_shape ∷ audit_shape ∷ [];
 }
 
 -- what clap finds wrong with the words

@@ -74,13 +74,21 @@ run_number = record { name = codes "number"; kind = bare 1 most_run; default = N
 abbrev pub play_items : List Item
 play_items = fuel ∷ life ∷ instances ∷ pages ∷ journal ∷ shelves ∷ []
 
--- the options of `serve`: those of `play`, and four of its own
+-- whether the journals are audited before they are served
+abbrev pub audit : Item
+audit = record { name = codes "audit"; kind = flag; default = Some (codes "false") }
+
+-- the options of `serve`: those of `play`, and five of its own
 abbrev pub serve_items : List Item
-serve_items = fuel ∷ life ∷ instances ∷ pages ∷ journal ∷ shelves ∷ port ∷ connections ∷ workers ∷ requests ∷ []
+serve_items = fuel ∷ life ∷ instances ∷ pages ∷ journal ∷ shelves ∷ port ∷ connections ∷ workers ∷ requests ∷ audit ∷ []
 
 -- what `load` takes: its number, and the options of `play`
 abbrev pub load_items : List Item
 load_items = run_number ∷ fuel ∷ life ∷ instances ∷ pages ∷ journal ∷ shelves ∷ []
+
+-- the options of `audit`
+abbrev pub audit_items : List Item
+audit_items = journal ∷ shelves ∷ []
 
 -- ---- options as they are written
 
@@ -124,6 +132,10 @@ text_of i settings = unwrap_or (given i.name settings) (unwrap_or i.default [])
 
 abbrev pub number_of : Item → List Setting → ℕ
 number_of i settings = digits_value 10 (text_of i settings)
+
+-- a flag is set where it is written
+abbrev pub flag_of : Item → List Setting → Bool
+flag_of i settings = bytes_eq (text_of i settings) (codes "true")
 
 -- each option is written at most once
 abbrev pub IsDistinct : List Setting → Type 0

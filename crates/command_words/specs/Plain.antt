@@ -2,13 +2,14 @@
 use Rattle.std.specs.Prelude.{⊤, ◌≡◌, ◌≢◌, ◌<◌, ◌≤◌, ◌∷◌, List, [], codes, length, Result, Err, IfOk}
 use Rattle.std.specs.Str.Parse.{digits_value}
 use Rattle.server_limits.specs.Limits.{AreConnections, AreInstances, ArePages, AreShelves, IsFuel, IsLife, IsWithin}
-use Rattle.command_words.specs.Options.{ArePlain, IsPlainNumber, Setting, Text, most_run, number_of, play_items, serve_items, spelled, text_of, most_requests, most_workers}
-use Rattle.command_words.specs.Options.{connections, fuel, instances, journal, life, pages, port, requests, shelves, workers}
+use Rattle.command_words.specs.Options.{ArePlain, IsPlainNumber, Setting, Text, audit_items, flag_of, most_run, number_of, play_items, serve_items, spelled, text_of, most_requests, most_workers}
+use Rattle.command_words.specs.Options.{audit, connections, fuel, instances, journal, life, pages, port, requests, shelves, workers}
 use Rattle.command_words.specs.declared.Command.{Command}
-use Rattle.command_words.specs.declared.Command.TheVariants.{Check, Play, Serve, Load}
+use Rattle.command_words.specs.declared.Command.TheVariants.{Audit, Check, Play, Serve, Load}
 use Rattle.command_words.specs.declared.Options.{Options}
 use Rattle.command_words.specs.declared.Service.{Service}
 use Rattle.command_words.specs.declared.LoadOptions.{LoadOptions}
+use Rattle.command_words.specs.declared.AuditOptions.{AuditOptions}
 use Rattle.command_words.specs.declared.WordsFault.{WordsFault}
 use Rattle.command_words.specs.declared.WordsFault.TheVariants.{Usage}
 
@@ -30,11 +31,16 @@ service_chosen s = record {
   connections = number_of connections s;
   workers = number_of workers s;
   requests = number_of requests s;
+  audit = flag_of audit s;
 }
 
 -- what the text of a number and settings ask for
 abbrev pub load_chosen : Text → List Setting → LoadOptions
 load_chosen text s = record { number = digits_value 10 text; options = chosen s }
+
+-- what settings ask of an audit
+abbrev pub audit_chosen : List Setting → AuditOptions
+audit_chosen s = record { journal = text_of journal s; shelves = number_of shelves s }
 
 -- the words after the program's name are plain ones for this command
 abbrev pub ArePlainFor : List Text → Command → Type 0
@@ -46,6 +52,8 @@ ArePlainFor words (Serve v) =
 ArePlainFor words (Load l) =
     (text : Text) × (s : List Setting) × (words ≡ codes "load" ∷ text ∷ spelled s) × IsPlainNumber 1 most_run text
     × ArePlain play_items s × (l ≡ load_chosen text s)
+ArePlainFor words (Audit a) =
+    (s : List Setting) × (words ≡ codes "audit" ∷ spelled s) × ArePlain audit_items s × (a ≡ audit_chosen s)
 
 -- plain words are the program's name, a command, for `load` its number, then its options
 abbrev pub IsPlain : List Text → Command → Type 0
@@ -82,8 +90,13 @@ pub record CanLoad (l : LoadOptions) : Type 0 where
   pub low : 1 ≤ l.number
   pub high : l.number ≤ most_run
 
+pub record CanAudit (a : AuditOptions) : Type 0 where
+  pub journal : 0 < length a.journal
+  pub shelves : AreShelves a.shelves
+
 abbrev pub IsInRange : Command → Type 0
 IsInRange Check = ⊤
 IsInRange (Play o) = AreInRange o
 IsInRange (Serve s) = CanServe s
 IsInRange (Load l) = CanLoad l
+IsInRange (Audit a) = CanAudit a

@@ -1,5 +1,5 @@
 -- What a parse found, as a command.
-use Rattle.std.specs.Prelude.{◌≡◌, ◌<◌, ℕ, List, [], codes, length, Option, Some, None, unwrap_or, option_and_then, if◌then◌else◌}
+use Rattle.std.specs.Prelude.{◌≡◌, ◌<◌, ◌⊎◌, ℕ, Bool, List, [], codes, length, Option, Some, None, unwrap_or, option_and_then, if◌then◌else◌}
 use Rattle.std.specs.List.{AllByRecursion as Each}
 use Rattle.std.specs.Str.{bytes_eq}
 use Rattle.std.specs.Str.Parse.{digits_value, without_leading_plus}
@@ -7,12 +7,13 @@ use Rattle.clap.specs.Values.{IsUnsignedIn}
 use Rattle.clap.specs.Walk.{Row, first_of, one_of, rows_of}
 use Rattle.clap.specs.Matches.{found_of}
 use Rattle.clap.specs.declared.parser.matches.ArgMatches.{ArgMatches}
-use Rattle.command_words.specs.Options.{Item, Kind, Text, bare, directory, flag, load_items, number, play_items, serve_items}
+use Rattle.command_words.specs.Options.{Item, Kind, Text, audit_items, bare, directory, flag, load_items, number, play_items, serve_items}
 use Rattle.command_words.specs.declared.Command.{Command}
-use Rattle.command_words.specs.declared.Command.TheVariants.{Check, Play, Serve, Load}
+use Rattle.command_words.specs.declared.Command.TheVariants.{Audit, Check, Play, Serve, Load}
 use Rattle.command_words.specs.declared.Options.{Options}
 use Rattle.command_words.specs.declared.Service.{Service}
 use Rattle.command_words.specs.declared.LoadOptions.{LoadOptions}
+use Rattle.command_words.specs.declared.AuditOptions.{AuditOptions}
 
 abbrev pub rows_in : ArgMatches → List Row
 rows_in m = rows_of (found_of m)
@@ -26,6 +27,9 @@ number_at rows id = value_number (unwrap_or (one_of id rows) [])
 
 abbrev pub text_at : List Row → Text → Text
 text_at rows id = unwrap_or (first_of id rows) []
+
+abbrev pub flag_at : List Row → Text → Bool
+flag_at rows id = bytes_eq (unwrap_or (one_of id rows) []) (codes "true")
 
 abbrev pub options_at : List Row → Options
 options_at rows = record {
@@ -44,10 +48,14 @@ service_at rows = record {
   connections = number_at rows (codes "connections");
   workers = number_at rows (codes "workers");
   requests = number_at rows (codes "requests");
+  audit = flag_at rows (codes "audit");
 }
 
 abbrev pub load_at : List Row → LoadOptions
 load_at rows = record { number = number_at rows (codes "number"); options = options_at rows }
+
+abbrev pub audit_at : List Row → AuditOptions
+audit_at rows = record { journal = text_at rows (codes "journal"); shelves = number_at rows (codes "shelves") }
 
 -- the command of this name, with the values in its rows
 abbrev pub asked_as : Text → List Row → Option Command
@@ -56,7 +64,8 @@ asked_as name rows =
     else (if bytes_eq name (codes "play") then Some (Play (options_at rows))
     else (if bytes_eq name (codes "serve") then Some (Serve (service_at rows))
     else (if bytes_eq name (codes "load") then Some (Load (load_at rows))
-    else None)))
+    else (if bytes_eq name (codes "audit") then Some (Audit (audit_at rows))
+    else None))))
 
 abbrev pub asked_from : Option (Text × List Row) → Option Command
 asked_from = option_and_then (λ p. asked_as p.0 p.1)
@@ -71,12 +80,16 @@ HoldsNumber low high rows id = (t : Text) × (one_of id rows ≡ Some t) × IsUn
 abbrev pub HoldsText : List Row → Text → Type 0
 HoldsText rows id = (t : Text) × (first_of id rows ≡ Some t) × (0 < length t)
 
+-- the rows hold a flag under this name, set or not
+abbrev pub HoldsFlag : List Row → Text → Type 0
+HoldsFlag rows id = (one_of id rows ≡ Some (codes "true")) ⊎ (one_of id rows ≡ Some (codes "false"))
+
 -- the rows hold a value under this name that an option of this kind takes
 abbrev pub HoldsAs : Kind → List Row → Text → Type 0
 HoldsAs (number low high) rows id = HoldsNumber low high rows id
 HoldsAs (bare low high) rows id = HoldsNumber low high rows id
 HoldsAs directory rows id = HoldsText rows id
-HoldsAs flag rows id = (t : Text) × (one_of id rows ≡ Some t)
+HoldsAs flag rows id = HoldsFlag rows id
 
 -- the rows hold a value for each option of the table
 abbrev pub Holds : List Item → List Row → Type 0
@@ -88,6 +101,7 @@ pub data HoldsFor (name : Text) (rows : List Row) : Type 0 where
   for_play : name ≡ codes "play" → Holds play_items rows → HoldsFor name rows
   for_serve : name ≡ codes "serve" → Holds serve_items rows → HoldsFor name rows
   for_load : name ≡ codes "load" → Holds load_items rows → HoldsFor name rows
+  for_audit : name ≡ codes "audit" → Holds audit_items rows → HoldsFor name rows
 
 abbrev pub HoldsAsked : Option (Text × List Row) → Type 0
 HoldsAsked None = ⊥

@@ -4,10 +4,10 @@
 ghost use Rattle.std.specs.Prelude.{◌≡◌, ◌≢◌, ◌<◌, ◌^◌, [], Some, Err, true, false, IfOk, IfErr};
 ghost use Rattle.clap.specs.Simple.{app_of, subcommand_rows_of};
 ghost use Rattle.clap.specs.Walk.{rule_of};
-ghost use Rattle.command_words.specs.App.{IsLocal, app, bare_top, faults_in, load_shape, play_shape, rows_of_words, rule_for, serve_shape, texts, value_rule, with_items};
-ghost use Rattle.command_words.specs.Options.{connections, fuel, instances, journal, life, load_items, pages, play_items, port, requests, run_number, serve_items, shelves, workers};
+ghost use Rattle.command_words.specs.App.{IsLocal, app, audit_shape, bare_top, faults_in, load_shape, play_shape, rows_of_words, rule_for, serve_shape, texts, value_rule, with_items};
+ghost use Rattle.command_words.specs.Options.{audit, audit_items, connections, fuel, instances, journal, life, load_items, pages, play_items, port, requests, run_number, serve_items, shelves, workers};
 ghost use Rattle.command_words.specs.Plain.{AcceptsPlain, IsInRange, ReadsPlain};
-ghost use Rattle.command_words.specs.Reads.{AsksFor, Holds, HoldsNoNumber, LacksAsked, HoldsText, asked_from, options_at, load_at, number_at, rows_in, service_at, text_at};
+ghost use Rattle.command_words.specs.Reads.{AsksFor, Holds, HoldsFlag, HoldsNoNumber, LacksAsked, HoldsText, asked_from, audit_at, flag_at, options_at, load_at, number_at, rows_in, service_at, text_at};
 ghost use Rattle.command_words.specs.declared.Command.{Command};
 
 use clap::builder::ValueParser;
@@ -59,6 +59,8 @@ pub struct Service {
     pub workers: u32,
     /// The most requests that a link carries, 1 to `MOST_REQUESTS`.
     pub requests: u32,
+    /// Whether the journals are audited before they are served.
+    pub audit: bool,
 }
 
 /// What the words of `load` say, each in its range.
@@ -68,6 +70,15 @@ pub struct LoadOptions {
     pub number: u64,
     /// The options, which are those of `play`.
     pub options: Options,
+}
+
+/// What the words of `audit` say, each in its range.
+#[derive(Drop)]
+pub struct AuditOptions {
+    /// The directory of the journals, of one byte or more. Where it is `-`, they stand in memory.
+    pub journal: Str,
+    /// How many shelves are audited, from 0 on, 1 to `MOST_SHELVES`.
+    pub shelves: u32,
 }
 
 /// What the words ask for.
@@ -81,6 +92,8 @@ pub enum Command {
     Serve(Service),
     /// Performs a measured run, and tells what it came to.
     Load(LoadOptions),
+    /// Audits the journals of shelves, and tells how many records each has.
+    Audit(AuditOptions),
 }
 
 /// Why words were refused.
@@ -246,6 +259,16 @@ fn requests_arg<'a>(alloc: Global) -> Arg<'a>
     .default_value("100")
 }
 
+/// `--audit`
+fn audit_arg<'a>(alloc: Global) -> Arg<'a>
+    ensures rule { rule_of result ≡ rule_for audit }
+    ensures local { result.global ≡ false }
+{
+    Arg::new(alloc, "audit")
+        .long("audit")
+        .action(ArgAction::SetTrue)
+}
+
 /// The command with the options that `play`, `serve` and `load` share.
 fn with_options<'a>(
     alloc: Global,
@@ -278,7 +301,8 @@ fn serve_command<'a>(alloc: Global) -> Result<clap::Command<'a>, AllocError>
         .arg(port_arg(alloc))?
         .arg(connections_arg(alloc))?
         .arg(workers_arg(alloc))?
-        .arg(requests_arg(alloc))
+        .arg(requests_arg(alloc))?
+        .arg(audit_arg(alloc))
 }
 
 fn load_command<'a>(alloc: Global) -> Result<clap::Command<'a>, AllocError>
@@ -287,6 +311,15 @@ fn load_command<'a>(alloc: Global) -> Result<clap::Command<'a>, AllocError>
 {
     let command = clap::Command::new(alloc, "load").arg(run_number_arg(alloc))?;
     with_options(alloc, command)
+}
+
+fn audit_command<'a>(alloc: Global) -> Result<clap::Command<'a>, AllocError>
+    ensures app { IfOk result (λ c. (app_of c).top ≡ audit_shape) }
+    ensures local { IfOk result (λ c. IsLocal c) }
+{
+    clap::Command::new(alloc, "audit")
+        .arg(journal_arg(alloc))?
+        .arg(shelves_arg(alloc))
 }
 
 fn new_command_line<'a>(alloc: Global) -> clap::Command<'a>
@@ -304,7 +337,8 @@ fn command_line<'a>(alloc: Global) -> Result<clap::Command<'a>, AllocError>
         .subcommand(clap::Command::new(alloc, "check"))?
         .subcommand(play_command(alloc)?)?
         .subcommand(serve_command(alloc)?)?
-        .subcommand(load_command(alloc)?)
+        .subcommand(load_command(alloc)?)?
+        .subcommand(audit_command(alloc)?)
 }
 
 /// What `clap` finds in the words.
@@ -346,6 +380,14 @@ fn number(matches: &ArgMatches<'_>, id: &str) -> Result<u64, WordsFault>
     matches.get_one::<u64>(id).ok_or(WordsFault::Usage)
 }
 
+// Whether a flag is set.
+fn flag(matches: &ArgMatches<'_>, id: &str) -> bool
+    ensures value { HoldsFlag (rows_in matches.now) id.now →
+        result ≡ flag_at (rows_in matches.now) id.now }
+{
+    matches.get_flag(id)
+}
+
 fn text(alloc: Global, matches: &ArgMatches<'_>, id: &str) -> Result<Str, WordsFault>
     ensures value { IfOk result (λ t. t ≡ text_at (rows_in matches.now) id.now) }
     ensures refused { result ≡ Err WordsFault.Usage → HoldsText (rows_in matches.now) id.now → ⊥ }
@@ -371,7 +413,8 @@ fn options_of(alloc: Global, matches: &ArgMatches<'_>) -> Result<Options, WordsF
 }
 
 fn service_of(alloc: Global, matches: &ArgMatches<'_>) -> Result<Service, WordsFault>
-    ensures value { IfOk result (λ s. s ≡ service_at (rows_in matches.now)) }
+    ensures value { Holds serve_items (rows_in matches.now) →
+        IfOk result (λ s. s ≡ service_at (rows_in matches.now)) }
     ensures refused { result ≡ Err WordsFault.Usage → Holds serve_items (rows_in matches.now) → ⊥ }
 {
     Ok(Service {
@@ -380,6 +423,7 @@ fn service_of(alloc: Global, matches: &ArgMatches<'_>) -> Result<Service, WordsF
         connections: number(matches, "connections")?,
         workers: short_number(matches, "workers")?,
         requests: short_number(matches, "requests")?,
+        audit: flag(matches, "audit"),
     })
 }
 
@@ -390,6 +434,16 @@ fn load_of(alloc: Global, matches: &ArgMatches<'_>) -> Result<LoadOptions, Words
     Ok(LoadOptions {
         number: number(matches, "number")?,
         options: options_of(alloc, matches)?,
+    })
+}
+
+fn audit_of(alloc: Global, matches: &ArgMatches<'_>) -> Result<AuditOptions, WordsFault>
+    ensures value { IfOk result (λ a. a ≡ audit_at (rows_in matches.now)) }
+    ensures refused { result ≡ Err WordsFault.Usage → Holds audit_items (rows_in matches.now) → ⊥ }
+{
+    Ok(AuditOptions {
+        journal: text(alloc, matches, "journal")?,
+        shelves: short_number(matches, "shelves")?,
     })
 }
 
@@ -405,6 +459,7 @@ fn command_of(alloc: Global, matches: &ArgMatches<'_>) -> Result<Command, WordsF
         "play" => Ok(Command::Play(options_of(alloc, inner)?)),
         "serve" => Ok(Command::Serve(service_of(alloc, inner)?)),
         "load" => Ok(Command::Load(load_of(alloc, inner)?)),
+        "audit" => Ok(Command::Audit(audit_of(alloc, inner)?)),
         _ => Err(WordsFault::Usage),
     }
 }
