@@ -11,7 +11,7 @@ use Rattle.web_outside.specs.declared.source.InputFault.{InputFault}
 use Rattle.web_outside.specs.declared.source.InputFault.TheVariants as faults
 use Rattle.command_words.specs.App.{app}
 use Rattle.command_words.specs.Plain.{IsPlain}
-use Rattle.command_words.specs.declared.Command.TheVariants.{Check, Play, Serve, Load}
+use Rattle.command_words.specs.declared.Command.TheVariants.{Audit, Check, Play, Serve, Load}
 use Rattle.command_words.specs.declared.Service.{Service}
 use Rattle.command_words.specs.declared.Command.{Command}
 use Rattle.command_words.specs.Reads.{asked_from}
@@ -26,7 +26,7 @@ use Rattle.server_command.specs.Command.{Met, Prints, Untouched, ReadToEnd, HasD
 use Rattle.server_command.specs.Serving.{Serves, RackFailed, LeavesInput}
 use Rattle.server_command.proofs.Endings.{whole_input, no_chances}
 
-read_to_end : (met : Met) (bytes : List ℕ) → Consumes met.input met.unread bytes → IsAtEnd met.unread → length bytes ≤ most_of_input → ReadToEnd met
+pub read_to_end : (met : Met) (bytes : List ℕ) → Consumes met.input met.unread bytes → IsAtEnd met.unread → length bytes ≤ most_of_input → ReadToEnd met
 read_to_end met bytes read end short = record { end = end; short = whole_input met.input met.unread bytes (λ b. length b ≤ most_of_input) read end short }
 
 -- what was done with the whole input explains the status
@@ -50,6 +50,7 @@ comes asked status.Disk met bytes chances read end short p = (has_done asked sta
 comes asked status.Journal met bytes chances read end short p = has_done asked status.Journal met bytes chances read end short p
 comes asked status.Door met bytes chances read end short p = absurd p
 comes asked status.Key met bytes chances read end short p = absurd p
+comes asked status.Audit met bytes chances read end short p = absurd p
 
 pub came : (asked : Command) (s : Status) (met : Met) (bytes : List ℕ) → Consumes met.input met.unread bytes → IsAtEnd met.unread → length bytes ≤ most_of_input
     → Outputs met.rack asked bytes s met.output → Came asked s met
@@ -110,6 +111,7 @@ served_comes serves v status.Disk met bytes chances same read end short p =
 served_comes serves v status.Journal met bytes chances same read end short p = has_served serves v status.Journal met bytes chances read end short p
 served_comes serves v status.Door met bytes chances same read end short p =
     (has_served serves v status.Door met bytes chances read end short p, p.2.0)
+served_comes serves v status.Audit met bytes chances same read end short p = absurd p
 served_comes serves v status.Key met bytes chances same read end short p =
     (has_served serves v status.Key met bytes chances read end short p, p.2.0)
 
@@ -149,6 +151,7 @@ never_usage serves Check chances met h = h
 never_usage serves (Play o) chances met h = h
 never_usage serves (Serve v) chances met h = h
 never_usage serves (Load l) chances met h = h.1
+never_usage serves (Audit o) chances met h = h
 
 -- memory ran out as the words were read
 pub unworded : (serves : Serves) (s : Status) (met : Met) → s ≡ status.Memory → Prints met (codes "error 10 memory\n") → Untouched met → AtRest met.rack

@@ -6,6 +6,7 @@ pub mod Playing
 pub mod Dues
 pub mod Servings
 pub mod Openings
+pub mod Audits
 pub mod Shelves
 pub mod Giving
 pub mod Short
@@ -15,4 +16,6 @@ pub mod Room
 pub mod Loads
 pub mod Orders
 pub mod Whole
+pub mod Owned
+pub mod Audited
 pub mod Lent

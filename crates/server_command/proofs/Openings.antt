@@ -1,12 +1,12 @@
 -- What opening and closing the shelves of a server leaves of its rack.
-use Rattle.std.proofs.Common.{◌≡◌, ◌≢◌, ◌<◌, ◌≤◌, ◌+◌, ◌-◌, ◌^◌, ◌++◌, ◌∷◌, ◌∙◌, ◌⊎◌, ⊎_elim, inl, inr, ℕ, zero, suc, List, [], length, Bool, true, false, IsTrue, Some, refl, sym, ap, subst, arith}
-use Rattle.std.specs.Prelude.{min, slice_get, ◌&&◌}
+use Rattle.std.proofs.Common.{◌≡◌, ◌≢◌, ◌<◌, ◌≤◌, ◌+◌, ◌-◌, ◌^◌, ◌++◌, ◌∷◌, ◌∙◌, ◌⊎◌, ⊎_elim, inl, inr, ℕ, zero, suc, List, [], length, Bool, true, false, IsTrue, refl, sym, ap, subst, arith}
+use Rattle.std.specs.Prelude.{min, ◌&&◌}
 use Rattle.std.specs.List.{AllByRecursion}
 use Rattle.std.proofs.lemmas.Bool.{and_parts}
 use Rattle.std.proofs.lemmas.List.{length-append}
 use Rattle.web_outside.specs.Causes.{Rose}
 use Rattle.web_disk.specs.View.{View, RackView, AreAmong}
-use Rattle.trio_rack.specs.Trios.{shelves_of}
+use Rattle.trio_rack.specs.Trios.{LeavesAllDisks, shelves_of}
 use Rattle.script_nodes.specs.Setup.{Named}
 use Rattle.play_steps.specs.Rules.{StaysUp}
 use Rattle.play_desk.specs.Asking.{AsksForFirst, AsksForNone, AsksForOne, AsksUntil}
@@ -14,7 +14,7 @@ use Rattle.play_desk.specs.Opening.{FailedFor}
 use Rattle.server_command.specs.Racks.{KeepsHome}
 use Rattle.play_desk.specs.declared.opening.OpenCause.{OpenCause}
 use Rattle.play_desk.specs.declared.opening.OpenCause.TheVariants as cause
-use Rattle.server_command.specs.Opening.{AreFrom, AsksAsTaken, AsksByCause, HasTaken, IsRefused, IsUntaken, LeavesFrom, RefusesInOrder, TakesBack, seen_on}
+use Rattle.server_command.specs.Opening.{AsksAsTaken, AsksByCause, HasTaken, IsRefused, IsUntaken, RefusesInOrder, TakesBack, seen_on}
 use Rattle.play_desk.proofs.Asking.{asked_more, asked_none}
 use Rattle.server_command.proofs.Racks.{held_more}
 
@@ -202,14 +202,6 @@ pub seen_size : {D : Type 0} (view : D → View) (front : List D) → length (se
 seen_size view [] = refl
 seen_size view (d ∷ front) = ap suc (seen_size view front)
 
--- what holds of each, and of one more
-pub each_more : {A : Type 0} (K : ℕ → A → Type 0) (xs : List A) (x : A) → ((k : ℕ) (y : A) → slice_get xs k ≡ Some y → K k y) → K (length xs) x
-    → (k : ℕ) (y : A) → slice_get (xs ++ x ∷ []) k ≡ Some y → K k y
-each_more K [] x all new zero y e = subst (K 0) (cc e) new
-each_more K [] x all new (suc k) y e = absurd (cc e)
-each_more K (z ∷ xs) x all new zero y e = all zero y e
-each_more K (z ∷ xs) x all new (suc k) y e = each_more (λ j q. K (suc j) q) xs x (λ j q f. all (suc j) q f) new k y e
-
 -- what holds of all, and of one more
 pub all_more : {A : Type 0} (K : A → Type 0) (xs : List A) (x : A) → AllByRecursion K xs → K x → AllByRecursion K (xs ++ x ∷ [])
 all_more K [] x all new = (new, tt)
@@ -224,22 +216,6 @@ some_home told before mid after last count images p same back k home =
       | inr above ↦ back.home k (same k (p.home k above ∙ home))
     ]
 
--- disks that were taken came home as they were, and no other was touched
-pub kept_home : {D : Type 0} (view : D → View) (told : Type 0) (before mid after last : RackView) (count : ℕ) (images : List (List ℕ)) (disks : List D)
-    → TakesUpTo told before mid count images → length disks ≡ count → AreFrom view before disks → ((n : ℕ) → AreAmong ((shelves_of after).holds n) ((shelves_of mid).holds n))
-    → ((k : ℕ) (d : D) → slice_get disks k ≡ Some d → AreAmong ((shelves_of last).holds k) (view d).images) → LeavesFrom (length disks) after last
-    → LeavesFrom 0 before last
-kept_home {D = D} view told before mid after last count images disks p many from same held others n le image h =
-    elim (below_or_not n (length disks)) [
-      | inl low ↦ (let d = there disks n low in from n d.0 d.1 image (held n d.0 d.1 image h))
-      | inr high ↦ p.above n (omega (arith, many, high)) image (same n image (others n high image h))
-    ]
-  where
-    there : (xs : List D) (k : ℕ) → k < length xs → (x : D) × (slice_get xs k ≡ Some x)
-    there [] k low = absurd (omega (arith, low))
-    there (x ∷ xs) zero low = (x, refl)
-    there (x ∷ xs) (suc k) low = there xs k (omega (arith, low))
-
 -- both the rack and its disks tell
 pub both_tell : (a b : Bool) → IsTrue (a && b) → IsTrue a × IsTrue b
 both_tell a b h = and_parts a b h
@@ -250,10 +226,10 @@ until_disk before after count shelf (inr none) = absurd (let is = none.0 in let 
 
 -- a disk was not taken, and nothing was written on any
 pub untaken_in_order : (scripts : List Named) (before after : RackView) (count : ℕ) (risen : ℕ → Type 0) (shelf : ℕ) (why : OpenCause)
-    → IsUntaken risen shelf why → AsksAsTaken before after count shelf why → LeavesFrom 0 before after
+    → IsUntaken risen shelf why → AsksAsTaken before after count shelf why → LeavesAllDisks before after
     → RefusesInOrder scripts before after count [] shelf why
 untaken_in_order scripts before after count risen shelf cause.Disk h asked left =
-    inl (until_disk before after count shelf asked, λ n. left n (omega arith))
+    inl (until_disk before after count shelf asked, left)
 untaken_in_order scripts before after count risen shelf cause.NotEmpty h asked left = absurd h
 untaken_in_order scripts before after count risen shelf (cause.Damaged place) h asked left = absurd h
 untaken_in_order scripts before after count risen shelf (cause.Other place) h asked left = absurd h

@@ -4,13 +4,14 @@ use Rattle.web_disk.specs.View.{RackView}
 use Rattle.web_outside.specs.declared.source.InputFault.{InputFault}
 use Rattle.web_outside.specs.declared.source.InputFault.TheVariants as faults
 use Rattle.command_words.specs.declared.Command.{Command}
-use Rattle.command_words.specs.declared.Command.TheVariants.{Check, Play, Serve, Load}
+use Rattle.command_words.specs.declared.Command.TheVariants.{Audit, Check, Play, Serve, Load}
 use Rattle.request_workers.specs.declared.tally.Tally.{Tally}
 use Rattle.setup_reader.specs.Setup.{Fault}
 use Rattle.site_serving.specs.declared.serving.ServingFault.{ServingFault}
 use Rattle.site_serving.specs.declared.serving.ServingFault.TheVariants as served
 use Rattle.server_command.specs.declared.program.Status.{Status}
 use Rattle.server_command.specs.declared.program.Status.TheVariants as status
+use Rattle.server_command.specs.declared.auditing.AuditEnd.{AuditEnd}
 use Rattle.server_command.specs.declared.serving.ServeFault.{ServeFault}
 use Rattle.server_command.specs.declared.serving.ServeFault.TheVariants as fault
 use Rattle.play_desk.specs.declared.opening.OpenCause.{OpenCause}
@@ -97,16 +98,18 @@ outcome_order asks rack shelves (Ok tally) out status.Memory p tells = inr (inl 
 outcome_order asks rack shelves (Ok tally) out s p tells = absurd tells
 outcome_order asks rack shelves (Err fault.Key) out s p tells = subst (ServesInOrder asks rack shelves) (sym tells.0) p
 outcome_order asks rack shelves (Err (fault.Shelf f)) out s p tells = unopened_order asks rack shelves f.shelf f.why out s p tells
+outcome_order asks rack shelves (Err (fault.Audit end)) out s p tells = absurd p
 outcome_order asks rack shelves (Err fault.Door) out s p tells = subst (ServesInOrder asks rack shelves) (sym tells.0) p
 outcome_order asks rack shelves (Err fault.Memory) out s p tells = subst (ServesInOrder asks rack shelves) (sym tells.0) p
 
 -- the seeds gave no sources
 pub undrawn_order : (asks : Asks) (rack : Racks) (shelves : ℕ) (why : ServeFault) → AtRest rack → asks.shut → (why ≡ fault.Door → ⊥)
-    → ((u : OpenFault) → why ≡ fault.Shelf u → ⊥) → ComesInOrder asks rack shelves (Err why)
-undrawn_order asks rack shelves fault.Key rest shut door shelf = (rest, shut)
-undrawn_order asks rack shelves (fault.Shelf u) rest shut door shelf = absurd (shelf u refl)
-undrawn_order asks rack shelves fault.Door rest shut door shelf = absurd (door refl)
-undrawn_order asks rack shelves fault.Memory rest shut door shelf = inl rest.asked
+    → ((u : OpenFault) → why ≡ fault.Shelf u → ⊥) → ((end : AuditEnd) → why ≡ fault.Audit end → ⊥) → ComesInOrder asks rack shelves (Err why)
+undrawn_order asks rack shelves fault.Key rest shut door shelf audit = (rest, shut)
+undrawn_order asks rack shelves (fault.Shelf u) rest shut door shelf audit = absurd (shelf u refl)
+undrawn_order asks rack shelves (fault.Audit end) rest shut door shelf audit = absurd (audit end refl)
+undrawn_order asks rack shelves fault.Door rest shut door shelf audit = absurd (door refl)
+undrawn_order asks rack shelves fault.Memory rest shut door shelf audit = inl rest.asked
 
 -- the shelves were opened
 pub told_order : (asks : Asks) (rack : Racks) (shelves : ℕ) (outcome : Result Tally ServingFault) → asks.drawn shelves
@@ -166,12 +169,16 @@ fault_asked rack (Serve v) e s out p rest = absurd p
 fault_asked rack (Load l) e status.Setup out p rest = rest
 fault_asked rack (Load l) e status.Memory out p rest = inl rest.asked
 fault_asked rack (Load l) e s out p rest = absurd p
+fault_asked rack (Audit o) e status.Setup out p rest = rest
+fault_asked rack (Audit o) e status.Memory out p rest = tt
+fault_asked rack (Audit o) e s out p rest = absurd p
 
 unheld : (rack : Racks) (asked : Command) → AtRest rack → AsksRack rack asked status.Memory
 unheld rack Check rest = rest
 unheld rack (Play o) rest = inl rest.asked
 unheld rack (Serve v) rest = tt
 unheld rack (Load l) rest = inl rest.asked
+unheld rack (Audit o) rest = tt
 
 pub unheld_asked : (rack : Racks) (asked : Command) (s : Status) → s ≡ status.Memory → AtRest rack → AsksRack rack asked s
 unheld_asked rack asked s is rest = subst (AsksRack rack asked) (sym is) (unheld rack asked rest)
@@ -181,9 +188,11 @@ unread rack Check why rest = rest
 unread rack (Play o) faults.Failed rest = rest
 unread rack (Serve v) faults.Failed rest = rest
 unread rack (Load l) faults.Failed rest = rest
+unread rack (Audit o) faults.Failed rest = rest
 unread rack (Play o) faults.Long rest = rest
 unread rack (Serve v) faults.Long rest = rest
 unread rack (Load l) faults.Long rest = rest
+unread rack (Audit o) faults.Long rest = rest
 unread rack asked faults.Memory rest = unheld rack asked rest
 
 pub unread_asked : (rack : Racks) (asked : Command) (why : InputFault) (s : Status) → s ≡ unread_status why → AtRest rack → AsksRack rack asked s
@@ -200,6 +209,7 @@ unworded_order asks rack asked s is undrawn shut rest = subst (AsksInOrder asks 
     by_words (Some (Play o)) = (undrawn, shut, inl rest.asked)
     by_words (Some (Serve s)) = inl rest.asked
     by_words (Some (Load l)) = (undrawn, shut, inl rest.asked)
+    by_words (Some (Audit o)) = (undrawn, shut, tt)
 
 -- the disks up to those of a shelf, of so many shelves or of the first up to that one
 pub until_own : (count shelf : ℕ) (old new : RackView) → AsksUntil count shelf old new → AsksUntil (shelf + 1) shelf old new

@@ -36,7 +36,7 @@ use Rattle.play_desk.specs.Desk as desk
 use Rattle.play_desk.specs.Desk.{Desk, counting, crash_on, crashed_by, desk_crash, desk_publish, desk_rules, desk_sweep, desk_take, first_desk, first_shelves, happening, publish_held, publish_on, sweep_on, swept_by, taken_by, ticket_of}
 use Rattle.play_desk.specs.Opening.{IsLeft}
 use Rattle.play_desk.specs.Target.{answer_to, path_and_query, shelf_for}
-use Rattle.server_command.proofs.Openings.{each_more}
+use Rattle.trio_rack.proofs.Each.{each_more}
 
 -- the record of what is decided has room in the journal
 abbrev Fits : Rules → Book → Decision → Type 0

@@ -25,6 +25,7 @@ use Rattle.site_serving.specs.Kept.{Kept}
 use Rattle.site_serving.specs.Serving.{AreUntouched, ComesTo, IsUnserved, Leaves, opened_as}
 use Rattle.server_command.specs.declared.program.Status.{Status}
 use Rattle.server_command.specs.declared.program.Status.TheVariants as status
+use Rattle.server_command.specs.declared.auditing.AuditEnd.{AuditEnd}
 use Rattle.server_command.specs.declared.serving.ServeFault.{ServeFault}
 use Rattle.server_command.specs.declared.serving.ServeFault.TheVariants as fault
 use Rattle.play_desk.specs.declared.opening.OpenCause.{OpenCause}
@@ -37,7 +38,7 @@ use Rattle.server_command.specs.Telling.{TellsOutcome, TellsUnopened, told, unto
 use Rattle.play_desk.specs.Asking.{AsksForFirst}
 use Rattle.play_desk.specs.Opening.{IsKept}
 use Rattle.server_command.specs.Racks.{AreBare, AtRest, Racks, Unfit, damaged, other, full, first_unfit, unfit_left}
-use Rattle.server_command.specs.Serving.{Faults, HaveRisen, KeepsAll, KeepsAllBut, LeavesInput, LeavesServing, NoneIsLost, Opens, Outside, Served, Serves, ServesBy, Shuts, ShutsBy, serves_over, told_as, watch_of}
+use Rattle.server_command.specs.Serving.{AreOwn, Faults, HaveRisen, KeepsAll, KeepsAllBut, LeavesInput, LeavesServing, NoneIsLost, Opens, Outside, Served, Serves, ServesBy, Shuts, ShutsBy, serves_over, told_as, watch_of}
 use Rattle.server_command.proofs.Endings.{no_chances, tells}
 use Rattle.server_command.proofs.Shelves.{faults_sum, opened_fits, stands_from, untouched_at}
 
@@ -58,9 +59,10 @@ pub serves_of : {D P L N : Type 0} (o : Outside D P L N) (s : Service) (scripts 
     → (IsTrue o.rack.tells → IsTrue o.views.told) → length disks ≡ length sources
     → (IsTrue o.rack.tells → (k : ℕ) (d : D) → slice_get disks k ≡ Some d → AreAmong ((shelves_of o.rack.after).holds k) (o.views.disk d).images)
     → LeavesFrom (length disks) middle o.rack.after → RoseBy (sum_by (λ d. (o.views.disk d).faults) disks) middle.faults o.rack.after.faults
+    → (IsTrue s.audit → IsTrue o.rack.tells → AreOwn o.views.disk o.views.told openings)
     → ComesTo o.views (opened_as o.views.disk o.views.told o.views.nonce openings) o.before o.after o.past (watch_of s) disks result
     → ServesBy (serves_over o) s scripts p.images (told_as result)
-serves_of {D = D} {P = P} {L = L} {N = N} o s scripts sources middle openings disks result count drawn p tells many held others counts comes = by_result result comes
+serves_of {D = D} {P = P} {L = L} {N = N} o s scripts sources middle openings disks result count drawn p tells many held others counts owned comes = by_result result comes
   where
     opened : List Opened
     opened = opened_as o.views.disk o.views.told o.views.nonce openings
@@ -86,6 +88,7 @@ serves_of {D = D} {P = P} {L = L} {N = N} o s scripts sources middle openings di
       drawn = drawn;
       opened = p.opened;
       leaves = left;
+      audited = owned;
       counted = λ own.
           let sum = faults_sum o.views.disk o.views.told o.views.nonce (IsTrue o.views.told) s.workers openings disks kept.histories own left.served.shelves in
           let later = p.taken.later in
@@ -108,8 +111,9 @@ serves_of {D = D} {P = P} {L = L} {N = N} o s scripts sources middle openings di
 
 -- no sources were drawn, and nothing was asked of the rack
 pub undrawn : {D P L N : Type 0} (o : Outside D P L N) (s : Service) (scripts : List Named) (why : ServeFault) → IsUnserved o.before o.after o.past → o.rack.after ≡ o.rack.before
-    → (why ≡ fault.Door → ⊥) → ((w : OpenFault) → why ≡ fault.Shelf w → ⊥) → ServesBy (serves_over o) s scripts [] (Err why)
-undrawn o s scripts why none same door shelf = by_why why door shelf
+    → (why ≡ fault.Door → ⊥) → ((w : OpenFault) → why ≡ fault.Shelf w → ⊥) → ((end : AuditEnd) → why ≡ fault.Audit end → ⊥)
+    → ServesBy (serves_over o) s scripts [] (Err why)
+undrawn o s scripts why none same door shelf audit = by_why why door shelf audit
   where
     keeps : KeepsAll o.rack scripts []
     keeps t = record {
@@ -118,8 +122,9 @@ undrawn o s scripts why none same door shelf = by_why why door shelf
       unread = λ k left le is. subst (λ (r : RackView). (shelves_of r).holds k left) same is;
     }
 
-    by_why : (w : ServeFault) → (w ≡ fault.Door → ⊥) → ((x : OpenFault) → w ≡ fault.Shelf x → ⊥) → ServesBy (serves_over o) s scripts [] (Err w)
-    by_why fault.Key door shelf = (
+    by_why : (w : ServeFault) → (w ≡ fault.Door → ⊥) → ((x : OpenFault) → w ≡ fault.Shelf x → ⊥) → ((end : AuditEnd) → w ≡ fault.Audit end → ⊥)
+        → ServesBy (serves_over o) s scripts [] (Err w)
+    by_why fault.Key door shelf audit = (
       none,
       record {
         faults = ap (λ (r : RackView). r.faults) same;
@@ -129,9 +134,10 @@ undrawn o s scripts why none same door shelf = by_why why door shelf
         asked = ap (λ (r : RackView). r.asked) same;
       },
     )
-    by_why (fault.Shelf x) door shelf = absurd (shelf x refl)
-    by_why fault.Door door shelf = absurd (door refl)
-    by_why fault.Memory door shelf = (none, keeps)
+    by_why (fault.Shelf x) door shelf audit = absurd (shelf x refl)
+    by_why (fault.Audit end) door shelf audit = absurd (audit end refl)
+    by_why fault.Door door shelf audit = absurd (door refl)
+    by_why fault.Memory door shelf audit = (none, keeps)
 
 -- a shelf was not opened
 pub refuses_of : {D P L N : Type 0} (o : Outside D P L N) (s : Service) (scripts : List Named) (f : OpenFault) → IsUnserved o.before o.after o.past
@@ -243,6 +249,7 @@ told_left serves v scripts images (Err fault.Key) s out door seeds by key opened
     subst (λ x. LeavesServing serves v scripts images x out door seeds) (sym p.0) (key refl, p.1, by.0, by.1)
 told_left serves v scripts images (Err (fault.Shelf f)) s out door seeds by key opened p =
     shuts_told serves v scripts images f.shelf f.why s out door seeds by p
+told_left serves v scripts images (Err (fault.Audit end)) s out door seeds by key opened p = absurd by
 told_left serves v scripts images (Err fault.Door) s out door seeds by key opened p =
     subst (λ x. LeavesServing serves v scripts images x out door seeds) (sym p.0) (opened refl, p.1, by)
 told_left serves v scripts images (Err fault.Memory) s out door seeds by key opened p =
@@ -273,3 +280,4 @@ input_served serves v bytes setup s out door seeds is (images, left) = (record {
     by_status status.Line p = absurd p
     by_status status.Read p = absurd p
     by_status status.Long p = absurd p
+    by_status status.Audit p = absurd p

@@ -2,7 +2,7 @@
 use Rattle.std.proofs.Common.{◌≡◌, ◌≤◌, ◌∙◌, inl, inr, ℕ, None, IfSome, refl, sym, subst, arith}
 use Rattle.web_outside.specs.Causes.{Rose}
 use Rattle.command_words.specs.declared.Command.{Command}
-use Rattle.command_words.specs.declared.Command.TheVariants.{Check, Play, Serve, Load}
+use Rattle.command_words.specs.declared.Command.TheVariants.{Audit, Check, Play, Serve, Load}
 use Rattle.play_desk.specs.Laws.{TranscriptsAreRuns}
 use Rattle.server_command.specs.declared.program.Status.{Status}
 use Rattle.server_command.specs.declared.program.Status.TheVariants as status
@@ -54,6 +54,7 @@ read_by serves Check chances met h = h.0
 read_by serves (Play o) chances met h = h.0
 read_by serves (Serve v) chances met h = h.0.0
 read_by serves (Load l) chances met h = absurd h.1
+read_by serves (Audit o) chances met h = absurd h
 
 read_of : (serves : Serves) (chances : Chances) (met : Met) → Explains serves status.Read chances met → Rose met.input_before met.input_after
 read_of serves chances met (inl h) = absurd h
@@ -65,6 +66,7 @@ write_by serves Check chances met h = h.1
 write_by serves (Play o) chances met h = h.1
 write_by serves (Serve v) chances met h = h.1
 write_by serves (Load l) chances met h = h.1.0
+write_by serves (Audit o) chances met h = absurd h
 
 write_of : (serves : Serves) (chances : Chances) (met : Met) → Explains serves status.Write chances met → Rose met.output.before met.output.after
 write_of serves chances met (inl h) = absurd h

@@ -3,7 +3,7 @@
 -- each status (`HasCause`) and what holds whatever a command comes to (`IsTidy`). Before it, from the bottom up, stands what `Explains`
 -- says: `Leaves` of a check and of steps, `LeavesInput` of a serving, `LeavesLoad` of a measured run, by status. `Met` is what all this
 -- speaks of.
-use Rattle.std.specs.Prelude.{⊤, ◌≡◌, ◌⊎◌, ◌≤◌, ◌∷◌, [], ℕ, List, length, map, nat_le, Option, Some, None, IfSome, IsTrue, Result, Ok, Err, codes, if◌then◌else◌}
+use Rattle.std.specs.Prelude.{⊤, ◌≡◌, ◌⊎◌, ◌≤◌, ◌∷◌, [], ℕ, List, length, map, nat_le, false, Option, Some, None, IfSome, IsTrue, Result, Ok, Err, codes, if◌then◌else◌}
 use Rattle.std.specs.Borrow.{Bor}
 use Rattle.std.specs.Io.KnownBytes.{IsAtEnd}
 use Rattle.clap.specs.Faults.{fault_of}
@@ -20,7 +20,7 @@ use Rattle.script_nodes.specs.Setup.{Named}
 use Rattle.command_words.specs.App.{app}
 use Rattle.command_words.specs.Plain.{IsPlain}
 use Rattle.command_words.specs.declared.Command.{Command}
-use Rattle.command_words.specs.declared.Command.TheVariants.{Check, Play, Serve, Load}
+use Rattle.command_words.specs.declared.Command.TheVariants.{Audit, Check, Play, Serve, Load}
 use Rattle.command_words.specs.declared.Options.{Options}
 use Rattle.command_words.specs.declared.LoadOptions.{LoadOptions}
 use Rattle.command_words.specs.declared.Service.{Service}
@@ -76,6 +76,7 @@ code_of status.Journal = 8
 code_of status.Door = 9
 code_of status.Memory = 10
 code_of status.Long = 11
+code_of status.Audit = 12
 code_of status.Key = 14
 
 -- what a command met: the words; the bytes that its input had, and those that are left of it, where these are told; the input's
@@ -291,11 +292,13 @@ ComesServing serves s chances _ met = ⊥
 abbrev pub ComesLoading : LoadOptions → Chances → Status → Met → Type 0
 ComesLoading l chances how met = Untouched met × LeavesLoad met.rack l how chances met.output
 
+-- why a command that was asked for ends so, before which nothing is audited
 abbrev pub ComesTo : Serves → Command → Chances → Status → Met → Type 0
 ComesTo serves Check chances how met = Comes Check chances how met
 ComesTo serves (Play o) chances how met = Comes (Play o) chances how met
 ComesTo serves (Serve s) chances how met = ComesServing serves s chances how met
 ComesTo serves (Load l) chances how met = ComesLoading l chances how met
+ComesTo serves (Audit o) chances how met = ⊥
 
 -- words without a command, or want of memory for them, leave the input unread and the disks where they are
 abbrev pub Refuses : Option Command → Status → Met → Type 0
@@ -338,9 +341,10 @@ EndsAs status met bytes chances =
     ⊎ (((status ≡ 9) × HaveRisen met.door)
     ⊎ (((status ≡ 14) × HaveRisen met.seeds) ⊎ ((status ≡ 10) ⊎ EndsOutgrown status met bytes chances))))))
 
--- the words ask for anything but a measured run, which reads no input
+-- the words ask for anything but a measured run or an audit, which read no input
 abbrev pub ReadsInput : Option Command → Type 0
 ReadsInput (Some (Load l)) = ⊥
+ReadsInput (Some (Audit o)) = ⊥
 ReadsInput _ = ⊤
 
 -- the status of a measured run is the one that is due, by the disks that were taken
@@ -387,7 +391,7 @@ pub record IsLawful (asked : Command) (bytes : List ℕ) : Type 0 where
   pub short : length bytes ≤ most_of_input
 
 -- each disk that may be taken holds what its shelf is opened on: nothing, where steps are played; and where a setup is served a journal of
--- its shelf, whatever setup that tells, with room for this one
+-- its shelf, whatever setup that tells, with room for this one, and no journal is audited
 abbrev pub AreFit : (ℕ → List ℕ → Option Unfit) → (ℕ → List ℕ → Type 0) → Type 0
 AreFit unfit holds = (shelf : ℕ) (image : List ℕ) → holds shelf image → unfit shelf image ≡ None
 
@@ -395,13 +399,15 @@ abbrev pub JournalsOpen : Command → List Named → Racks → Type 0
 JournalsOpen Check scripts rack = ⊤
 JournalsOpen (Play o) scripts rack = IsTrue rack.tells × AreFit unfit_new (held_anew rack.before)
 JournalsOpen (Load l) scripts rack = IsTrue rack.tells × AreFit unfit_new (held_anew rack.before)
-JournalsOpen (Serve s) scripts rack = IsTrue rack.tells × AreFit (unfit_left scripts) (shelves_of rack.before).holds
+JournalsOpen (Serve s) scripts rack = IsTrue rack.tells × AreFit (unfit_left scripts) (shelves_of rack.before).holds × (s.audit ≡ false)
+JournalsOpen (Audit o) scripts rack = ⊥
 
 -- neither the rack nor the door nor the seeds failed, where they are asked for
 abbrev pub GoesWell : Command → Met → Type 0
 GoesWell Check met = ⊤
 GoesWell (Play o) met = ¬ (RackFailed met.rack)
 GoesWell (Load l) met = ¬ (RackFailed met.rack)
+GoesWell (Audit o) met = ¬ (RackFailed met.rack)
 GoesWell (Serve s) met = ¬ (RackFailed met.rack) × ¬ (HaveRisen met.door) × ¬ (HaveRisen met.seeds)
 
 -- a command ended well, at a step that does not fit, or for want of memory

@@ -2,10 +2,12 @@ pub mod Racks
 pub mod Output
 pub mod Serving
 pub mod Opening
+pub mod Auditing
 pub mod Remains
 pub mod Order
 pub mod Outside
 pub mod Command
+pub mod Ending
 pub mod Telling
 pub mod Loading
 pub mod Vectors

@@ -116,4 +116,5 @@ ComesInOrder asks rack shelves (Err fault.Key) = AtRest rack × asks.shut
 ComesInOrder asks rack shelves (Err fault.Memory) = AsksForFew rack shelves
 ComesInOrder asks rack shelves (Err (fault.Shelf f)) =
     asks.drawn shelves × asks.shut × AsksByCause rack.before rack.after shelves f.shelf f.why
+ComesInOrder asks rack shelves (Err (fault.Audit end)) = ⊥
 ComesInOrder asks rack shelves outcome = asks.drawn shelves × AsksForDisks rack shelves

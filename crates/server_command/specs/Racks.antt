@@ -4,7 +4,7 @@ use Rattle.std.specs.Prelude.{⊤, ◌≡◌, ◌≤◌, ◌<◌, ◌⊎◌, ℕ
 use Rattle.std.specs.Fmt.{decimal}
 use Rattle.web_disk.specs.View.{RackView, AreAmong}
 use Rattle.trio_rack.specs.Numbers.{IsOneOfThree}
-use Rattle.trio_rack.specs.Trios.{MayBeBare, shelves_of}
+use Rattle.trio_rack.specs.Trios.{LeavesAllDisks, MayBeBare, shelves_of}
 use Rattle.script_nodes.specs.Setup.{Named}
 use Rattle.setup_reader.specs.Texts.{setup_of_texts}
 use Rattle.page_journal.specs.Records.{Intact, records, at_rest, stored}
@@ -143,11 +143,11 @@ AreBare before after images first =
     (k : ℕ) (read left : List ℕ) → first ≤ k → slice_get images k ≡ Some read → (shelves_of after).holds k left
     → IsBare k ((shelves_of before).holds k) read left
 
--- The disk of this shelf failed when it was taken, no other behind it was asked for, and nothing was written on any disk; or all disks had
+-- A disk of this shelf failed when it was taken, no other behind it was asked for, and nothing was written on any disk of the rack; or all disks had
 -- been asked for and taken, the shelves before this one were opened, and nothing was added to the records on the disks behind it.
 abbrev pub FailsInOrder : List Named → (before after : RackView) → (count : ℕ) → (images : List (List ℕ)) → (shelf : ℕ) → Type 0
 FailsInOrder scripts before after count images shelf =
-    (AsksUntil count shelf before after × ((number : ℕ) → AreAmong ((shelves_of after).holds number) ((shelves_of before).holds number)))
+    (AsksUntil count shelf before after × LeavesAllDisks before after)
     ⊎ (AsksForFirst count before after × (length images ≡ count) × (first_unfit (unfit_left scripts) 0 (take shelf images) ≡ None)
     × AreBare before after images (shelf + 1))
 

@@ -127,7 +127,7 @@ HaveRisenBy count rack = RoseBy count rack.before.faults rack.after.faults
 -- Links were served from shelves that were opened on disks which held this, with nonces of the sources that the seeds gave, and this
 -- was kept of it: a history of each shelf, and what each worker counted. Where the shelf was opened as an own one, the history is
 -- legal, and ends with the book that its disk stands for. Where all were, the rack's count rose by one at least for each fault of a
--- disk that the histories tell.
+-- disk that the histories tell. Where the journals were audited before and the disks tell their bytes, all were, whoever wrote these.
 pub record Served {D P L N : Type 0} (o : Outside D P L N) (s : Service) (scripts : List Named) (images : List (List ℕ)) (end : WorkEnd)
     (kept : Kept) : Type 0 where
   pub sources : List N
@@ -138,6 +138,7 @@ pub record Served {D P L N : Type 0} (o : Outside D P L N) (s : Service) (script
   pub opened : AreOpened o.views.disk o.views.told (IsTrue o.rack.tells) o.views.nonce (rules_for s.options) scripts 0 images sources openings
   pub leaves : Leaves o.views (opened_as o.views.disk o.views.told o.views.nonce openings) o.before o.after o.past (watch_of s) disks end kept
   pub counted : AreOwn o.views.disk o.views.told openings → HaveRisenBy (faults_told kept.histories) o.rack
+  pub audited : IsTrue s.audit → IsTrue o.rack.tells → AreOwn o.views.disk o.views.told openings
   pub stands : IsTrue o.rack.tells → AllStand o.views.disk o.views.told o.views.nonce (shelves_of o.rack.after).holds openings kept.histories
 
 -- serving links from the shelves of a setup ended so, and this was counted
@@ -246,6 +247,7 @@ ServesBy serves s scripts images (Ok tally) = serves.can s scripts images (count
 ServesBy serves s scripts images (Err fault.Door) = FailsAtDoor serves s scripts images
 ServesBy serves s scripts images (Err (fault.Shelf f)) = serves.unopened × ShutsBy serves.rack s scripts images f.shelf f.why
 ServesBy serves s scripts images (Err fault.Key) = serves.unopened × AtRest serves.rack
+ServesBy serves s scripts images (Err (fault.Audit end)) = ⊥
 ServesBy serves s scripts images (Err fault.Memory) = serves.unopened × KeepsAll serves.rack scripts images
 
 -- links were served to their end, and counted so; or no door was opened, and nothing was lost but on a disk of which a call failed

@@ -9,6 +9,7 @@ use Rattle.server_command.specs.declared.program.Status.TheVariants as status
 use Rattle.server_command.specs.declared.serving.ServeFault.{ServeFault}
 use Rattle.server_command.specs.declared.serving.ServeFault.TheVariants as fault
 use Rattle.server_command.specs.Serving.{TellsCount}
+use Rattle.server_command.specs.Auditing.{TellsEnd}
 use Rattle.server_command.specs.Output.{memory_line, Sinks, PrintsTo}
 use Rattle.server_command.specs.Racks.{not_empty, damaged, other, full, disk_line, unfit_line}
 
@@ -40,5 +41,6 @@ abbrev pub TellsOutcome : Result Tally ServeFault → Status → Sinks → Type 
 TellsOutcome (Ok tally) s out = TellsCount (count_of tally) s out
 TellsOutcome (Err fault.Key) s out = (s ≡ status.Key) × PrintsTo out (codes "error 14 key\n")
 TellsOutcome (Err (fault.Shelf f)) s out = TellsUnopened f.shelf f.why s out
+TellsOutcome (Err (fault.Audit end)) s out = TellsEnd end.shelf end.why s out
 TellsOutcome (Err fault.Door) s out = (s ≡ status.Door) × PrintsTo out (codes "error 9 door\n")
 TellsOutcome (Err fault.Memory) s out = (s ≡ status.Memory) × PrintsTo out memory_line

@@ -1,6 +1,7 @@
-//! The commands `check`, `play`, `serve` and `load`, over any streams, disks, sockets and clock: for `main`.
+//! The commands `check`, `play`, `serve`, `load` and `audit`, over any streams, disks, sockets and clock: for `main`.
 #![tactic(auto)]
 
+mod auditing;
 mod jobs;
 mod loading;
 mod opening;

@@ -1,6 +1,7 @@
 ghost use Rattle.std.specs.Prelude.{◌&&◌, ◌≡◌, ◌≤◌, ◌<◌, ◌+◌, length, Some, IsTrue, IfOk, IfErr, OnErr};
 ghost use Rattle.disk_trio.specs.Trio.{trio_view};
-ghost use Rattle.trio_rack.specs.Trios.{shelves_of};
+ghost use Rattle.trio_rack.specs.Each.{GivesEach};
+ghost use Rattle.trio_rack.specs.Trios.{LeavesAllDisks, shelves_of};
 ghost use Rattle.script_nodes.specs.Views.{scripts_of};
 ghost use Rattle.server_limits.specs.Limits.{most_shelves};
 ghost use Rattle.setup_reader.specs.Texts.{IsReadSetup};
@@ -10,7 +11,7 @@ ghost use Rattle.site_serving.specs.Serving.{openings_of};
 ghost use Rattle.command_words.specs.Plain.{AreInRange};
 ghost use Rattle.server_command.specs.Output.{rules_for};
 ghost use Rattle.server_command.specs.Racks.{KeepsHome};
-ghost use Rattle.server_command.specs.Opening.{AreAsked, AreFrom, AreGiven, AsksAsTaken, FailsAt, AreRulesFor, AreUntaken, CanBegin, HasTaken, LeavesFrom, OpensOn, RefusesOn, TakesBack, seen_on, unopened_by};
+ghost use Rattle.server_command.specs.Opening.{AreAsked, AreFrom, AreGiven, AsksAsTaken, FailsAt, AreRulesFor, AreUntaken, CanBegin, HasTaken, OpensOn, RefusesOn, TakesBack, seen_on, unopened_by};
 
 use command_words::Options;
 use disk_trio::Disks;
@@ -58,6 +59,7 @@ pub fn give_all<D: Disk, R: Rack<D>>(rack: &mut R, disks: Vec<Disks<D>>)
     ensures back { TakesBack (R.view rack.old) (R.view rack.new) 0 (length disks.items) }
     ensures given { AreGiven trio_view (IsTrue (R.tells && D.tells))
         (R.view rack.old) (R.view rack.new) disks.items }
+    ensures each { IsTrue R.tells → GivesEach (R.view rack.old) (R.view rack.new) disks.items }
 {
     let mut disks = disks;
     // A count is below 2^64, so it does not fall where that of a disk is added.
@@ -81,8 +83,8 @@ fn take_all<D: Disk, R: Rack<D>>(
     ensures fresh { IfOk result (λ disks. AreNew disks.items) }
     ensures from { IsTrue R.tells →
         IfOk result (λ disks. AreFrom trio_view (R.view rack.old) disks.items) }
-    ensures kept { IsTrue (R.tells && D.tells) →
-        OnErr result (LeavesFrom 0 (R.view rack.old) (R.view rack.new)) }
+    ensures unwritten { IsTrue R.tells →
+        OnErr result (LeavesAllDisks (R.view rack.old) (R.view rack.new)) }
     ensures home { OnErr result (KeepsHome (R.view rack.old) (R.view rack.new)) }
     ensures refused { IfErr result
         (AreUntaken (FailsAt count (R.view rack.old) (R.view rack.new))) }

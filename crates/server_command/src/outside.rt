@@ -1,19 +1,24 @@
-ghost use Rattle.std.specs.Prelude.{◌&&◌, ◌≡◌, ◌≤◌, List, ℕ, IsErrOf};
+ghost use Rattle.std.specs.Prelude.{◌&&◌, ◌≡◌, ◌≤◌, List, ℕ, Some, IsErrOf, IsTrue, length};
 ghost use Rattle.web_outside.specs.Causes.{Rose};
+ghost use Rattle.web_outside.specs.View.{SeedsView};
 ghost use Rattle.disk_trio.specs.Trio.{trio_view};
 ghost use Rattle.script_nodes.specs.Views.{scripts_of};
 ghost use Rattle.setup_reader.specs.Texts.{IsReadSetup};
 ghost use Rattle.command_words.specs.Plain.{CanServe};
 ghost use Rattle.play_desk.specs.Opening.{AreHome};
 ghost use Rattle.site_serving.specs.Serving.{pasts_of, views};
-ghost use Rattle.server_command.specs.Command.{CameServing, Explained, around, asked_in, met_in, serves_in, texts};
+ghost use Rattle.command_words.specs.declared.Command.TheVariants as asked;
+ghost use Rattle.server_command.specs.Auditing.{HoldYes};
+ghost use Rattle.server_command.specs.Command.{around, asked_in, texts};
+ghost use Rattle.server_command.specs.Ending.{ComesServed, ComesSo, EndsBehind, ServesSo};
 ghost use Rattle.server_command.specs.Opening.{CanBegin};
-ghost use Rattle.server_command.specs.Order.{AsksInOrder, ComesInOrder, ServesInOrder, asks_of, both};
+ghost use Rattle.server_command.specs.Order.{Both, asks_of, both};
 ghost use Rattle.server_command.specs.Outside.{HoldsTheSame, IsLent};
 ghost use Rattle.server_command.specs.Output.{Hands};
 ghost use Rattle.server_command.specs.Racks.{AreBack, KeepsHome, racks_of};
-ghost use Rattle.server_command.specs.Serving.{ServesBy, outside, serves_over};
+ghost use Rattle.server_command.specs.Serving.{AreDrawn, outside};
 
+use crate::auditing::{audit_all, audit_first};
 use crate::jobs::{Job, run_job};
 use crate::loading::load_all;
 use crate::opening::{give_all, open_site};
@@ -106,7 +111,8 @@ where
     ) -> Status
         requires home { AreHome (R.view self.old.rack.now).out }
         ensures same { HoldsTheSame self.old self.new }
-        ensures explained { let a = (around (texts words.now)
+        ensures ended { EndsBehind R.view result (ComesSo result)
+            (around (texts words.now)
             (views (trio_view {G = ⟦<D as Disk>⟧}) D.tells A.Porch.Link.view A.Porch.view N.nonce
             (C.shows self.old.clock.now))
             (both (I.view input.old) (I.view input.new))
@@ -114,14 +120,7 @@ where
             (racks_of (R.tells && D.tells) (R.view self.old.rack.now) (R.view self.new.rack.now))
             (both (A.view self.old.door.now) (A.view self.new.door.now))
             (both (S.view self.old.seeds.now) (S.view self.new.seeds.now))
-            (pasts_of (P.told self.old.past.now) (P.told self.new.past.now))) in
-            Explained (serves_in a) result (met_in a) }
-        ensures order { AsksInOrder
-            (asks_of (both (A.view self.old.door.now) (A.view self.new.door.now))
-            (both (S.view self.old.seeds.now) (S.view self.new.seeds.now))
-            (pasts_of (P.told self.old.past.now) (P.told self.new.past.now)))
-            (racks_of (R.tells && D.tells) (R.view self.old.rack.now) (R.view self.new.rack.now))
-            (asked_in (texts words.now)) result }
+            (pasts_of (P.told self.old.past.now) (P.told self.new.past.now))) }
         ensures hands { Hands result (O.view output.old) (O.view output.new) }
         ensures back { AreBack (R.view self.old.rack.now) (R.view self.new.rack.now) }
         ensures input_later { (I.view input.old).faults ≤ (I.view input.new).faults }
@@ -139,6 +138,7 @@ where
             ),
             Ok(Command::Load(options)) => load_all(self.alloc, &options, output, self.rack),
             Ok(Command::Serve(service)) => self.run_service(&service, input, output),
+            Ok(Command::Audit(options)) => audit_all(self.alloc, &options, output, self.rack),
             Err(WordsFault::Usage) => {
                 write_or_drop(output, b"error 2 usage\n");
                 Status::Usage
@@ -157,7 +157,9 @@ where
         requires can { CanServe service.now }
         requires home { AreHome (R.view self.old.rack.now).out }
         ensures same { HoldsTheSame self.old self.new }
-        ensures comes { (words : List (List ℕ)) → let a = (around words
+        ensures ended { (words : List (List ℕ)) → asked_in words ≡ Some (asked.Serve service.now)
+            → EndsBehind R.view result (ComesSo result)
+            (around words
             (views (trio_view {G = ⟦<D as Disk>⟧}) D.tells A.Porch.Link.view A.Porch.view N.nonce
             (C.shows self.old.clock.now))
             (both (I.view input.old) (I.view input.new))
@@ -165,14 +167,7 @@ where
             (racks_of (R.tells && D.tells) (R.view self.old.rack.now) (R.view self.new.rack.now))
             (both (A.view self.old.door.now) (A.view self.new.door.now))
             (both (S.view self.old.seeds.now) (S.view self.new.seeds.now))
-            (pasts_of (P.told self.old.past.now) (P.told self.new.past.now))) in
-            CameServing (serves_in a) service.now result (met_in a) }
-        ensures order { ServesInOrder
-            (asks_of (both (A.view self.old.door.now) (A.view self.new.door.now))
-            (both (S.view self.old.seeds.now) (S.view self.new.seeds.now))
-            (pasts_of (P.told self.old.past.now) (P.told self.new.past.now)))
-            (racks_of (R.tells && D.tells) (R.view self.old.rack.now) (R.view self.new.rack.now))
-            service.now.options.shelves result }
+            (pasts_of (P.told self.old.past.now) (P.told self.new.past.now))) }
         ensures hands { Hands result (O.view output.old) (O.view output.new) }
         ensures back { AreBack (R.view self.old.rack.now) (R.view self.new.rack.now) }
         ensures input_later { (I.view input.old).faults ≤ (I.view input.new).faults }
@@ -193,27 +188,24 @@ where
 
     // Serves a setup by as many workers as the service says: links of the door, each with as many requests at most as it says,
     // until each worker served as many links as it says, or no more come. The shelves go on with what the journals of their disks make, under this setup. When
-    // the workers have ended, what each shelf's callers did and what each worker counted is kept, once. An error is that of the seeds, of a shelf
-    // that was not opened, of the door or a porch, or want of memory.
+    // the workers have ended, what each shelf's callers did and what each worker counted is kept, once. Where the service asks for that, the
+    // journals are audited first. An error is that of the seeds, of an audit, of a shelf that was not opened, of the door or a porch, or want of memory.
     fn serve(&mut self, service: &Service, setup: Setup) -> Result<Tally, ServeFault>
         requires can { CanServe service.now }
         requires read { IsReadSetup (scripts_of setup) }
         requires begins { CanBegin service.now.options.shelves (scripts_of setup) }
         ensures same { HoldsTheSame self.old self.new }
-        ensures served { let o = outside
+        ensures served { ComesServed R.view service.now
+            (asks_of (both (A.view self.old.door.now) (A.view self.new.door.now))
+            (both (S.view self.old.seeds.now) (S.view self.new.seeds.now))
+            (pasts_of (P.told self.old.past.now) (P.told self.new.past.now)))
+            (scripts_of setup) result
+            (outside
             (views (trio_view {G = ⟦<D as Disk>⟧}) D.tells A.Porch.Link.view A.Porch.view N.nonce
             (C.shows self.old.clock.now))
             (racks_of (R.tells && D.tells) (R.view self.old.rack.now) (R.view self.new.rack.now))
             (A.view self.old.door.now) (A.view self.new.door.now) (S.view self.old.seeds.now)
-            (pasts_of (P.told self.old.past.now) (P.told self.new.past.now)) in
-            (images : List (List ℕ)) ×
-            ServesBy (serves_over o) service.now (scripts_of setup) images result }
-        ensures order { ComesInOrder
-            (asks_of (both (A.view self.old.door.now) (A.view self.new.door.now))
-            (both (S.view self.old.seeds.now) (S.view self.new.seeds.now))
-            (pasts_of (P.told self.old.past.now) (P.told self.new.past.now)))
-            (racks_of (R.tells && D.tells) (R.view self.old.rack.now) (R.view self.new.rack.now))
-            service.now.options.shelves result }
+            (pasts_of (P.told self.old.past.now) (P.told self.new.past.now))) }
         ensures key { IsErrOf result ServeFault.Key →
             Rose (S.view self.old.seeds.now).faults (S.view self.new.seeds.now).faults }
         ensures door { IsErrOf result ServeFault.Door →
@@ -224,6 +216,46 @@ where
         ensures home { KeepsHome (R.view self.old.rack.now) (R.view self.new.rack.now) }
     {
         let sources = draw_sources(self.alloc, self.seeds, service.options.shelves)?;
+        if let Err(end) = audit_first(self.alloc, self.rack, service) {
+            return Err(ServeFault::Audit(end));
+        }
+        self.serve_from(service, sources, setup)
+    }
+
+    // Serves a setup, with a source of nonces for each shelf.
+    fn serve_from(
+        &mut self,
+        service: &Service,
+        sources: Vec<N>,
+        setup: Setup,
+    ) -> Result<Tally, ServeFault>
+        requires can { CanServe service.now }
+        requires read { IsReadSetup (scripts_of setup) }
+        requires begins { CanBegin service.now.options.shelves (scripts_of setup) }
+        requires sources { length sources.items ≡ service.now.options.shelves }
+        requires audited { IsTrue service.now.audit → IsTrue (R.tells && D.tells) →
+            HoldYes service.now.options.shelves (R.view self.old.rack.now) }
+        ensures same { HoldsTheSame self.old self.new }
+        ensures still { self.new.seeds.now ≡ self.old.seeds.now }
+        ensures served { (seeds : Both (SeedsView N)) →
+            AreDrawn seeds.before service.now.options.shelves sources.items →
+            ServesSo service.now
+            (asks_of (both (A.view self.old.door.now) (A.view self.new.door.now)) seeds
+            (pasts_of (P.told self.old.past.now) (P.told self.new.past.now)))
+            (scripts_of setup) result
+            (outside
+            (views (trio_view {G = ⟦<D as Disk>⟧}) D.tells A.Porch.Link.view A.Porch.view N.nonce
+            (C.shows self.old.clock.now))
+            (racks_of (R.tells && D.tells) (R.view self.old.rack.now) (R.view self.new.rack.now))
+            (A.view self.old.door.now) (A.view self.new.door.now) seeds.before
+            (pasts_of (P.told self.old.past.now) (P.told self.new.past.now))) }
+        ensures key { IsErrOf result ServeFault.Key → ⊥ }
+        ensures door { IsErrOf result ServeFault.Door →
+            Rose (A.view self.old.door.now).faults (A.view self.new.door.now).faults }
+        ensures door_later { (A.view self.old.door.now).faults ≤ (A.view self.new.door.now).faults }
+        ensures rack_later { (R.view self.old.rack.now).faults ≤ (R.view self.new.rack.now).faults }
+        ensures home { KeepsHome (R.view self.old.rack.now) (R.view self.new.rack.now) }
+    {
         let site = match open_site(
             self.runtime,
             self.alloc,

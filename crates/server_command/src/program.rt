@@ -3,7 +3,8 @@ ghost use Rattle.disk_trio.specs.Trio.{trio_view};
 ghost use Rattle.play_desk.specs.Opening.{AreHome};
 ghost use Rattle.site_serving.specs.Serving.{pasts_of, views};
 ghost use Rattle.server_command.specs.Command as spec;
-ghost use Rattle.server_command.specs.Command.{Ends, HasCause, IsComplete, IsTidy, around, met_in, texts};
+ghost use Rattle.server_command.specs.Command.{HasCause, IsComplete, IsTidy, around, met_in, texts};
+ghost use Rattle.server_command.specs.Ending.{HasEnded};
 ghost use Rattle.server_command.specs.Order.{both};
 ghost use Rattle.server_command.specs.Racks.{racks_of};
 
@@ -43,6 +44,8 @@ pub enum Status {
     Door,
     /// The seeds failed.
     Key,
+    /// The audit of a journal says no to one of its records.
+    Audit,
 }
 
 // The status that the process ends with.
@@ -62,17 +65,18 @@ fn code_of(status: Status) -> u8
         Status::Door => 9,
         Status::Long => 11,
         Status::Key => 14,
+        Status::Audit => 12,
     }
 }
 
-/// Does what the words ask for with the setup and the steps that the input has, or performs a measured run, which reads
-/// no input; writes what is due, and answers the process's status.
+/// Does what the words ask for with the setup and the steps that the input has, or performs a measured run or an audit, which
+/// read no input; writes what is due, and answers the process's status.
 ///
 /// Each visit that is accepted shows what its instance's own script, run again from its start, shows next when fed the answers of
 /// its page's own ancestors and their reads of shared cells, and then its own; each other reply is the script's own
 /// fault or exactly the refusal that admission, cost or limits name, or want of memory. Of a shelf that is served this is
 /// said where it was opened as an own one: each page that its journal has has the state of its chain, as on a disk that
-/// this program left.
+/// this program left. Where its journals are audited first, each of these was, whoever wrote the bytes of its disks.
 pub fn command<
     W: Threads + Wait + Sync,
     I: Source,
@@ -105,8 +109,8 @@ where
     <<A::Porch as Porch>::Link as Link>::Output: Send,
     // Each disk is home when it begins.
     requires home { AreHome (R.view rack.old).out }
-    // How it ended and why, what was written, what is left on the disks, and in which order the outside was asked.
-    ensures ended { Ends result (around (texts words.now)
+    // How it ended and why, what was written, what is left on the disks, and in which order the outside was asked; a serving with audits behind these.
+    ensures ended { HasEnded R.view result (around (texts words.now)
         (views (trio_view {G = ⟦<D as Disk>⟧}) D.tells A.Porch.Link.view A.Porch.view N.nonce
         (C.shows clock.now))
         (both (I.view input.old) (I.view input.new)) (both (O.view output.old) (O.view output.new))

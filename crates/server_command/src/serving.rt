@@ -4,10 +4,12 @@ ghost use Rattle.script_nodes.specs.Views.{scripts_of};
 ghost use Rattle.setup_reader.specs.Limits.{AreShort, most_scripts};
 ghost use Rattle.setup_reader.specs.Texts.{IsReadSetup};
 ghost use Rattle.play_desk.specs.declared.opening.OpenFault.{OpenFault};
+ghost use Rattle.server_command.specs.declared.auditing.AuditEnd.{AuditEnd};
 ghost use Rattle.server_command.specs.Command.{IsSetupOf, TellsNoSetup};
 ghost use Rattle.server_command.specs.Output.{Hands, sinks_of};
 ghost use Rattle.server_command.specs.Serving.{AreDrawn, told_as, watch_of};
 
+use crate::auditing::AuditEnd;
 use crate::program::Status;
 use crate::telling::{no_memory, tell_fault};
 use command_words::Service;
@@ -26,6 +28,8 @@ pub enum ServeFault {
     Key,
     /// A shelf was not opened.
     Shelf(OpenFault),
+    /// Audits ended at a shelf.
+    Audit(AuditEnd),
     /// The door failed, or a porch.
     Door,
     /// Memory ran out.
@@ -68,6 +72,7 @@ pub(crate) fn draw_sources<N: Nonces + Drop, S: Seeds<N>>(
     ensures later { (S.view seeds.old).faults ≤ (S.view seeds.new).faults }
     ensures other { IsErrOf result ServeFault.Door → ⊥ }
     ensures none { (f : OpenFault) → IsErrOf result (ServeFault.Shelf f) → ⊥ }
+    ensures unaudited { (end : AuditEnd) → IsErrOf result (ServeFault.Audit end) → ⊥ }
 {
     match seeds.draw(alloc, count) {
         Ok(sources) => Ok(sources),

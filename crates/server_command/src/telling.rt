@@ -1,4 +1,4 @@
-ghost use Rattle.std.specs.Prelude.{◌≡◌, ◌≢◌, ◌≤◌, ◌++◌, ◌∷◌, [], Some, codes, IfOk, string_bytes};
+ghost use Rattle.std.specs.Prelude.{◌≡◌, ◌≢◌, ◌≤◌, ◌++◌, ◌∷◌, [], Some, codes, IfErr, IfOk, string_bytes};
 ghost use Rattle.std.specs.Fmt.{decimal};
 ghost use Rattle.std.specs.Io.KnownBytes.{Keeps};
 ghost use Rattle.web_outside.specs.Pieces.{HandsAllOn};
@@ -10,10 +10,13 @@ ghost use Rattle.server_command.specs.Command.{Counts, IsDoneUnlessFault, TellsF
 ghost use Rattle.server_command.specs.Output.{Hands, HandsOnIfDone, PrintsTo, memory_line, sinks_of, step_line};
 ghost use Rattle.server_command.specs.Racks.{damaged, disk_line, full, not_empty, other, unfit_line};
 ghost use Rattle.server_command.specs.Serving.{TellsCount, count_line};
+ghost use Rattle.server_command.specs.Auditing.{TellsAudited, TellsEnd, end_line, end_status, finding_line, ok_line, word_text};
 ghost use Rattle.server_command.specs.Telling.{TellsOutcome, TellsUnopened, unopened_line, unopened_status};
 
+use crate::auditing::{AuditCause, AuditEnd};
 use crate::program::Status;
 use crate::serving::ServeFault;
+use audit_spec::Word;
 use play_desk::{OpenCause, OpenFault};
 use request_workers::Tally;
 use script_nodes::Setup;
@@ -245,6 +248,100 @@ pub fn tell_unopened<O: Sink>(alloc: Global, fault: OpenFault, output: &mut O) -
     }
 }
 
+// The word of a record to which an audit says no.
+fn word_text(word: Word) -> &'static str
+    ensures { result.now ≡ word_text word }
+{
+    match word {
+        Word::Sweep => "sweep",
+        Word::Number => "number",
+        Word::Target => "target",
+        Word::Run => "run",
+        Word::Evicted => "evicted",
+        Word::Deadline => "deadline",
+        Word::State => "state",
+    }
+}
+
+// The line of a shelf with so many records, each answered yes.
+fn audited_line(alloc: Global, shelf: u32, records: u64) -> Result<String, AllocError>
+    ensures { IfOk result (λ text. string_bytes text ≡ ok_line shelf records) }
+{
+    format!(in alloc; "shelf {shelf} ok {records}\n")
+}
+
+/// Tells how many records a shelf has, each of which was answered yes.
+pub fn tell_audited<O: Sink>(
+    alloc: Global,
+    shelf: u32,
+    records: u64,
+    output: &mut O,
+) -> Result<(), Status>
+    ensures tells { TellsAudited shelf records result
+        (sinks_of (O.view output.old) (O.view output.new)) }
+    ensures hands { IfErr result (λ how. Hands how (O.view output.old) (O.view output.new)) }
+    ensures later { (O.view output.old).faults ≤ (O.view output.new).faults }
+{
+    let Ok(text) = audited_line(alloc, shelf, records) else {
+        return Err(no_memory(output));
+    };
+    match write_all(output, text.as_bytes()) {
+        Ok(()) => Ok(()),
+        Err(_) => Err(Status::Write),
+    }
+}
+
+// The line of a record to which an audit says no.
+fn finding_error(alloc: Global, shelf: u32, place: u64, word: Word) -> Result<String, AllocError>
+    ensures { IfOk result (λ text. string_bytes text
+        ≡ finding_line shelf (record { place = place; word = word })) }
+{
+    let word = word_text(word);
+    format!(in alloc; "error 12 {shelf} {place} {word}\n")
+}
+
+// The line of the shelf at which audits ended, where that is no want of memory.
+fn end_error(alloc: Global, end: AuditEnd) -> Result<String, AllocError>
+    ensures { IfOk result (λ text. end_line end.shelf end.why ≡ Some (string_bytes text)) }
+{
+    let AuditEnd { shelf, why } = end;
+    match why {
+        AuditCause::Disk => disk_error(alloc, shelf),
+        AuditCause::Damaged { place } => damage_error(alloc, shelf, place),
+        AuditCause::Found { place, word } => finding_error(alloc, shelf, place, word),
+        AuditCause::Memory => Err(AllocError),
+    }
+}
+
+// The status of audits that ended for this cause.
+fn end_status(why: AuditCause) -> Status
+    ensures { result ≡ end_status why }
+{
+    match why {
+        AuditCause::Disk => Status::Disk,
+        AuditCause::Damaged { .. } => Status::Journal,
+        AuditCause::Found { .. } => Status::Audit,
+        AuditCause::Memory => Status::Memory,
+    }
+}
+
+/// Tells at which shelf audits ended, and why.
+pub fn tell_end<O: Sink>(alloc: Global, end: AuditEnd, output: &mut O) -> Status
+    ensures tells { TellsEnd end.shelf end.why result
+        (sinks_of (O.view output.old) (O.view output.new)) }
+    ensures handed { HandsAllOn (O.view output.old) (O.view output.new) }
+    ensures later { (O.view output.old).faults ≤ (O.view output.new).faults }
+    ensures other { result ≢ Status.Done }
+{
+    match end_error(alloc, end) {
+        Ok(text) => {
+            write_or_drop(output, text.as_bytes());
+            end_status(end.why)
+        }
+        Err(_) => no_memory(output),
+    }
+}
+
 /// Tells what a serving came to: its counts, or why there are none.
 pub fn tell_outcome<O: Sink>(
     alloc: Global,
@@ -261,6 +358,7 @@ pub fn tell_outcome<O: Sink>(
             Status::Key
         }
         Err(ServeFault::Shelf(fault)) => tell_unopened(alloc, fault, output),
+        Err(ServeFault::Audit(end)) => tell_end(alloc, end, output),
         Err(ServeFault::Door) => {
             write_or_drop(output, b"error 9 door\n");
             Status::Door

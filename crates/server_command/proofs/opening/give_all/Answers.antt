@@ -1,8 +1,10 @@
-use Rattle.std.proofs.Common.{◌≡◌, ◌∷◌, ◌∙◌, [], length, ap, subst, arith, rules}
+use Rattle.std.proofs.Common.{◌≡◌, ◌∷◌, ◌++◌, ◌∙◌, [], length, ap, subst, arith, rules}
 use Rattle.std.specs.Prelude.{IsTrue, ◌&&◌, vec_len}
 use Rattle.std.proofs.lemmas.List.{length-append}
 use Rattle.disk_trio.specs.Trio.{trio_view}
 use Rattle.disk_trio.specs.declared.trio.Disks.{Disks}
+use Rattle.trio_rack.specs.Trios.{AreGivenTo, LeavesOtherDisks}
+use Rattle.trio_rack.proofs.Each.{GivesLast, gives_each, gives_more_of_each, gives_none_of_each}
 use Rattle.server_command.proofs.Giving.{GivenAll, Holds, given_back, given_next, given_none}
 use Rattle.server_command.proofs.Openings.{Gives, both_tell}
 use Rattle.server_command.proofs.opening.give_all.Goals as goal
@@ -11,6 +13,7 @@ pub giving-init : goal.giving-init
 giving-init g c = record {
   given = given_none {D = Disks g.row.D.Denot g.D.Disk} trio_view (IsTrue (g.R.Rack.tells && g.D.Disk.tells)) c.args.disks.items (g.R.Rack.view c.args.rack.now)
       (omega (arith, c.faults-count.ensures, c.faults-count.type_inv));
+  each = λ t. gives_none_of_each (g.R.Rack.view c.args.rack.now) c.args.disks.items;
 }
 
 -- the shelf that is next is one of so many
@@ -39,6 +42,12 @@ giving-preserved g c =
     record {
       given = given_next {D = Disks g.row.D.Denot g.D.Disk} trio_view told c.args.disks.items c.giving.disks.items front three (g.R.Rack.view c.args.rack.now) now after c.in-Some.ensures.items
           c.giving.invariant.given gives holds;
+      each = λ t. let all = c.giving.invariant.given in
+          gives_more_of_each (g.R.Rack.view c.args.rack.now) now after c.args.disks.items front all.back three
+          (subst (λ l. c.args.disks.items ≡ l ++ all.back) c.in-Some.ensures.items all.is) c.requires.few
+          (subst (λ l. GivesLast {G = g.D.Disk} (g.R.Rack.view c.args.rack.now) now c.args.disks.items l) c.in-Some.ensures.items (c.giving.invariant.each t))
+          (subst (λ n. AreGivenTo after n three) number (c.give_trio.ensures.each t))
+          (subst (λ n. LeavesOtherDisks n now after) number c.give_trio.ensures.other_disks);
     }
 
 pub returns : goal.returns
@@ -48,4 +57,9 @@ returns g c =
     let empty : c.giving.disks.items ≡ [] = search rules in
     let p = subst (λ l. GivenAll {D = Disks g.row.D.Denot g.D.Disk} trio_view told c.args.disks.items l (g.R.Rack.view c.args.rack.now) (g.R.Rack.view c.giving.rack)) empty c.giving.invariant.given in
     let back = given_back {D = Disks g.row.D.Denot g.D.Disk} trio_view told c.args.disks.items (g.R.Rack.view c.args.rack.now) (g.R.Rack.view c.giving.rack) p in
-    record { back = back.0; given = back.1 }
+    record {
+      back = back.0;
+      given = back.1;
+      each = λ t. gives_each (g.R.Rack.view c.args.rack.now) (g.R.Rack.view c.giving.rack) c.args.disks.items
+          (subst (λ l. GivesLast {G = g.D.Disk} (g.R.Rack.view c.args.rack.now) (g.R.Rack.view c.giving.rack) c.args.disks.items l) empty (c.giving.invariant.each t));
+    }

@@ -6,6 +6,7 @@ use Rattle.disk_trio.specs.Laws.{reads_left}
 use Rattle.disk_trio.specs.Trio.{trio_view}
 use Rattle.disk_trio.specs.declared.trio.Disks.{Disks}
 use Rattle.trio_rack.specs.Trios.{shelves_of}
+use Rattle.trio_rack.proofs.Each.{shelves_as_disks}
 use Rattle.play_desk.specs.Opening.{FailedFor, cause_of, reopen_of}
 use Rattle.play_desk.specs.declared.opening.OpenCause.TheVariants as cause
 use Rattle.play_desk.specs.declared.opening.OpenFault.{OpenFault}
@@ -28,9 +29,9 @@ returns-in_err-disks-clause-refused g c =
       refused = untaken_refused (IsTrue (g.R.Rack.tells && g.D.Disk.tells)) (FailsAt shelves before last) (scripts_of c.args.setup) [] why.shelf why.why c.in_err-disks.ensures.refused;
       in_order = λ t.
           untaken_in_order (scripts_of c.args.setup) before last shelves (FailsAt shelves before last) why.shelf why.why c.in_err-disks.ensures.refused
-          c.in_err-disks.ensures.asked (c.in_err-disks.ensures.kept t);
+          c.in_err-disks.ensures.asked (c.in_err-disks.ensures.unwritten (both_tell _ _ t).0);
       kept = λ t k read left none. absurd (let no : ⊥ = cc none in no);
-      unread = λ t. c.in_err-disks.ensures.kept t;
+      unread = λ t n le. shelves_as_disks before last (c.in_err-disks.ensures.unwritten (both_tell _ _ t).0) n;
       home = c.in_err-disks.ensures.home;
       asked = untaken_asked before last shelves (FailsAt shelves before last) why.shelf why.why c.in_err-disks.ensures.refused c.in_err-disks.ensures.asked;
     })
