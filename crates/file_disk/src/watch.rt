@@ -1,8 +1,8 @@
-// What is read of a journal when it is opened, as the standard error tells it: how far it is, each second, and at its end how
-// many records there were and how long it took; and how long it took to write another file in its place. It looks at the calls
-// of a file alone, and changes nothing of what they give.
+// What is read of a journal when it is opened or audited, as the standard error tells it: how far it is, each second, and at its
+// end how many records there were and how long it took; and how long it took to write another file in its place. It looks at the
+// calls of a file alone, and changes nothing of what they give.
 ghost use Rattle.std.specs.Prelude.{◌≡◌, true, slice_get};
-ghost use Rattle.file_disk.specs.Watches.{is_byte, is_page, is_start, one_more};
+ghost use Rattle.file_disk.specs.Watches.{is_byte, is_page, is_start, one_more, behind_cut, behind_length, tells_records};
 
 use std::time::{Clock, Instant};
 
@@ -70,24 +70,73 @@ impl Counts {
     }
 }
 
-// What is done with a file.
+/// What is done with a file.
 #[derive(Clone, Copy, Debug, PartialEq, Eq)]
-enum Stage {
-    // Its journal is read, if it has one.
+pub enum Stage {
+    /// It is as it was found. Who reads its records now audits it.
+    Audit,
+    /// Its records were audited.
+    Audited,
+    /// What stands behind its records was cut, and these are read: its journal is opened.
     Opening,
-    // The journal is open, and nothing more is told.
+    /// The journal is open, and nothing more is told.
     Open,
-    // It was cut to nothing, and is written anew.
+    /// It was cut to nothing, and is written anew.
     Rewriting,
 }
 
-/// Tells of a file with a journal, when that is opened or written anew.
+impl Stage {
+    // Behind a cut that leaves so many bytes. An opening cuts a file before it reads its records, and an audit never does.
+    fn behind_cut(self, len: u64) -> Stage
+        ensures { result ≡ behind_cut len self }
+    {
+        if len == 0 {
+            return Stage::Rewriting;
+        }
+        match self {
+            Stage::Audit => Stage::Opening,
+            Stage::Audited => Stage::Opening,
+            Stage::Opening => Stage::Opening,
+            Stage::Open => Stage::Open,
+            Stage::Rewriting => Stage::Rewriting,
+        }
+    }
+
+    // Behind a question for the length, with which all reading begins: a file that was audited is as it was found.
+    fn behind_length(self) -> Stage
+        ensures { result ≡ behind_length self }
+    {
+        match self {
+            Stage::Audited => Stage::Audit,
+            Stage::Audit => Stage::Audit,
+            Stage::Opening => Stage::Opening,
+            Stage::Open => Stage::Open,
+            Stage::Rewriting => Stage::Rewriting,
+        }
+    }
+
+    // Whether records are told of.
+    fn tells_records(self) -> bool
+        ensures { result ≡ tells_records self }
+    {
+        match self {
+            Stage::Audit => true,
+            Stage::Opening => true,
+            Stage::Audited => false,
+            Stage::Open => false,
+            Stage::Rewriting => false,
+        }
+    }
+}
+
+/// Tells of a file with a journal, when that is audited, opened or written anew.
 #[derive(Drop)]
 pub struct Watch<'r, R> {
     rt: &'r R,
     // The path of the file.
     path: String,
-    // When it was opened or cut to nothing; none where the clock could not be read, and then no time is told.
+    // When it was taken, cut to nothing, or looked at again behind an audit; none where the clock could not be read, and then no
+    // time is told.
     since: Option<Instant>,
     // How many bytes it has.
     length: u64,
@@ -107,7 +156,7 @@ impl<'r, R: Clock + Eprint> Watch<'r, R> {
             length: 0,
             seconds: 0,
             counts: Counts::NONE,
-            stage: Stage::Opening,
+            stage: Stage::Audit,
         }
     }
 
@@ -118,22 +167,42 @@ impl<'r, R: Clock + Eprint> Watch<'r, R> {
         u64::try_from(time.as_millis()).ok()
     }
 
+    // The reading begins.
+    fn begin(&mut self) {
+        self.since = Instant::now(self.rt).ok();
+        self.seconds = 0;
+        self.counts = Counts::NONE;
+    }
+
     /// The file has so many bytes.
     pub fn measured(&mut self, length: u64) {
         self.length = length;
+        if self.stage == Stage::Audited {
+            self.begin();
+        }
+        self.stage = self.stage.behind_length();
     }
 
-    // Tells that the journal is open.
-    fn tell_open(&self) {
+    // What is done with records.
+    fn deed(&self) -> &'static str {
+        match self.stage {
+            Stage::Audit => "audited",
+            _ => "read",
+        }
+    }
+
+    // Tells how many records there were.
+    fn tell_records(&self) {
         let millis = self.elapsed().unwrap_or(0);
         let path = self.path.as_str();
+        let deed = self.deed();
         let Counts {
             records,
             pages,
             starts,
         } = self.counts;
         let _ = eprintln!(self.rt;
-            "hovgyelit: {path}: {records} records, of {pages} pages and {starts} instances, read in {millis} ms"
+            "hovgyelit: {path}: {records} records, of {pages} pages and {starts} instances, {deed} in {millis} ms"
         );
     }
 
@@ -156,22 +225,31 @@ impl<'r, R: Clock + Eprint> Watch<'r, R> {
     // Tells how far it is.
     fn tell_progress(&self, place: u64) {
         let path = self.path.as_str();
+        let deed = self.deed();
         let records = self.counts.records;
         let length = self.length;
         let _ = eprintln!(self.rt;
-            "hovgyelit: {path}: {records} records read, up to byte {place} of {length}"
+            "hovgyelit: {path}: {records} records {deed}, up to byte {place} of {length}"
         );
+    }
+
+    // The records have ended.
+    fn end(&mut self) {
+        self.tell_records();
+        self.stage = match self.stage {
+            Stage::Audit => Stage::Audited,
+            _ => Stage::Open,
+        };
     }
 
     /// These bytes were read at this place. The records end at the first gate behind one that is not open.
     pub fn saw(&mut self, place: u64, bytes: &[u8]) {
-        if self.stage != Stage::Opening {
+        if !self.stage.tells_records() {
             return;
         }
         if let [gate] = bytes {
             if *gate != OPEN && self.counts.records > 0 {
-                self.stage = Stage::Open;
-                self.tell_open();
+                self.end();
                 return;
             }
         }
@@ -187,25 +265,21 @@ impl<'r, R: Clock + Eprint> Watch<'r, R> {
 
     /// So many bytes were written at this place. A journal whose first record is written is a new one.
     pub fn wrote(&mut self, place: u64, count: usize) {
-        match self.stage {
-            Stage::Opening => {
-                if place == FIRST_RECORD {
-                    self.stage = Stage::Open;
-                    self.tell_new();
-                }
-            }
-            Stage::Open => {}
-            Stage::Rewriting => {
-                self.length = self.length.saturating_add(count as u64);
-            }
+        if self.stage == Stage::Rewriting {
+            self.length = self.length.saturating_add(count as u64);
+        } else if self.stage.tells_records() && place == FIRST_RECORD {
+            self.stage = Stage::Open;
+            self.tell_new();
         }
     }
 
-    /// The file was cut to nothing, to be written anew.
-    pub fn emptied(&mut self) {
-        self.stage = Stage::Rewriting;
-        self.since = Instant::now(self.rt).ok();
-        self.length = 0;
+    /// The file was cut to so many bytes. One that has none is to be written anew.
+    pub fn was_cut(&mut self, len: u64) {
+        self.stage = self.stage.behind_cut(len);
+        if self.stage == Stage::Rewriting {
+            self.begin();
+            self.length = 0;
+        }
     }
 
     /// What was written is on the device.

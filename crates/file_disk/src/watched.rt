@@ -9,7 +9,7 @@ use std::time::Clock;
 use web_disk::Disk;
 use web_outside::Failed;
 
-/// A disk that is a file. How long it takes to open it, and to write it anew, is told on the standard error.
+/// A disk that is a file. How long it takes to open or audit it, and to write it anew, is told on the standard error.
 #[derive(Drop)]
 pub struct WatchedFile<'r, R> {
     disk: FileDisk<File>,
@@ -52,9 +52,7 @@ impl<R: Clock + Eprint> Disk for WatchedFile<'_, R> {
     }
 
     fn cut(&mut self, len: u64) -> Result<(), Failed> {
-        if len == 0 {
-            self.watch.emptied();
-        }
+        self.watch.was_cut(len);
         self.disk.cut(len)
     }
 
