@@ -1,6 +1,8 @@
-//! Tests of the command where streams fail, texts are long or runs are measured, and an outside in memory: for other crates of tests.
+//! Tests of the command where streams fail, texts are long, runs are measured or journals are audited, and an outside in memory: for other crates of tests.
 #![tactic(auto)]
 
+#[cfg(test)]
+mod audits;
 #[cfg(test)]
 mod endings;
 #[cfg(test)]

@@ -1,84 +1,11 @@
+use crate::machine::Machine;
 use file_disk::{FileRack, Refusal};
-use std::alloc::Allocator;
-use std::fs::{File, Files, Metadata, OpenOptions, Permissions, TryLockError};
+use std::fs::{Permissions, TryLockError};
 use std::io::ErrorKind;
 use std::os::unix::fs::{MetadataExt, PermissionsExt};
 use std::test::Fail;
 use std::{fs, io};
 use web_disk::{Rack, RackFault};
-
-// The machine's files, but for one folder, in whose place another file is opened.
-#[derive(Drop)]
-struct OtherFolder<'r> {
-    rt: &'r HostRuntime,
-    folder: &'static str,
-    instead: &'static str,
-}
-
-impl Files for OtherFolder<'_> {
-    type File = File;
-
-    type Dir = <HostRuntime as Files>::Dir;
-
-    fn open_file(&self, how: &OpenOptions, path: &str) -> io::Result<File> {
-        let path = if path == self.folder {
-            self.instead
-        } else {
-            path
-        };
-        self.rt.open_file(how, path)
-    }
-
-    fn open_dir(&self, path: &str) -> io::Result<<HostRuntime as Files>::Dir> {
-        self.rt.open_dir(path)
-    }
-
-    fn metadata(&self, path: &str) -> io::Result<Metadata> {
-        self.rt.metadata(path)
-    }
-
-    fn symlink_metadata(&self, path: &str) -> io::Result<Metadata> {
-        self.rt.symlink_metadata(path)
-    }
-
-    fn copy(&self, from: &str, to: &str) -> io::Result<u64> {
-        self.rt.copy(from, to)
-    }
-
-    fn rename(&self, from: &str, to: &str) -> io::Result<()> {
-        self.rt.rename(from, to)
-    }
-
-    fn remove_file(&self, path: &str) -> io::Result<()> {
-        self.rt.remove_file(path)
-    }
-
-    fn create_dir(&self, path: &str) -> io::Result<()> {
-        self.rt.create_dir(path)
-    }
-
-    fn create_dir_with_mode(&self, path: &str, mode: u32) -> io::Result<()> {
-        self.rt.create_dir_with_mode(path, mode)
-    }
-
-    fn remove_dir(&self, path: &str) -> io::Result<()> {
-        self.rt.remove_dir(path)
-    }
-
-    fn remove_dir_all<B: Allocator>(&self, alloc: B, path: &str) -> io::Result<()> {
-        self.rt.remove_dir_all(alloc, path)
-    }
-}
-
-impl Eprint for OtherFolder<'_> {
-    fn eprint<D: std::fmt::Display + Drop>(&self, value: D) -> io::Result<()> {
-        self.rt.eprint(value)
-    }
-
-    fn eprintln<D: std::fmt::Display + Drop>(&self, value: D) -> io::Result<()> {
-        self.rt.eprintln(value)
-    }
-}
 
 #[test]
 fn a_folder_that_cannot_be_synced_is_refused(rt: HostRuntime) -> Result<(), Fail> {
@@ -86,11 +13,7 @@ fn a_folder_that_cannot_be_synced_is_refused(rt: HostRuntime) -> Result<(), Fail
     fs::create_dir_all(&rt, "folders/there")?;
     // There is no such file; and a device has no such call, as some file systems have none for their folders.
     for (instead, taken) in [("folders/none", false), ("/dev/null", true)] {
-        let files = OtherFolder {
-            rt: &rt,
-            folder: "folders/there",
-            instead,
-        };
+        let files = Machine::with_other_folder(&rt, "folders/there", instead);
         let mut rack = FileRack::new(&files, alloc);
         let outcome = rack.take(alloc, "folders/there", 0);
         assert_eq!(rt; outcome.is_ok(), taken, "{instead}");

@@ -8,6 +8,10 @@ mod files;
 #[cfg(test)]
 mod folders;
 #[cfg(test)]
+mod machine;
+#[cfg(test)]
 mod served;
 #[cfg(test)]
 mod three;
+#[cfg(test)]
+mod told;

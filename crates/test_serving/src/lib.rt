@@ -1,6 +1,8 @@
-//! Tests of `serve` over links in memory: its gate and its clock, a journal in files, and two workers beside one another.
+//! Tests of `serve` over links in memory: its gate and its clock, a journal in files, audits before it, and two workers beside one another.
 #![tactic(auto)]
 
+#[cfg(test)]
+mod audits;
 #[cfg(test)]
 mod files;
 #[cfg(test)]

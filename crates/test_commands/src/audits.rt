@@ -1,0 +1,172 @@
+//! Audits of journals in files.
+
+use crate::outside::{FAIR, FULL, Machine, Outside, comes_to, ran};
+use crate::transcripts::{first_sums, sums_of_two};
+use std::fs;
+use std::test::Fail;
+
+// Its first read would fail.
+const UNREAD: Outside<'static> = Outside {
+    reads: &[0],
+    ..FAIR
+};
+
+// Whether an audit of so many shelves of a folder, which reads nothing, comes to this.
+fn is_audited<R: Machine>(
+    rt: &R,
+    folder: &str,
+    shelves: &str,
+    told: (u8, &str),
+) -> Result<bool, Fail> {
+    let words = &[
+        "hovgyelit",
+        "audit",
+        "--journal",
+        folder,
+        "--shelves",
+        shelves,
+    ];
+    comes_to(rt, words, b"", &UNREAD, told)
+}
+
+// Empties a folder.
+fn emptied<R: Machine>(rt: &R, folder: &str) -> Result<(), Fail> {
+    if fs::exists(rt, folder)? {
+        fs::remove_dir_all(rt, folder)?;
+    }
+    Ok(())
+}
+
+// The status of playing an input over an empty folder.
+fn played<R: Machine>(rt: &R, folder: &str, shelves: &str, input: &str) -> Result<u8, Fail> {
+    emptied(rt, folder)?;
+    let words = &[
+        "hovgyelit",
+        "play",
+        "--journal",
+        folder,
+        "--shelves",
+        shelves,
+    ];
+    let outcome = ran(rt, words, input.as_bytes(), &FAIR)?;
+    Ok(outcome.status)
+}
+
+// What stands in a Let frame that has done the number 3: its part, how many are done, and that.
+const DONE: &[u8] = &[1, 0, 0, 0, 1, 0, 0, 0, 0, 3, 0, 0, 0, 0, 0, 0, 0];
+
+// Makes the number 3 of the second page of a journal 4.
+fn tampered<R: Machine>(rt: &R, path: &str) -> Result<(), Fail> {
+    let mut bytes = fs::read(rt, path)?;
+    for place in 0..bytes.len() {
+        if bytes[place..].starts_with(DONE) {
+            bytes[place + 9] = 4;
+        }
+    }
+    fs::write(rt, path, bytes.as_slice())?;
+    Ok(())
+}
+
+#[test]
+fn the_first_rows_pass(rt: HostRuntime) -> Result<(), Fail> {
+    let folder = "audited-sums";
+    let input = first_sums(rt.alloc())?;
+    assert_eq!(rt; played(&rt, folder, "1", input.as_str())?, 0);
+    let before = fs::read(&rt, "audited-sums/shelf-0")?;
+    assert!(rt; is_audited(&rt, folder, "1", (0, "shelf 0 ok 4\n"))?);
+    assert_eq!(rt; fs::read(&rt, "audited-sums/shelf-0")?, before);
+    fs::remove_dir_all(&rt, folder)?;
+    Ok(())
+}
+
+#[test]
+fn a_changed_state_is_told_at_its_place(rt: HostRuntime) -> Result<(), Fail> {
+    let folder = "tampered-sums";
+    let input = first_sums(rt.alloc())?;
+    assert_eq!(rt; played(&rt, folder, "1", input.as_str())?, 0);
+    tampered(&rt, "tampered-sums/shelf-0")?;
+    let before = fs::read(&rt, "tampered-sums/shelf-0")?;
+    assert!(rt; is_audited(&rt, folder, "1", (12, "error 12 0 405 state\n"))?);
+    assert_eq!(rt; fs::read(&rt, "tampered-sums/shelf-0")?, before);
+    fs::remove_dir_all(&rt, folder)?;
+    Ok(())
+}
+
+#[test]
+fn shelves_are_audited_in_order_up_to_a_no(rt: HostRuntime) -> Result<(), Fail> {
+    let folder = "audited-pair";
+    let input = sums_of_two(rt.alloc())?;
+    assert_eq!(rt; played(&rt, folder, "2", input.as_str())?, 0);
+    let both = "shelf 0 ok 4\nshelf 1 ok 4\n";
+    assert!(rt; is_audited(&rt, folder, "2", (0, both))?);
+    assert!(rt;
+        is_audited(
+            &rt,
+            folder,
+            "3",
+            (0, "shelf 0 ok 4\nshelf 1 ok 4\nshelf 2 ok 0\n")
+        )?
+    );
+    tampered(&rt, "audited-pair/shelf-1")?;
+    assert!(rt; is_audited(&rt, folder, "1", (0, "shelf 0 ok 4\n"))?);
+    let second = "shelf 0 ok 4\nerror 12 1 405 state\n";
+    assert!(rt; is_audited(&rt, folder, "3", (12, second))?);
+    tampered(&rt, "audited-pair/shelf-0")?;
+    assert!(rt; is_audited(&rt, folder, "2", (12, "error 12 0 405 state\n"))?);
+    fs::remove_dir_all(&rt, folder)?;
+    Ok(())
+}
+
+#[test]
+fn an_empty_folder_has_no_records(rt: HostRuntime) -> Result<(), Fail> {
+    emptied(&rt, "audited-nothing")?;
+    assert!(rt;
+        is_audited(
+            &rt,
+            "audited-nothing",
+            "2",
+            (0, "shelf 0 ok 0\nshelf 1 ok 0\n")
+        )?
+    );
+    assert!(rt; is_audited(&rt, "-", "1", (0, "shelf 0 ok 0\n"))?);
+    emptied(&rt, "audited-nothing")
+}
+
+#[test]
+fn a_damaged_journal_is_told(rt: HostRuntime) -> Result<(), Fail> {
+    let folder = "damaged-pair";
+    let input = sums_of_two(rt.alloc())?;
+    assert_eq!(rt; played(&rt, folder, "2", input.as_str())?, 0);
+    let mut bytes = fs::read(&rt, "damaged-pair/shelf-1")?;
+    if !bytes.is_empty() {
+        bytes[0] = b'X';
+    }
+    fs::write(&rt, "damaged-pair/shelf-1", bytes.as_slice())?;
+    let told = "shelf 0 ok 4\nerror 8 1 0 damaged\n";
+    assert!(rt; is_audited(&rt, folder, "2", (8, told))?);
+    fs::remove_dir_all(&rt, folder)?;
+    Ok(())
+}
+
+// A journal of format 1: its head, the script `a`, a sweep to the clock 50, and the end.
+const OLD: &[u8] =
+    b"KSWEB\0\0\x01\x01\x14\0\0\0\x01\0\0\0\0\x01\0\0\0\x01\0\0\0a\x02\0\0\0'a\x01\x09\0\0\0\x05\x32\0\0\0\0\0\0\0\0";
+
+#[test]
+fn a_journal_of_an_older_format_is_audited(rt: HostRuntime) -> Result<(), Fail> {
+    let folder = "audited-old";
+    emptied(&rt, folder)?;
+    fs::create_dir_all(&rt, folder)?;
+    fs::write(&rt, "audited-old/shelf-0", OLD)?;
+    assert!(rt; is_audited(&rt, folder, "1", (0, "shelf 0 ok 2\n"))?);
+    assert_eq!(rt; fs::read(&rt, "audited-old/shelf-0")?.as_slice(), OLD);
+    fs::remove_dir_all(&rt, folder)?;
+    Ok(())
+}
+
+#[test]
+fn a_line_that_cannot_be_written_ends_with_6(rt: HostRuntime) -> Result<(), Fail> {
+    let words = &["hovgyelit", "audit"];
+    assert!(rt; comes_to(&rt, words, b"", &FULL, (6, ""))?);
+    Ok(())
+}
