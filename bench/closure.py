@@ -12,7 +12,7 @@ import re
 import sys
 from collections import Counter
 
-HEADS = [("server_command", "Command", name) for name in ("Ends", "IsComplete", "HasCause", "IsTidy")]
+HEADS = [("server_command", "Ending", "HasEnded")] + [("server_command", "Command", name) for name in ("IsComplete", "HasCause", "IsTidy")]
 WORD = re.compile(r"[A-Za-z_][\w'-]*(?:\.[A-Za-z_][\w'-]*)*")
 KEYWORDS = {"pub", "abbrev", "record", "data", "unfoldable", "mutual", "inline", "where"}
 

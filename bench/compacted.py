@@ -1,4 +1,4 @@
-"""Times compactions of a journal of some 50 MB, by `play`: seconds for a MB of the file, and how much more memory a run with
+"""Times compactions of a journal of some 16 MB, by `play`: seconds for a MB of the file, and how much more memory a run with
 them takes than one without, in parts of the file. journal.sh starts it with a folder and the program."""
 
 import os
@@ -10,7 +10,7 @@ import time
 
 FOLDER, PROGRAM = sys.argv[1], sys.argv[2]
 SCRIPT = b'(begin (send/suspend (lambda (u) "a")) (send/suspend (lambda (u) "b")))'
-VISITS = 3200
+VISITS = 1000
 COMPACTIONS = 4
 
 

@@ -21,7 +21,7 @@ for name in $scripts; do
 done >"$work/setup"
 "$here/hovgyelit" check <"$work/setup" >/dev/null || exit 1
 
-options="--port 0 --connections 1000000 --instances 4096 --pages 1024"
+options="--port 0 --connections 1000000 --life 1000000 --instances 4096 --pages 1024"
 # shellcheck disable=SC2086
 python3 "$here/bench/crash.py" "$work" "${1:-200}" "$program" serve $options --shelves 2 --journal "$work/journal" || exit 1
 
