@@ -15,7 +15,7 @@ use Rattle.instance_book.specs.Makes.{rules_with}
 use Rattle.book_redo.specs.Redo.{told_of, names_told}
 use Rattle.instance_book.proofs.Seen.{length_seen, length_mend, length_put, length_kept}
 use Rattle.journal_records.specs.Records.{Record, begins, changes, renews, draws}
-use Rattle.older_records.specs.declared.renew.Renewed.TheVariants as renewed
+use Rattle.book_redo.specs.declared.renew.Renewed.TheVariants as renewed
 use Rattle.book_recovery.specs.declared.found.Found.{Found}
 use Rattle.book_recovery.specs.declared.found.Found.TheVariants as found
 use Rattle.book_recovery.specs.Reading.{seen_by, IsUnderWay, IsMadeOf, IsMadeIn, Begins, Renews, HasFew, CountsOneMore}

@@ -30,9 +30,9 @@ use Rattle.journal_spec.specs.Before.{States, state_at, Earlier, nothing_told, M
 use Rattle.journal_spec.specs.Retaking.{Told, unread, misread, told, told_in, held, states_with, then_told, retaken}
 use Rattle.journal_spec.specs.Making.{Making, begun, made, damaged, other, began, beside, has_script, first_by, first_setup, told_next, next_setup, with_drawn}
 use Rattle.journal_spec.specs.Old.{change_next, next_at, second_at, with_body_at}
-use Rattle.older_records.specs.declared.renew.Renewed.{Renewed}
-use Rattle.older_records.specs.declared.renew.Renewed.TheVariants as renewed
-use Rattle.older_records.specs.Renewing.{IsAsNewest, IsPassedOver, IsOutside, IsToldAsIs}
+use Rattle.book_redo.specs.declared.renew.Renewed.{Renewed}
+use Rattle.book_redo.specs.declared.renew.Renewed.TheVariants as renewed
+use Rattle.book_redo.specs.Renewing.{IsAsNewest, IsPassedOver, IsOutside, IsToldAsIs}
 use Rattle.book_recovery.specs.Found.{beside_file}
 use Rattle.book_recovery.specs.Reading.{seen_by, TellsOf, IsUnderWay, SeesNumber, Sees, may_stand, IsMadeOf, IsPassed, IsMadeBy, IsMadeIn, making_of, IsMadeAs, IsNothing, IsRenewed, IsFirst}
 use Rattle.book_recovery.proofs.Longer.{instances_longer, states_longer}

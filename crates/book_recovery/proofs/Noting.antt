@@ -31,8 +31,8 @@ use Rattle.journal_spec.specs.Lengths.{own_told}
 use Rattle.journal_spec.specs.Making.{Making, nothing, first_by, first_setup, begun, made, began, beside, told_next, next_setup, with_drawn as with_drawn_number}
 use Rattle.journal_spec.specs.Old.{told_at, told_of, landing_told, landing_of, change_next, second_at, next_at, with_body_at}
 use Rattle.journal_spec.specs.Copying.{state_now}
-use Rattle.older_records.specs.declared.renew.Renewed.TheVariants as renewed
-use Rattle.older_records.specs.Renewing.{IsRenewed, IsAsNewest, IsPassedOver}
+use Rattle.book_redo.specs.declared.renew.Renewed.TheVariants as renewed
+use Rattle.book_redo.specs.Renewing.{IsRenewed, IsAsNewest, IsPassedOver}
 use Rattle.file_notes.specs.declared.notes.FileNotes.{FileNotes}
 use Rattle.file_notes.specs.Files.{file_in, marks_in, with_drawn, with_read, with_mark, StaysAsTold}
 use Rattle.file_notes.specs.Notes.{is_told}

@@ -11,8 +11,8 @@ use Rattle.book_redo.specs.Redo.{counted_to, number_by}
 use Rattle.journal_records.specs.Records.{Record, begins, changes, renews, draws}
 use Rattle.journal_records.specs.Views.{logged_of}
 use Rattle.journal_records.specs.declared.records.Logged.{Logged}
-use Rattle.older_records.specs.declared.renew.Renewed.TheVariants as renewed
-use Rattle.older_records.specs.Renewing.{IsRenewed}
+use Rattle.book_redo.specs.declared.renew.Renewed.TheVariants as renewed
+use Rattle.book_redo.specs.Renewing.{IsRenewed}
 use Rattle.book_recovery.specs.Reading.{seen_by, IsUnderWay, CountsOneMore, IsMadeAgain, IsMadeIn}
 use Rattle.book_recovery.proofs.Counted.{told_few}
 

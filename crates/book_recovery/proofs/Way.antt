@@ -33,7 +33,7 @@ use Rattle.journal_spec.proofs.Retaken.{retaken_orderly, passed_orderly}
 use Rattle.journal_spec.specs.Making.{Making, damaged, other}
 use Rattle.journal_spec.specs.Old.{with_body_at}
 use Rattle.journal_spec.specs.Owning.{IsOwnState}
-use Rattle.older_records.specs.declared.renew.Renewed.TheVariants as renewed
+use Rattle.book_redo.specs.declared.renew.Renewed.TheVariants as renewed
 use Rattle.book_recovery.specs.declared.found.Found.{Found}
 use Rattle.book_recovery.specs.declared.found.Found.TheVariants as found
 use Rattle.book_recovery.specs.Found.{HasStates}

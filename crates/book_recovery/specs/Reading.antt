@@ -27,9 +27,9 @@ use Rattle.journal_spec.specs.Old.{with_body_at}
 use Rattle.journal_spec.specs.Opening.{IsRead}
 use Rattle.journal_spec.specs.Whole.{AreWhole}
 use Rattle.journal_spec.specs.Owning.{IsOwnRecordIn}
-use Rattle.older_records.specs.declared.renew.Renewed.{Renewed}
-use Rattle.older_records.specs.declared.renew.Renewed.TheVariants as renewed
-use Rattle.older_records.specs.Renewing.{IsRenewed as IsTold}
+use Rattle.book_redo.specs.declared.renew.Renewed.{Renewed}
+use Rattle.book_redo.specs.declared.renew.Renewed.TheVariants as renewed
+use Rattle.book_redo.specs.Renewing.{IsRenewed as IsTold}
 use Rattle.book_recovery.specs.declared.found.Found.{Found}
 use Rattle.book_recovery.specs.declared.found.Found.TheVariants as found
 use Rattle.book_recovery.specs.declared.reader.Reader.{Reader}

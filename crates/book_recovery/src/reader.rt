@@ -14,11 +14,10 @@ ghost use Rattle.book_recovery.specs.declared.found.Found.TheVariants as found;
 
 use crate::found::Found;
 use crate::setup_scripts::told_setup;
-use book_redo::{lands, pass, redo};
+use book_redo::{Renewed, as_newest, lands, pass, redo};
 use file_notes::FileNotes;
 use instance_book::{Book, InOrder, Numbered};
 use journal_records::{Logged, Origin, Recorded, decode, encode, records_are_exact};
-use older_records::{Renewed, as_newest};
 use page_journal::NEWEST_FORMAT;
 use script_nodes::{Library, ScriptText};
 use script_value::Bytes;

@@ -19,7 +19,7 @@ use Rattle.replay_spec.specs.Change.{put_page, put_instance, mend, shown_by, fre
 use Rattle.replay_spec.specs.Admission.{◌>>=◌, when, Place}
 use Rattle.replay_spec.specs.Next.{home, page_tape, tape_for}
 use Rattle.replay_spec.specs.Recovery.{can_go, if_can_go, page_of_numbers, opening_visit, extension_visit, redone}
-use Rattle.page_marks.specs.Marks.{Mark, stays}
+use Rattle.replay_spec.specs.Marks.{Mark, stays}
 use Rattle.replay_spec.proofs.Ancestors.{Grown, put_grown, ancestors_grown, chain_is}
 use Rattle.replay_spec.proofs.Numbered.{put_length, number_of}
 use Rattle.machine_states.specs.Machine.{Suspended, inside_of}

@@ -2,3 +2,15 @@ pub mod Passed
 pub mod Landed
 pub mod Redone
 pub mod Held
+pub mod Anew
+pub mod Before
+pub mod Comes
+pub mod Fits
+pub mod Left
+pub mod Over
+pub mod Quiet
+pub mod Respelled
+pub mod SameStates
+pub mod Shown
+pub mod Spelled
+pub mod ToldState

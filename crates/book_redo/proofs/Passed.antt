@@ -18,7 +18,7 @@ use Rattle.replay_spec.specs.Admission.{when, is_one}
 use Rattle.replay_spec.specs.Eviction.{but}
 use Rattle.replay_spec.specs.Recovery.{is_ok, stands_over, are_on, hold_over, is_used, can_go, if_can_go, redone, number_in}
 use Rattle.replay_spec.specs.Invariant.{AreAbove, IsRising}
-use Rattle.page_marks.specs.Marks.{Mark, is_kept, stays, uses_of, mark_at, number_of as number_of_mark, use_of as use_of_mark}
+use Rattle.replay_spec.specs.Marks.{Mark, is_kept, stays, uses_of, mark_at, number_of as number_of_mark, use_of as use_of_mark}
 use Rattle.replay_spec.proofs.Tests.{holds_is, on_is}
 use Rattle.machine_states.specs.Machine.{Suspended, inside_of}
 use Rattle.machine_states.specs.Views.{suspended_of}

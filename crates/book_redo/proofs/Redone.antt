@@ -16,7 +16,7 @@ use Rattle.replay_spec.specs.Change.{mend, without, ended_by, logged_by, land}
 use Rattle.replay_spec.specs.Admission.{◌>>=◌, when, Place}
 use Rattle.replay_spec.specs.Next.{home}
 use Rattle.replay_spec.specs.Recovery.{of_length, redone, number_in}
-use Rattle.page_marks.specs.Marks.{is_kept}
+use Rattle.replay_spec.specs.Marks.{is_kept}
 use Rattle.replay_spec.proofs.Numbered.{number_of}
 use Rattle.machine_states.specs.Machine.{Suspended}
 use Rattle.machine_states.specs.Views.{suspended_of}

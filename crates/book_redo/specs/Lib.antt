@@ -1,2 +1,7 @@
 pub mod Redo
 pub mod Lands
+pub mod Again
+pub mod Behind
+pub mod Renewing
+pub mod Runs
+pub mod Told

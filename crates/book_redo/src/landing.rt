@@ -20,7 +20,7 @@ use journal_records::{EndedRecord, FinishRecord, Logged, Origin, PageRecord};
 use script_nodes::{Library, NamedScript};
 use script_value::Bytes;
 use std::alloc::{AllocError, Global};
-use stored_values::StoredValue;
+use kept_states::StoredValue;
 
 // A record of this number counts, and changes nothing else. It takes no memory.
 fn pass_over(book: &mut Book, number: u64)

@@ -1,10 +1,19 @@
-//! What a record tells, made again in a book or passed over, as recovery decides: one door for all kinds of records, for recovery.
+//! What a record of any format tells, made again in a book or passed over, as recovery decides: one door for all kinds of records, for recovery and the audit.
 #![tactic(auto)]
 
+mod again;
+mod behind;
 mod landing;
 mod landings;
+mod renew;
+mod same;
+mod stored;
 mod takes;
 mod told;
 
+pub use again::{are_same_effects, state_left};
 pub use landing::{pass, redo};
 pub use landings::lands;
+pub use renew::{Renewed, as_newest};
+pub use same::is_same_state;
+pub use stored::told_state;

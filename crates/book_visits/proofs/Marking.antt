@@ -4,7 +4,7 @@ use Rattle.std.proofs.lemmas.Bool.Decides.{nat_tests}
 use Rattle.replay_spec.specs.Book.{Use}
 use Rattle.replay_spec.specs.Change.{used_by}
 use Rattle.replay_spec.specs.Invariant.{AreAbove, IsRising}
-use Rattle.page_marks.specs.Marks.{Mark, number_of, uses_of}
+use Rattle.replay_spec.specs.Marks.{Mark, number_of, uses_of}
 use Rattle.instance_book.specs.declared.numbered.Numbered.{Numbered}
 use Rattle.instance_book.specs.declared.page.KeptPage.{KeptPage}
 use Rattle.instance_book.specs.Views.{mark_of}

@@ -1,7 +1,7 @@
 -- The uses of pages, as the program reads them off its marks.
 use Rattle.std.specs.Prelude.{ℕ, max, ◌==◌, List, map, Option, Some, None, if◌then◌else◌}
 use Rattle.replay_spec.specs.Book.{Use}
-use Rattle.page_marks.specs.Marks.{Mark, use_of}
+use Rattle.replay_spec.specs.Marks.{Mark, use_of}
 use Rattle.book_visits.specs.declared.goes.PageUse.{PageUse}
 
 -- what a use that was read stands for

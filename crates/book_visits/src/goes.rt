@@ -1,5 +1,5 @@
 ghost use Rattle.std.specs.Prelude.{◌≡◌, option_map, IfOk};
-ghost use Rattle.page_marks.specs.Marks.{use_of};
+ghost use Rattle.replay_spec.specs.Marks.{use_of};
 ghost use Rattle.replay_spec.specs.Change.{used_by};
 ghost use Rattle.replay_spec.specs.Eviction.{least, least_used, goes_for};
 ghost use Rattle.instance_book.specs.Views.{mark_of, used_of};

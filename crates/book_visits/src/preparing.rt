@@ -19,12 +19,11 @@ use expiry::{LONGEST_LIFE, deadline};
 use instance_book::{Book, Change, Ending, Finish, KeptInstance, Numbered, ShownState};
 use instance_cells::Effect;
 use journal_records::{EndedRecord, FinishRecord, PageRecord};
-use kept_states::KeptState;
+use kept_states::{KeptState, StoredValue};
 use machine_states::{Origin, Outcome, Segment};
 use page_names::{PageName, Target};
 use script_value::{Bytes, Refusal, Reply, TxName};
 use std::alloc::{AllocError, Global};
-use stored_values::StoredValue;
 
 // What a segment did that showed no page: its effects, the transactions inside which it stopped, and those that it left.
 #[derive(Drop)]

@@ -8,9 +8,9 @@ use Rattle.replay_spec.specs.Change.{put_in_order, put_use, used_by, used_in, un
 use Rattle.replay_spec.specs.Eviction.{but}
 use Rattle.replay_spec.specs.Recovery.{is_used, can_go}
 use Rattle.replay_spec.specs.Invariant.{AreAbove, IsRising}
-use Rattle.page_marks.specs.Marks.{Mark, number_of, use_of, uses_of, evictions_of, use_page, go, go_all, mark_at, CanAllGo}
+use Rattle.replay_spec.specs.Marks.{Mark, number_of, use_of, uses_of, evictions_of, use_page, go, go_all, mark_at, CanAllGo}
 use Rattle.replay_spec.proofs.Goers.{go_alike, used_in_pages}
-use Rattle.page_marks.proofs.Marked.{marked, rising_go}
+use Rattle.replay_spec.proofs.Marked.{marked, rising_go}
 use Rattle.instance_book.specs.declared.numbered.Numbered.{Numbered}
 use Rattle.instance_book.specs.declared.in_order.InOrder.{InOrder}
 use Rattle.instance_book.specs.declared.page.KeptPage.{KeptPage}

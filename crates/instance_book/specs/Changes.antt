@@ -5,7 +5,7 @@ use Rattle.script_nodes.specs.Setup.{Named, Library}
 use Rattle.replay_spec.specs.Book as spec
 use Rattle.replay_spec.specs.Book.{at_number}
 use Rattle.replay_spec.specs.Change.{put_page, put_instance, put_use, used_by, used_in, unless_gone, evict, mend, without}
-use Rattle.page_marks.specs.Marks.{use_of, uses_of, evictions_of}
+use Rattle.replay_spec.specs.Marks.{use_of, uses_of, evictions_of}
 use Rattle.journal_records.specs.Views.{page_change, ending_of, finish_of}
 use Rattle.instance_book.specs.declared.numbered.Numbered.{Numbered}
 use Rattle.instance_book.specs.declared.in_order.InOrder.{InOrder}

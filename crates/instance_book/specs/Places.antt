@@ -22,7 +22,7 @@ use Rattle.instance_book.specs.declared.numbered.Numbered.{Numbered}
 use Rattle.instance_book.specs.declared.in_order.InOrder.{InOrder}
 use Rattle.instance_book.specs.declared.page.KeptPage.{KeptPage}
 use Rattle.instance_book.specs.declared.instance.KeptInstance.{KeptInstance}
-use Rattle.page_marks.specs.Marks.{Mark, number_of, mark_at, use_of}
+use Rattle.replay_spec.specs.Marks.{Mark, number_of, mark_at, use_of}
 use Rattle.instance_book.specs.Lists.{HasRoom}
 use Rattle.instance_book.specs.Views.{page_of, pages_of, mark_of, marks_of, used_of, evicted_of, script_in}
 

@@ -7,7 +7,7 @@ use Rattle.script_nodes.specs.declared.setup.NamedScript.{NamedScript}
 use Rattle.replay_spec.specs.Book as book
 use Rattle.replay_spec.specs.Admission as spec
 use Rattle.replay_spec.specs.Recovery.{page_of_numbers}
-use Rattle.page_marks.specs.Marks.{mark_at}
+use Rattle.replay_spec.specs.Marks.{mark_at}
 use Rattle.instance_book.specs.declared.numbered.Numbered.{Numbered}
 use Rattle.instance_book.specs.declared.page.KeptPage.{KeptPage}
 use Rattle.instance_book.specs.declared.instance.KeptInstance.{KeptInstance}

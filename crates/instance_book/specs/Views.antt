@@ -6,7 +6,7 @@ use Rattle.script_nodes.specs.Setup.{Named, Library}
 use Rattle.replay_spec.specs.Book as spec
 use Rattle.replay_spec.specs.Book.{at_number, Doubt, File}
 use Rattle.replay_spec.specs.Rules.{first_file}
-use Rattle.page_marks.specs.Marks.{Mark, uses_of, evictions_of}
+use Rattle.replay_spec.specs.Marks.{Mark, uses_of, evictions_of}
 use Rattle.instance_book.specs.declared.numbered.Numbered.{Numbered}
 use Rattle.instance_book.specs.declared.in_order.InOrder.{InOrder}
 use Rattle.instance_book.specs.declared.page.KeptPage.{KeptPage}

@@ -11,10 +11,9 @@ use crate::numbered::Numbered;
 use expiry::expired;
 use instance_cells::Effect;
 use journal_records::PageRecord;
-use kept_states::KeptState;
+use kept_states::{KeptState, StoredValue, StoredValues};
 use script_value::{Items, TxName};
 use std::alloc::{AllocError, Global};
-use stored_values::{StoredValue, StoredValues};
 
 /// What is kept of a page that was shown, under its number.
 #[derive(Drop)]

@@ -22,7 +22,7 @@ use journal_records::PageRecord;
 use script_nodes::SendKind;
 use script_value::{Items, TxName, Value};
 use std::alloc::{AllocError, Global};
-use stored_values::StoredValue;
+use kept_states::StoredValue;
 use transactions::Closed;
 
 // These transactions are closed too.

@@ -2,3 +2,4 @@ pub mod Bound
 pub mod Read
 pub mod Told
 pub mod Written
+pub mod Forms

@@ -3,3 +3,4 @@ pub mod Kept
 pub mod Given
 pub mod Told
 pub mod Vectors
+pub mod Forms

@@ -13,7 +13,7 @@ use Rattle.journal_records.specs.Views.{origin_of, page_change}
 use Rattle.journal_records.specs.declared.records.PageRecord.{PageRecord}
 use Rattle.journal_spec.specs.Before.{Made}
 use Rattle.journal_spec.specs.Retaking.{unread}
-use Rattle.older_records.proofs.Over.{page_number}
+use Rattle.book_redo.proofs.Over.{page_number}
 use Rattle.audit_spec.specs.Tests.{goes_on, is_due, is_in_time, tells_state, tells_own}
 
 -- a change that shows a page

@@ -21,8 +21,8 @@ use Rattle.journal_spec.specs.Old.{told_at}
 use Rattle.instance_book.specs.declared.book.Book.{Book}
 use Rattle.instance_book.specs.Views.{Beside, book_of}
 use Rattle.instance_book.specs.Standing.{book_under}
-use Rattle.older_records.specs.Again.{comes_again, ComesAgain}
-use Rattle.older_records.specs.Told.{told_for}
+use Rattle.book_redo.specs.Again.{comes_again, ComesAgain}
+use Rattle.book_redo.specs.Told.{told_for}
 use Rattle.audit_spec.specs.Tests.{holds_of, runs_so, same_state, tells_state, tells_own}
 use Rattle.audit_spec.proofs.SameStates.{state_decides}
 use Rattle.record_audit.proofs.Beside.{TestsAlike, beside_alike}

@@ -4,7 +4,7 @@ ghost use Rattle.instance_book.specs.Makes.{HasPlaces, HasSomeStates, HasItsStat
 ghost use Rattle.instance_book.specs.Views.{used_of};
 ghost use Rattle.instance_book.specs.Standing.{book_under};
 ghost use Rattle.journal_records.specs.Views.{page_change};
-ghost use Rattle.older_records.specs.Again.{CanRunAgain};
+ghost use Rattle.book_redo.specs.Again.{CanRunAgain};
 ghost use Rattle.audit_spec.specs.Tests as spec;
 ghost use Rattle.audit_spec.specs.Tests.{runs_so};
 ghost use Rattle.record_audit.specs.Faults.{GoesLeast, GoLeast, TellsOwn};
@@ -13,7 +13,7 @@ use crate::runs::script_at;
 use book_visits::{first_to_go, why_not};
 use instance_book::{Book, InOrder, KeptPage, place_of_numbers};
 use journal_records::{Origin, PageRecord};
-use older_records::{is_same_state, state_left, told_state};
+use book_redo::{is_same_state, state_left, told_state};
 use script_nodes::Library;
 use server_limits::MOST_LIFE;
 use std::alloc::{AllocError, Global};

@@ -4,7 +4,7 @@ ghost use Rattle.replay_spec.specs.Book.{ends, finishes, sweeps};
 ghost use Rattle.instance_book.specs.Makes.{HasPlaces, HasSomeStates, HasItsStates};
 ghost use Rattle.journal_records.specs.Records.{changes};
 ghost use Rattle.journal_records.specs.Views.{page_change, ending_of, finish_of, logged_of};
-ghost use Rattle.older_records.specs.Again.{CanRunAgain};
+ghost use Rattle.book_redo.specs.Again.{CanRunAgain};
 ghost use Rattle.record_audit.specs.Faults.{IsFaultIn, IsFaultAnyway, IsFaultAlways};
 
 use crate::checks::{can_be_answered, is_admitted, is_due, least_go, tells_own};

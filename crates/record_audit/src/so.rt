@@ -9,7 +9,7 @@ ghost use Rattle.record_audit.specs.Runs.{is_shown};
 
 use instance_cells::Effect;
 use journal_records::{EndedRecord, FinishRecord, PageRecord};
-use older_records::are_same_effects;
+use book_redo::are_same_effects;
 use script_nodes::SendKind;
 use script_value::TxName;
 use segments::{PlainEnd, Rerun};

@@ -51,3 +51,4 @@ pub mod Evicted
 pub mod Room
 pub mod Least
 pub mod Migrated
+pub mod Marked

@@ -24,3 +24,4 @@ pub mod Promises
 pub mod Remade
 pub mod Evicting
 pub mod Migration
+pub mod Marks

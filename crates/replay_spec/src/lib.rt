@@ -5,6 +5,7 @@ ghost use Rattle.replay_spec.specs.Laws.{EffectsHoldRunSame, AHeldRunIsNext, Eff
 ghost use Rattle.replay_spec.specs.Promises.{TheClockNeverFalls, AShownPageIsAdmitted, NothingElseCloses, NothingElseFrees, AVisitIsAnswered};
 ghost use Rattle.replay_spec.specs.Evicting.{NothingElseEvicts, AtMostPages, TheLeastUsedGo, UsesRise};
 ghost use Rattle.replay_spec.specs.Remade.{EffectsHold, JournalIsLast, CellsStayNamed, DecisionsAreRemade, EventsAreFiled, FilesSuffice, RecordsMakeFiledBooks, CompactionKeepsTheBook, CompactedTwice, RecordsMakeOrderlyBooks};
+ghost use Rattle.replay_spec.specs.Marks.{MarksAreUses};
 ghost use Rattle.replay_spec.specs.Migration.{MigrationKeepsTheBook};
 
 // Of single runs of a script.
@@ -227,4 +228,11 @@ pub fn migration_keeps_the_book()
 /// Whatever records tell, the book that they make of an empty one is orderly.
 pub fn records_make_orderly_books()
     ensures { RecordsMakeOrderlyBooks }
+{}
+
+// Of marks.
+
+/// Uses and evictions are read off marks that pages have, and change as the marks do.
+pub fn marks_are_uses()
+    ensures { MarksAreUses }
 {}

@@ -5,8 +5,8 @@ use Rattle.script_value.specs.declared.outcome.Refusal.TheVariants.{Revoked, Exp
 use Rattle.replay_spec.specs.Names.{first_closed}
 use Rattle.replay_spec.specs.Book.{evictor}
 use Rattle.replay_spec.specs.Admission.{◌>>=◌, when, or_else, is_one, closed_by, evicted_by}
-use Rattle.page_marks.specs.Marks.{Mark}
-use Rattle.page_marks.proofs.Marked.{marked}
+use Rattle.replay_spec.specs.Marks.{Mark}
+use Rattle.replay_spec.proofs.Marked.{marked}
 use Rattle.instance_book.specs.declared.numbered.Numbered.{Numbered}
 use Rattle.instance_book.specs.declared.instance.KeptInstance.{KeptInstance}
 use Rattle.instance_book.specs.declared.page.KeptPage.{KeptPage}

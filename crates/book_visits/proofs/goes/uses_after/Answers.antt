@@ -1,5 +1,5 @@
 use Rattle.std.proofs.Common.{◌∙◌, ap, sym, List, map}
-use Rattle.page_marks.specs.Marks.{uses_of}
+use Rattle.replay_spec.specs.Marks.{uses_of}
 use Rattle.instance_book.specs.declared.numbered.Numbered.{Numbered}
 use Rattle.instance_book.specs.declared.page.KeptPage.{KeptPage}
 use Rattle.instance_book.specs.Views.{mark_of, marks_of}

@@ -1,5 +1,5 @@
 use Rattle.std.proofs.Common.{◌≡◌, ◌++◌, map, drop}
-use Rattle.page_marks.specs.Marks.{uses_of}
+use Rattle.replay_spec.specs.Marks.{uses_of}
 use Rattle.instance_book.specs.Views.{mark_of}
 use Rattle.book_visits.specs.Uses.{read_uses, used_one}
 use Rattle.book_visits.proofs.goes.uses_after.Given as goal

@@ -13,7 +13,7 @@ use Rattle.replay_spec.specs.Recovery.{can_go}
 use Rattle.replay_spec.specs.Step as step
 use Rattle.replay_spec.specs.Step.{records}
 use Rattle.replay_spec.proofs.Goers.{goers_go}
-use Rattle.page_marks.specs.Marks.{Mark}
+use Rattle.replay_spec.specs.Marks.{Mark}
 use Rattle.journal_records.specs.Views.{page_change}
 use Rattle.journal_records.specs.declared.records.PageRecord.{PageRecord}
 use Rattle.book_visits.specs.Views.{reply_of}

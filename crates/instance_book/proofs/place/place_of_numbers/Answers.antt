@@ -4,7 +4,7 @@ use Rattle.script_nodes.specs.Setup.{Named}
 use Rattle.script_nodes.specs.Views.{library_of, named_of}
 use Rattle.replay_spec.specs.Book.{at_number}
 use Rattle.replay_spec.proofs.Numbered.{number_of}
-use Rattle.page_marks.specs.Marks.{Mark, mark_at}
+use Rattle.replay_spec.specs.Marks.{Mark, mark_at}
 use Rattle.instance_book.specs.declared.numbered.Numbered.{Numbered}
 use Rattle.instance_book.specs.declared.page.KeptPage.{KeptPage}
 use Rattle.instance_book.specs.declared.instance.KeptInstance.{KeptInstance}

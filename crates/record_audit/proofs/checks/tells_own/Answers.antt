@@ -5,8 +5,8 @@ use Rattle.machine_states.specs.Views.{suspended_of}
 use Rattle.machine_states.specs.declared.frame.Suspended as stored
 use Rattle.journal_records.specs.Views.{page_change}
 use Rattle.journal_spec.specs.Retaking.{script_for}
-use Rattle.older_records.specs.Again.{ComesTo}
-use Rattle.older_records.specs.Told.{told_for}
+use Rattle.book_redo.specs.Again.{ComesTo}
+use Rattle.book_redo.specs.Told.{told_for}
 use Rattle.record_audit.proofs.Pages.{is_page}
 use Rattle.record_audit.proofs.Told.{none_told, some_told}
 use Rattle.record_audit.proofs.checks.tells_own.Goals as goal

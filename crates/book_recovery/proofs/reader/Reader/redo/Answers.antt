@@ -7,9 +7,9 @@ use Rattle.instance_book.specs.Standing.{book_under}
 use Rattle.book_redo.specs.Redo.{number_by}
 use Rattle.journal_records.specs.Views.{logged_of}
 use Rattle.journal_spec.specs.Before.{state_at}
-use Rattle.older_records.specs.declared.renew.Renewed.{Renewed}
-use Rattle.older_records.specs.declared.renew.Renewed.TheVariants.{Misread}
-use Rattle.older_records.specs.Renewing.{IsRenewed}
+use Rattle.book_redo.specs.declared.renew.Renewed.{Renewed}
+use Rattle.book_redo.specs.declared.renew.Renewed.TheVariants.{Misread}
+use Rattle.book_redo.specs.Renewing.{IsRenewed}
 use Rattle.book_recovery.specs.Reading.{seen_by}
 use Rattle.book_recovery.proofs.Counted.{told_few}
 use Rattle.book_recovery.proofs.Made.{free, low_of}

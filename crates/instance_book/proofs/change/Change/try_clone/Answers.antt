@@ -3,7 +3,7 @@ use Rattle.kept_states.specs.Kept.{Kept}
 use Rattle.replay_spec.specs.Book as spec
 use Rattle.replay_spec.specs.Change.{mend}
 use Rattle.replay_spec.specs.Recovery.{can_go}
-use Rattle.page_marks.specs.Marks.{Mark}
+use Rattle.replay_spec.specs.Marks.{Mark}
 use Rattle.instance_book.specs.declared.numbered.Numbered.{Numbered}
 use Rattle.instance_book.specs.declared.in_order.InOrder.{InOrder}
 use Rattle.instance_book.specs.declared.page.KeptPage.{KeptPage}

@@ -1,5 +1,0 @@
-pub mod Again
-pub mod Behind
-pub mod Renewing
-pub mod Runs
-pub mod Told
