@@ -5,15 +5,15 @@ use Rattle.script_nodes.specs.Setup.{Named, Library}
 use Rattle.replay_spec.specs.Book.{Change, opens, extends, ends, finishes, sweeps, Instance, Book, is_live, reopened}
 use Rattle.replay_spec.specs.Change.{opened_by, instances_by, shown_by, page_by, root_by, ended_by, fresh}
 use Rattle.replay_spec.specs.Recovery.{redone, of_length, is_repeated, number_in}
-use Rattle.instance_book.specs.declared.in_order.InOrder.{InOrder}
-use Rattle.instance_book.specs.declared.book.Book as kept
-use Rattle.instance_book.specs.Makes.{count_of}
-use Rattle.instance_book.specs.Views.{no_journal, instance_of}
-use Rattle.instance_book.specs.Standing.{book_under}
-use Rattle.instance_book.specs.Swept.{IsEmpty}
-use Rattle.instance_book.specs.Makes.{rules_with}
+use Rattle.book_redo.specs.InstanceBook.declared.in_order.InOrder.{InOrder}
+use Rattle.book_redo.specs.InstanceBook.declared.book.Book as kept
+use Rattle.book_redo.specs.InstanceBook.Makes.{count_of}
+use Rattle.book_redo.specs.InstanceBook.Views.{no_journal, instance_of}
+use Rattle.book_redo.specs.InstanceBook.Standing.{book_under}
+use Rattle.book_redo.specs.InstanceBook.Swept.{IsEmpty}
+use Rattle.book_redo.specs.InstanceBook.Makes.{rules_with}
 use Rattle.book_redo.specs.Redo.{told_of, names_told}
-use Rattle.instance_book.proofs.Seen.{length_seen, length_mend, length_put, length_kept}
+use Rattle.book_redo.proofs.InstanceBook.Seen.{length_seen, length_mend, length_put, length_kept}
 use Rattle.journal_records.specs.Records.{Record, begins, changes, renews, draws}
 use Rattle.book_redo.specs.declared.renew.Renewed.TheVariants as renewed
 use Rattle.book_recovery.specs.declared.found.Found.{Found}

@@ -5,8 +5,8 @@ use Rattle.std.proofs.lemmas.Bool.Decides.{nat_tests}
 use Rattle.setup_reader.specs.Texts.{setup_of_texts}
 use Rattle.page_journal.specs.Records.{newest, frames}
 use Rattle.page_journal.specs.Taken.{TakesAll}
-use Rattle.journal_spec.specs.Making.{Making, nothing, damaged, other}
-use Rattle.journal_spec.specs.Old.{with_body_at, with_bodies_at, book_of_format}
+use Rattle.book_redo.specs.JournalSpec.Making.{Making, nothing, damaged, other}
+use Rattle.book_redo.specs.JournalSpec.Old.{with_body_at, with_bodies_at, book_of_format}
 use Rattle.file_notes.specs.Files.{marks_in}
 use Rattle.book_recovery.specs.declared.found.Found.{Found}
 use Rattle.book_recovery.specs.declared.found.Found.TheVariants as found

@@ -6,13 +6,13 @@ use Rattle.script_nodes.specs.Setup.{Named}
 use Rattle.script_nodes.specs.Views.{named_of}
 use Rattle.script_nodes.specs.declared.setup.NamedScript.{NamedScript}
 use Rattle.script_nodes.proofs.Scripts.{arena_again}
-use Rattle.journal_spec.specs.Whole.{IsWhole, AreWhole}
-use Rattle.instance_book.specs.declared.numbered.Numbered.{Numbered}
-use Rattle.instance_book.specs.declared.instance.KeptInstance.{KeptInstance}
-use Rattle.instance_book.specs.declared.book.Book.{Book}
-use Rattle.instance_book.specs.Views.{script_in, instance_of, instances_of, pages_of}
-use Rattle.instance_book.specs.Places.{Source, source_in, shown_in, HaveStates, IsKept, IsPlaced}
-use Rattle.instance_book.specs.Makes.{HasPlaces, HasStatesFrom}
+use Rattle.book_redo.specs.JournalSpec.Whole.{IsWhole, AreWhole}
+use Rattle.book_redo.specs.InstanceBook.declared.numbered.Numbered.{Numbered}
+use Rattle.book_redo.specs.InstanceBook.declared.instance.KeptInstance.{KeptInstance}
+use Rattle.book_redo.specs.InstanceBook.declared.book.Book.{Book}
+use Rattle.book_redo.specs.InstanceBook.Views.{script_in, instance_of, instances_of, pages_of}
+use Rattle.book_redo.specs.InstanceBook.Places.{Source, source_in, shown_in, HaveStates, IsKept, IsPlaced}
+use Rattle.book_redo.specs.InstanceBook.Makes.{HasPlaces, HasStatesFrom}
 use Rattle.std.specs.Bool.{⊤}
 
 -- a script of the program can be run

@@ -12,24 +12,24 @@ use Rattle.replay_spec.specs.Invariant.{Among}
 use Rattle.replay_spec.specs.Remade.{IsOrderlyMade}
 use Rattle.replay_spec.proofs.Stand.{orderly_less}
 use Rattle.replay_spec.proofs.Recovered.{among_is}
-use Rattle.machine_states.specs.Machine.{Suspended, inside_of}
-use Rattle.instance_book.specs.declared.numbered.Numbered.{Numbered}
-use Rattle.instance_book.specs.declared.in_order.InOrder.{InOrder}
-use Rattle.instance_book.specs.declared.book.Book as kept
-use Rattle.instance_book.specs.Orders.{numbers_of}
-use Rattle.instance_book.specs.Places.{given}
-use Rattle.instance_book.specs.Makes.{HasPlaces}
-use Rattle.instance_book.specs.Views.{Beside, no_journal, book_of, instances_of}
-use Rattle.instance_book.specs.Standing.{book_under}
+use Rattle.book_redo.specs.MachineStates.Machine.{Suspended, inside_of}
+use Rattle.book_redo.specs.InstanceBook.declared.numbered.Numbered.{Numbered}
+use Rattle.book_redo.specs.InstanceBook.declared.in_order.InOrder.{InOrder}
+use Rattle.book_redo.specs.InstanceBook.declared.book.Book as kept
+use Rattle.book_redo.specs.InstanceBook.Orders.{numbers_of}
+use Rattle.book_redo.specs.InstanceBook.Places.{given}
+use Rattle.book_redo.specs.InstanceBook.Makes.{HasPlaces}
+use Rattle.book_redo.specs.InstanceBook.Views.{Beside, no_journal, book_of, instances_of}
+use Rattle.book_redo.specs.InstanceBook.Standing.{book_under}
 use Rattle.book_redo.specs.Redo.{told_of, HasToldStates, is_read, names_told, IsFree, IsUntold, file_with, beside_with, IsRedone}
-use Rattle.instance_book.specs.Makes.{Reopens}
+use Rattle.book_redo.specs.InstanceBook.Makes.{Reopens}
 use Rattle.journal_records.specs.Records.{Record, begins, changes, renews, draws}
 use Rattle.journal_records.specs.Old.{read_record_in}
 use Rattle.setup_reader.specs.Texts.{setup_of_texts}
-use Rattle.journal_spec.specs.Before.{States, state_at, Earlier, nothing_told, Made, plain}
-use Rattle.journal_spec.specs.Retaking.{Told, unread, misread, told, told_in, held, states_with, then_told, retaken}
-use Rattle.journal_spec.specs.Making.{Making, begun, made, damaged, other, began, beside, has_script, first_by, first_setup, told_next, next_setup, with_drawn}
-use Rattle.journal_spec.specs.Old.{change_next, next_at, second_at, with_body_at}
+use Rattle.book_redo.specs.JournalSpec.Before.{States, state_at, Earlier, nothing_told, Made, plain}
+use Rattle.book_redo.specs.JournalSpec.Retaking.{Told, unread, misread, told, told_in, held, states_with, then_told, retaken}
+use Rattle.book_redo.specs.JournalSpec.Making.{Making, begun, made, damaged, other, began, beside, has_script, first_by, first_setup, told_next, next_setup, with_drawn}
+use Rattle.book_redo.specs.JournalSpec.Old.{change_next, next_at, second_at, with_body_at}
 use Rattle.book_redo.specs.declared.renew.Renewed.{Renewed}
 use Rattle.book_redo.specs.declared.renew.Renewed.TheVariants as renewed
 use Rattle.book_redo.specs.Renewing.{IsAsNewest, IsPassedOver, IsOutside, IsToldAsIs}

@@ -12,11 +12,11 @@ use Rattle.script_nodes.specs.Views.{library_of}
 use Rattle.replay_spec.specs.Book.{Change, changed, renewed as renewed_line, File, Book}
 use Rattle.replay_spec.specs.Change.{with_line}
 use Rattle.replay_spec.specs.Recovery.{number_in, is_repeated, taken_in, resettled}
-use Rattle.machine_states.specs.Machine.{inside_of}
-use Rattle.instance_book.specs.declared.in_order.InOrder.{InOrder}
-use Rattle.instance_book.specs.declared.book.Book as kept
-use Rattle.instance_book.specs.Views.{no_journal}
-use Rattle.instance_book.specs.Standing.{book_under}
+use Rattle.book_redo.specs.MachineStates.Machine.{inside_of}
+use Rattle.book_redo.specs.InstanceBook.declared.in_order.InOrder.{InOrder}
+use Rattle.book_redo.specs.InstanceBook.declared.book.Book as kept
+use Rattle.book_redo.specs.InstanceBook.Views.{no_journal}
+use Rattle.book_redo.specs.InstanceBook.Standing.{book_under}
 use Rattle.book_redo.specs.Redo.{told_of as told_under, number_by, file_with, IsRedone}
 use Rattle.book_redo.specs.Lands.{TellsLanding}
 use Rattle.page_journal.specs.Records.{newest}
@@ -25,12 +25,12 @@ use Rattle.journal_records.specs.Old.{read_record_in}
 use Rattle.journal_records.specs.Views.{logged_of}
 use Rattle.journal_records.specs.declared.records.Logged.{Logged}
 use Rattle.setup_reader.specs.Texts.{setup_of_texts}
-use Rattle.journal_spec.specs.Before.{Made, plain}
-use Rattle.journal_spec.specs.Retaking.{Told, unread, misread, told, told_in, held, landing, retaken}
-use Rattle.journal_spec.specs.Lengths.{own_told}
-use Rattle.journal_spec.specs.Making.{Making, nothing, first_by, first_setup, begun, made, began, beside, told_next, next_setup, with_drawn as with_drawn_number}
-use Rattle.journal_spec.specs.Old.{told_at, told_of, landing_told, landing_of, change_next, second_at, next_at, with_body_at}
-use Rattle.journal_spec.specs.Copying.{state_now}
+use Rattle.book_redo.specs.JournalSpec.Before.{Made, plain}
+use Rattle.book_redo.specs.JournalSpec.Retaking.{Told, unread, misread, told, told_in, held, landing, retaken}
+use Rattle.book_redo.specs.JournalSpec.Lengths.{own_told}
+use Rattle.book_redo.specs.JournalSpec.Making.{Making, nothing, first_by, first_setup, begun, made, began, beside, told_next, next_setup, with_drawn as with_drawn_number}
+use Rattle.book_redo.specs.JournalSpec.Old.{told_at, told_of, landing_told, landing_of, change_next, second_at, next_at, with_body_at}
+use Rattle.book_redo.specs.JournalSpec.Copying.{state_now}
 use Rattle.book_redo.specs.declared.renew.Renewed.TheVariants as renewed
 use Rattle.book_redo.specs.Renewing.{IsRenewed, IsAsNewest, IsPassedOver}
 use Rattle.file_notes.specs.declared.notes.FileNotes.{FileNotes}

@@ -4,19 +4,19 @@ use Rattle.std.specs.List.{AllByRecursion}
 use Rattle.script_nodes.specs.Setup.{Named, Library}
 use Rattle.replay_spec.specs.Book.{Page, Instance, Book, instance_at, page_at}
 use Rattle.replay_spec.proofs.Numbered.{number_of}
-use Rattle.machine_states.specs.Machine.{Suspended}
-use Rattle.frame_codec.specs.Stored.{IsStored}
-use Rattle.instance_book.specs.declared.numbered.Numbered.{Numbered}
-use Rattle.instance_book.specs.declared.page.KeptPage.{KeptPage}
-use Rattle.instance_book.specs.declared.instance.KeptInstance.{KeptInstance}
-use Rattle.instance_book.specs.declared.book.Book as kept
-use Rattle.instance_book.specs.Places.{given, HasState, IsKept, shown_of, arena_of}
-use Rattle.instance_book.specs.Makes.{shelf_from}
+use Rattle.book_redo.specs.MachineStates.Machine.{Suspended}
+use Rattle.book_redo.specs.FrameCodec.Stored.{IsStored}
+use Rattle.book_redo.specs.InstanceBook.declared.numbered.Numbered.{Numbered}
+use Rattle.book_redo.specs.InstanceBook.declared.page.KeptPage.{KeptPage}
+use Rattle.book_redo.specs.InstanceBook.declared.instance.KeptInstance.{KeptInstance}
+use Rattle.book_redo.specs.InstanceBook.declared.book.Book as kept
+use Rattle.book_redo.specs.InstanceBook.Places.{given, HasState, IsKept, shown_of, arena_of}
+use Rattle.book_redo.specs.InstanceBook.Makes.{shelf_from}
 use Rattle.book_redo.specs.Redo.{HasToldStates}
-use Rattle.instance_book.specs.Views.{Beside, page_of, script_in, instance_of, instances_of, book_of}
-use Rattle.instance_book.proofs.Seen.{all_at}
-use Rattle.journal_spec.specs.Before.{States, state_at, Made}
-use Rattle.journal_spec.specs.Copying.{HasStored}
+use Rattle.book_redo.specs.InstanceBook.Views.{Beside, page_of, script_in, instance_of, instances_of, book_of}
+use Rattle.book_redo.proofs.InstanceBook.Seen.{all_at}
+use Rattle.book_redo.specs.JournalSpec.Before.{States, state_at, Made}
+use Rattle.book_redo.specs.JournalSpec.Copying.{HasStored}
 
 -- this is a state that fits the script and has a spelling
 abbrev IsOne : Named → Option Suspended → Type 0

@@ -4,9 +4,9 @@ use Rattle.std.specs.Prelude.{IfOk, IfSome}
 use Rattle.std.specs.declared.alloc.AllocError.{AllocError}
 use Rattle.script_nodes.specs.Setup.{Library}
 use Rattle.replay_spec.specs.Recovery.{is_repeated}
-use Rattle.instance_book.specs.declared.in_order.InOrder.{InOrder}
-use Rattle.instance_book.specs.declared.book.Book.{Book}
-use Rattle.instance_book.specs.Makes.{Reopens}
+use Rattle.book_redo.specs.InstanceBook.declared.in_order.InOrder.{InOrder}
+use Rattle.book_redo.specs.InstanceBook.declared.book.Book.{Book}
+use Rattle.book_redo.specs.InstanceBook.Makes.{Reopens}
 use Rattle.book_redo.specs.Redo.{counted_to, number_by}
 use Rattle.journal_records.specs.Records.{Record, begins, changes, renews, draws}
 use Rattle.journal_records.specs.Views.{logged_of}

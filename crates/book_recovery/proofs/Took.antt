@@ -7,28 +7,28 @@ use Rattle.page_journal.specs.Taken.{TakesAll}
 use Rattle.page_journal.proofs.Frames.{length-framed, length-at_rest}
 use Rattle.replay_spec.specs.Book.{Change, opens, extends, ends, finishes, sweeps, File, Instance, Book, reopened}
 use Rattle.replay_spec.specs.Invariant.{IsOrderly}
-use Rattle.instance_book.specs.declared.in_order.InOrder.{InOrder}
-use Rattle.instance_book.specs.declared.book.Book as kept
-use Rattle.instance_book.specs.declared.numbered.Numbered.{Numbered}
-use Rattle.instance_book.specs.declared.instance.KeptInstance.{KeptInstance}
-use Rattle.instance_book.specs.Places.{IsPlaced}
-use Rattle.instance_book.specs.Views.{script_in, instance_of, instances_of, book_of}
-use Rattle.instance_book.proofs.Seen.{all_at}
-use Rattle.instance_book.specs.Standing.{book_under}
+use Rattle.book_redo.specs.InstanceBook.declared.in_order.InOrder.{InOrder}
+use Rattle.book_redo.specs.InstanceBook.declared.book.Book as kept
+use Rattle.book_redo.specs.InstanceBook.declared.numbered.Numbered.{Numbered}
+use Rattle.book_redo.specs.InstanceBook.declared.instance.KeptInstance.{KeptInstance}
+use Rattle.book_redo.specs.InstanceBook.Places.{IsPlaced}
+use Rattle.book_redo.specs.InstanceBook.Views.{script_in, instance_of, instances_of, book_of}
+use Rattle.book_redo.proofs.InstanceBook.Seen.{all_at}
+use Rattle.book_redo.specs.InstanceBook.Standing.{book_under}
 use Rattle.journal_records.specs.Records.{Record, begins, changes, renews, draws}
 use Rattle.journal_records.specs.Old.{read_record_in}
 use Rattle.setup_reader.specs.Texts.{setup_of_texts}
-use Rattle.journal_spec.specs.Before.{Earlier, state_at, Made}
-use Rattle.journal_spec.specs.Retaking.{Told, unread, misread, told}
-use Rattle.journal_spec.specs.Lengths.{state_by}
-use Rattle.journal_spec.specs.Making.{Making, nothing, made_in as made_in_making}
-use Rattle.journal_spec.specs.Old.{told_of, with_body_at, with_bodies_at, book_of_format as made_of_bodies}
-use Rattle.journal_spec.specs.Owning.{IsOwnState, IsOwnRecordIn, AreOwnIn}
-use Rattle.journal_spec.specs.Reading.{AreAllBytes}
-use Rattle.journal_spec.specs.Spelling.{IsInRange}
-use Rattle.journal_spec.specs.Whole.{AreWhole, IsWhole, HasWholeScripts}
-use Rattle.journal_spec.specs.Laws.{BodiesOfAnyFormatFit}
-use Rattle.journal_spec.proofs.Makings.{with_push_at}
+use Rattle.book_redo.specs.JournalSpec.Before.{Earlier, state_at, Made}
+use Rattle.book_redo.specs.JournalSpec.Retaking.{Told, unread, misread, told}
+use Rattle.book_redo.specs.JournalSpec.Lengths.{state_by}
+use Rattle.book_redo.specs.JournalSpec.Making.{Making, nothing, made_in as made_in_making}
+use Rattle.book_redo.specs.JournalSpec.Old.{told_of, with_body_at, with_bodies_at, book_of_format as made_of_bodies}
+use Rattle.book_redo.specs.JournalSpec.Owning.{IsOwnState, IsOwnRecordIn, AreOwnIn}
+use Rattle.book_redo.specs.JournalSpec.Reading.{AreAllBytes}
+use Rattle.book_redo.specs.JournalSpec.Spelling.{IsInRange}
+use Rattle.book_redo.specs.JournalSpec.Whole.{AreWhole, IsWhole, HasWholeScripts}
+use Rattle.book_redo.specs.JournalSpec.Laws.{BodiesOfAnyFormatFit}
+use Rattle.book_redo.proofs.JournalSpec.Makings.{with_push_at}
 use Rattle.book_recovery.specs.declared.found.Found.{Found}
 use Rattle.book_recovery.specs.declared.found.Found.TheVariants as found
 use Rattle.book_recovery.specs.declared.reader.Reader.{Reader}

@@ -10,29 +10,29 @@ use Rattle.replay_spec.specs.Recovery.{number_in, is_repeated, redone, of_length
 use Rattle.replay_spec.specs.Invariant.{Among, AreOrderly}
 use Rattle.replay_spec.specs.Remade.{IsOrderlyMade}
 use Rattle.replay_spec.proofs.Recovered.{made_orderly}
-use Rattle.machine_states.specs.Machine.{inside_of}
-use Rattle.instance_book.specs.declared.in_order.InOrder.{InOrder}
-use Rattle.instance_book.specs.declared.book.Book as kept
-use Rattle.instance_book.specs.Places.{given, own}
-use Rattle.instance_book.specs.Makes.{HasPlaces, HasItsStates}
-use Rattle.instance_book.specs.Views.{Beside, no_journal, book_of, instances_of}
-use Rattle.instance_book.specs.Standing.{book_under}
-use Rattle.instance_book.specs.Swept.{begun as begun_beside}
+use Rattle.book_redo.specs.MachineStates.Machine.{inside_of}
+use Rattle.book_redo.specs.InstanceBook.declared.in_order.InOrder.{InOrder}
+use Rattle.book_redo.specs.InstanceBook.declared.book.Book as kept
+use Rattle.book_redo.specs.InstanceBook.Places.{given, own}
+use Rattle.book_redo.specs.InstanceBook.Makes.{HasPlaces, HasItsStates}
+use Rattle.book_redo.specs.InstanceBook.Views.{Beside, no_journal, book_of, instances_of}
+use Rattle.book_redo.specs.InstanceBook.Standing.{book_under}
+use Rattle.book_redo.specs.InstanceBook.Swept.{begun as begun_beside}
 use Rattle.book_redo.specs.Redo.{no_rules, told_of, HasToldStates, names_told, beside_with, IsRedone}
-use Rattle.instance_book.specs.Makes.{Reopens}
+use Rattle.book_redo.specs.InstanceBook.Makes.{Reopens}
 use Rattle.journal_records.specs.Records.{Record, begins, changes, renews, draws, body_of}
 use Rattle.value_bytes.specs.Laws.{AreBytes}
 use Rattle.journal_records.specs.Old.{read_record_in}
 use Rattle.journal_records.specs.Laws.{AreRecordsExact}
 use Rattle.setup_reader.specs.Texts.{setup_of_texts}
-use Rattle.journal_spec.specs.Before.{state_at, Earlier, nothing_told, Made, plain}
-use Rattle.journal_spec.specs.Retaking.{Told, unread, misread, told, landing, then_told, retaken}
-use Rattle.journal_spec.specs.Opening.{IsRead, ReadsAsTold}
-use Rattle.journal_spec.specs.Whole.{AreWhole}
-use Rattle.journal_spec.proofs.Retaken.{retaken_orderly, passed_orderly}
-use Rattle.journal_spec.specs.Making.{Making, damaged, other}
-use Rattle.journal_spec.specs.Old.{with_body_at}
-use Rattle.journal_spec.specs.Owning.{IsOwnState}
+use Rattle.book_redo.specs.JournalSpec.Before.{state_at, Earlier, nothing_told, Made, plain}
+use Rattle.book_redo.specs.JournalSpec.Retaking.{Told, unread, misread, told, landing, then_told, retaken}
+use Rattle.book_redo.specs.JournalSpec.Opening.{IsRead, ReadsAsTold}
+use Rattle.book_redo.specs.JournalSpec.Whole.{AreWhole}
+use Rattle.book_redo.proofs.JournalSpec.Retaken.{retaken_orderly, passed_orderly}
+use Rattle.book_redo.specs.JournalSpec.Making.{Making, damaged, other}
+use Rattle.book_redo.specs.JournalSpec.Old.{with_body_at}
+use Rattle.book_redo.specs.JournalSpec.Owning.{IsOwnState}
 use Rattle.book_redo.specs.declared.renew.Renewed.TheVariants as renewed
 use Rattle.book_recovery.specs.declared.found.Found.{Found}
 use Rattle.book_recovery.specs.declared.found.Found.TheVariants as found

@@ -5,10 +5,10 @@ use Rattle.setup_reader.specs.Texts.{setup_of_texts}
 use Rattle.page_journal.specs.Records.{newest}
 use Rattle.journal_records.specs.Records.{Record, begins, changes, renews, draws, body_of}
 use Rattle.journal_records.specs.Old.{read_record_in}
-use Rattle.journal_spec.specs.Before.{Made}
-use Rattle.journal_spec.specs.Making.{Texts, Making, nothing, begun, made}
-use Rattle.journal_spec.specs.Old.{told_of, landing_of, with_body_at}
-use Rattle.journal_spec.specs.Copying.{state_now}
+use Rattle.book_redo.specs.JournalSpec.Before.{Made}
+use Rattle.book_redo.specs.JournalSpec.Making.{Texts, Making, nothing, begun, made}
+use Rattle.book_redo.specs.JournalSpec.Old.{told_of, landing_of, with_body_at}
+use Rattle.book_redo.specs.JournalSpec.Copying.{state_now}
 use Rattle.book_recovery.specs.declared.found.Found.{Found}
 use Rattle.book_recovery.specs.declared.found.ReadBook.{ReadBook}
 use Rattle.book_recovery.specs.Noting.{WhereMade}

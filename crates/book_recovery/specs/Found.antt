@@ -5,16 +5,16 @@ use Rattle.script_nodes.specs.Views.{library_of}
 use Rattle.replay_spec.specs.Book as spec
 use Rattle.replay_spec.specs.Book.{File, reopened}
 use Rattle.replay_spec.specs.Invariant.{IsOrderly}
-use Rattle.instance_book.specs.declared.book.Book.{Book}
-use Rattle.instance_book.specs.Views.{Beside, book_of}
-use Rattle.instance_book.specs.Makes.{HasPlaces, HasSomeStates, HasItsStates}
+use Rattle.book_redo.specs.InstanceBook.declared.book.Book.{Book}
+use Rattle.book_redo.specs.InstanceBook.Views.{Beside, book_of}
+use Rattle.book_redo.specs.InstanceBook.Makes.{HasPlaces, HasSomeStates, HasItsStates}
 pub use Rattle.book_redo.specs.Redo.{HasToldStates}
 use Rattle.setup_reader.specs.Texts.{setup_of_texts}
-use Rattle.journal_spec.specs.Before.{Made}
-use Rattle.journal_spec.specs.Making.{Making, nothing, damaged, other, made_in}
-use Rattle.journal_spec.specs.Opening.{IsRead}
-use Rattle.journal_spec.specs.Whole.{HasWholeScripts}
-use Rattle.journal_spec.specs.Spelling.{IsInRange}
+use Rattle.book_redo.specs.JournalSpec.Before.{Made}
+use Rattle.book_redo.specs.JournalSpec.Making.{Making, nothing, damaged, other, made_in}
+use Rattle.book_redo.specs.JournalSpec.Opening.{IsRead}
+use Rattle.book_redo.specs.JournalSpec.Whole.{HasWholeScripts}
+use Rattle.book_redo.specs.JournalSpec.Spelling.{IsInRange}
 use Rattle.book_recovery.specs.declared.found.Found.{Found}
 use Rattle.book_recovery.specs.declared.found.Found.TheVariants.{Nothing, Made as Found_made, Damaged, Other, Memory}
 

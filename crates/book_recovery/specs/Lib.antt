@@ -3,3 +3,5 @@ pub mod Noting
 pub mod Reading
 pub mod Noted
 pub mod Anew
+pub use Rattle.book_redo.specs.InstanceBook
+pub use Rattle.book_redo.specs.JournalSpec

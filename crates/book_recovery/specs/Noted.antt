@@ -1,17 +1,17 @@
 -- What one record more that was read adds to what is known of a file.
 use Rattle.std.specs.Prelude.{◌≡◌, ℕ, ◌+◌, Bool, true, List, [], ◌∷◌, ◌++◌, Option, Some, None, is_some, ⊤}
 use Rattle.script_nodes.specs.Setup.{Named, Library}
-use Rattle.instance_book.specs.declared.in_order.InOrder.{InOrder}
-use Rattle.instance_book.specs.declared.book.Book.{Book}
-use Rattle.instance_book.specs.Views.{Beside, book_of}
+use Rattle.book_redo.specs.InstanceBook.declared.in_order.InOrder.{InOrder}
+use Rattle.book_redo.specs.InstanceBook.declared.book.Book.{Book}
+use Rattle.book_redo.specs.InstanceBook.Views.{Beside, book_of}
 use Rattle.replay_spec.specs.Rules.{first_file}
 use Rattle.replay_spec.specs.Book.{renewed}
 use Rattle.replay_spec.specs.Change.{with_line}
 use Rattle.journal_records.specs.Records.{Record, changes, draws}
 use Rattle.journal_records.specs.Views.{logged_of}
 use Rattle.journal_records.specs.declared.records.Logged.{Logged}
-use Rattle.journal_spec.specs.Before.{Made}
-use Rattle.journal_spec.specs.Old.{told_of, landing_of}
+use Rattle.book_redo.specs.JournalSpec.Before.{Made}
+use Rattle.book_redo.specs.JournalSpec.Old.{told_of, landing_of}
 use Rattle.file_notes.specs.declared.notes.FileNotes.{FileNotes}
 use Rattle.file_notes.specs.Files.{file_in, marks_in, with_read, with_drawn}
 use Rattle.setup_reader.specs.Texts.{setup_of_texts}

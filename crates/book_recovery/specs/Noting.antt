@@ -2,12 +2,12 @@
 use Rattle.std.specs.Prelude.{◌≡◌, ℕ, ◌+◌, Bool, true, List, [], ◌∷◌, ◌++◌, length, Option, Some, is_some, ⊤}
 use Rattle.journal_records.specs.Records.{Record, changes, renews}
 use Rattle.journal_records.specs.Old.{read_record_in}
-use Rattle.journal_spec.specs.Before.{Made}
-use Rattle.journal_spec.specs.Making.{Texts, Making, nothing, begun, made}
-use Rattle.journal_spec.specs.Old.{book_of_format, told_of, landing_of, with_body_at}
+use Rattle.book_redo.specs.JournalSpec.Before.{Made}
+use Rattle.book_redo.specs.JournalSpec.Making.{Texts, Making, nothing, begun, made}
+use Rattle.book_redo.specs.JournalSpec.Old.{book_of_format, told_of, landing_of, with_body_at}
 use Rattle.file_notes.specs.declared.notes.FileNotes.{FileNotes}
 use Rattle.file_notes.specs.Files.{file_in, marks_in}
-use Rattle.journal_spec.specs.Reading.{AreAllBytes}
+use Rattle.book_redo.specs.JournalSpec.Reading.{AreAllBytes}
 use Rattle.setup_reader.specs.Texts.{setup_of_texts}
 use Rattle.book_recovery.specs.declared.found.Found.{Found}
 use Rattle.book_recovery.specs.declared.found.ReadBook.{ReadBook}

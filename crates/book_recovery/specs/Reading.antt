@@ -8,25 +8,25 @@ use Rattle.replay_spec.specs.Admission.{is_one}
 use Rattle.replay_spec.specs.Recovery as recovery
 use Rattle.replay_spec.specs.Recovery.{with_number, is_repeated}
 use Rattle.replay_spec.specs.Remade.{IsOrderlyMade}
-use Rattle.instance_book.specs.declared.in_order.InOrder.{InOrder}
-use Rattle.instance_book.specs.declared.book.Book.{Book}
-use Rattle.instance_book.specs.Orders.{numbers_of}
-use Rattle.instance_book.specs.Makes.{count_of, HasPlaces, HasItsStates, HasWhatIsGiven, Reopens}
-use Rattle.instance_book.specs.Swept.{IsEmpty}
-use Rattle.instance_book.specs.Views.{book_of}
-use Rattle.instance_book.specs.Standing.{book_under}
+use Rattle.book_redo.specs.InstanceBook.declared.in_order.InOrder.{InOrder}
+use Rattle.book_redo.specs.InstanceBook.declared.book.Book.{Book}
+use Rattle.book_redo.specs.InstanceBook.Orders.{numbers_of}
+use Rattle.book_redo.specs.InstanceBook.Makes.{count_of, HasPlaces, HasItsStates, HasWhatIsGiven, Reopens}
+use Rattle.book_redo.specs.InstanceBook.Swept.{IsEmpty}
+use Rattle.book_redo.specs.InstanceBook.Views.{book_of}
+use Rattle.book_redo.specs.InstanceBook.Standing.{book_under}
 use Rattle.book_redo.specs.Redo.{HasToldStates, counted_to, number_by, IsRedoneBy}
-use Rattle.machine_states.specs.Machine.{Suspended}
+use Rattle.book_redo.specs.MachineStates.Machine.{Suspended}
 use Rattle.journal_records.specs.Records.{Record, begins, changes, renews, draws}
 use Rattle.journal_records.specs.Old.{read_record_in}
 use Rattle.journal_records.specs.Views.{logged_of}
 use Rattle.setup_reader.specs.Texts.{setup_of_texts}
-use Rattle.journal_spec.specs.Before.{Earlier, state_at, Made}
-use Rattle.journal_spec.specs.Making.{Making, nothing, begun, made, damaged, other, began, has_script}
-use Rattle.journal_spec.specs.Old.{with_body_at}
-use Rattle.journal_spec.specs.Opening.{IsRead}
-use Rattle.journal_spec.specs.Whole.{AreWhole}
-use Rattle.journal_spec.specs.Owning.{IsOwnRecordIn}
+use Rattle.book_redo.specs.JournalSpec.Before.{Earlier, state_at, Made}
+use Rattle.book_redo.specs.JournalSpec.Making.{Making, nothing, begun, made, damaged, other, began, has_script}
+use Rattle.book_redo.specs.JournalSpec.Old.{with_body_at}
+use Rattle.book_redo.specs.JournalSpec.Opening.{IsRead}
+use Rattle.book_redo.specs.JournalSpec.Whole.{AreWhole}
+use Rattle.book_redo.specs.JournalSpec.Owning.{IsOwnRecordIn}
 use Rattle.book_redo.specs.declared.renew.Renewed.{Renewed}
 use Rattle.book_redo.specs.declared.renew.Renewed.TheVariants as renewed
 use Rattle.book_redo.specs.Renewing.{IsRenewed as IsTold}

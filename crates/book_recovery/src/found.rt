@@ -1,5 +1,5 @@
+use book_redo::Book;
 use file_notes::FileNotes;
-use instance_book::Book;
 use script_nodes::Library;
 use script_value::Bytes;
 

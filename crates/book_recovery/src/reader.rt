@@ -1,7 +1,7 @@
 ghost use Rattle.std.specs.Prelude.{◌≡◌, ◌<◌, ◌≤◌, ◌+◌, ◌*◌, ◌^◌, [], length, false, true, map, None, IfOk, IfSome, OnOk};
 ghost use Rattle.script_nodes.specs.Views.{library_of};
 ghost use Rattle.replay_spec.specs.Recovery.{is_repeated};
-ghost use Rattle.instance_book.specs.Makes.{count_of, HasPlaces, KeepsPlaces, HasItsStates, HasSomeStates, Reopens};
+ghost use Rattle.book_redo.specs.InstanceBook.Makes.{count_of, HasPlaces, KeepsPlaces, HasItsStates, HasSomeStates, Reopens};
 ghost use Rattle.book_redo.specs.Redo.{counted_to, IsFree, number_by};
 ghost use Rattle.journal_records.specs.Records.{IsInGrammar};
 ghost use Rattle.journal_records.specs.Views.{logged_of, script_of};
@@ -14,9 +14,8 @@ ghost use Rattle.book_recovery.specs.declared.found.Found.TheVariants as found;
 
 use crate::found::Found;
 use crate::setup_scripts::told_setup;
-use book_redo::{Renewed, as_newest, lands, pass, redo};
+use book_redo::{Book, InOrder, Numbered, Renewed, as_newest, lands, pass, redo};
 use file_notes::FileNotes;
-use instance_book::{Book, InOrder, Numbered};
 use journal_records::{Logged, Origin, Recorded, decode, encode, records_are_exact};
 use page_journal::NEWEST_FORMAT;
 use script_nodes::{Library, ScriptText};

@@ -2,7 +2,7 @@ ghost use Rattle.std.specs.Prelude.{◌≡◌, IfOk, IfSome, IfNone, map, None};
 ghost use Rattle.script_nodes.specs.Views.{named_of, scripts_of};
 ghost use Rattle.journal_records.specs.Views.{script_of};
 ghost use Rattle.setup_reader.specs.Texts.{setup_of_texts};
-ghost use Rattle.journal_spec.specs.Whole.{IsWhole, AreWhole};
+ghost use Rattle.book_redo.specs.JournalSpec.Whole.{IsWhole, AreWhole};
 ghost use Rattle.book_recovery.specs.Reading.{IsSetupOf};
 
 use script_nodes::{NamedScript, ScriptText, Setup};

@@ -1,7 +1,7 @@
 use crate::found::{Found, ReadBook};
 use crate::reader::Reader;
+use book_redo::InOrder;
 use file_notes::FileNotes;
-use instance_book::InOrder;
 use page_journal::Take;
 use std::alloc::Global;
 use std::marker::Model;

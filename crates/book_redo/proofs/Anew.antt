@@ -14,7 +14,7 @@ use Rattle.machine_states.specs.Views.{origin_of}
 use Rattle.frame_codec.specs.Stored.{IsStored}
 use Rattle.frame_codec.specs.Reading.{read_state}
 use Rattle.frame_codec.specs.Forms.{form_bytes, RisesBefore, BindsBefore, IsStoredBefore}
-use Rattle.kept_states.specs.Links.{behind_at}
+use Rattle.instance_book.specs.KeptStates.Links.{behind_at}
 use Rattle.instance_book.specs.declared.book.Book.{Book}
 use Rattle.instance_book.proofs.Behind.{arena_again}
 use Rattle.instance_book.specs.Views.{Beside, book_of}

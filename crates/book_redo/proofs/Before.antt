@@ -15,7 +15,7 @@ use Rattle.script_nodes.specs.Arena.{Arena}
 use Rattle.machine_states.specs.Views.{origin_of}
 use Rattle.machine_states.specs.declared.segment.Origin.{Origin}
 use Rattle.frame_codec.specs.Forms.{IsStoredBefore}
-use Rattle.kept_states.specs.Links.{next_links, behind_at}
+use Rattle.instance_book.specs.KeptStates.Links.{next_links, behind_at}
 use Rattle.journal_records.specs.Fields as fields
 use Rattle.journal_records.specs.Views as told
 use Rattle.journal_records.specs.Views.{page_change}

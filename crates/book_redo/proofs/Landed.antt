@@ -28,8 +28,8 @@ use Rattle.machine_states.specs.Views.{suspended_of}
 use Rattle.machine_states.specs.declared.frame.Suspended as stored
 use Rattle.frame_codec.specs.Stored.{IsStored}
 use Rattle.frame_codec.specs.Forms.{read_form}
-use Rattle.kept_states.specs.Kept.{Kept, IsKeptBy, kept_of}
-use Rattle.kept_states.specs.Links.{next_links, links_at, behind_at}
+use Rattle.instance_book.specs.KeptStates.Kept.{Kept, IsKeptBy, kept_of}
+use Rattle.instance_book.specs.KeptStates.Links.{next_links, links_at, behind_at}
 use Rattle.journal_records.specs.Fields as fields
 use Rattle.journal_records.specs.Reading.{change_from}
 use Rattle.journal_records.specs.Views.{origin_of, page_change}

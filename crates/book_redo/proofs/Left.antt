@@ -31,7 +31,7 @@ use Rattle.machine_states.specs.declared.segment.Outcome.{Outcome}
 use Rattle.machine_states.specs.declared.segment.Outcome.TheVariants.{Shown, Finished, Ended, Faulted, Fuel}
 use Rattle.machine_states.specs.declared.segment.Segment.{Segment}
 use Rattle.machine_states.proofs.Replay.{one_state}
-use Rattle.send_suspend.specs.Segments.{newest, FitsFrom, Replays}
+use Rattle.visit_runs.specs.SendSuspend.Segments.{newest, FitsFrom, Replays}
 use Rattle.frame_codec.specs.Stored.{IsStored}
 use Rattle.frame_codec.specs.Forms.{form_bytes, IsStoredBefore}
 use Rattle.frame_codec.proofs.Kept.{each_kept}

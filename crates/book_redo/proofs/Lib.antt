@@ -14,3 +14,5 @@ pub mod SameStates
 pub mod Shown
 pub mod Spelled
 pub mod ToldState
+pub use Rattle.instance_book.proofs as InstanceBook
+pub use Rattle.journal_spec.proofs as JournalSpec

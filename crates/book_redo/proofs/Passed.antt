@@ -25,10 +25,10 @@ use Rattle.machine_states.specs.Views.{suspended_of}
 use Rattle.machine_states.specs.declared.frame.Suspended as stored
 use Rattle.frame_codec.specs.Stored.{IsStored}
 use Rattle.frame_codec.specs.Forms.{read_form}
-use Rattle.kept_states.specs.Kept.{Form, IsKeptBy, IsFormed, kept_of}
-use Rattle.kept_states.specs.Links.{behind_at}
-use Rattle.kept_states.specs.Told as kept_told
-use Rattle.kept_states.specs.declared.state.ToldState.{ToldState}
+use Rattle.instance_book.specs.KeptStates.Kept.{Form, IsKeptBy, IsFormed, kept_of}
+use Rattle.instance_book.specs.KeptStates.Links.{behind_at}
+use Rattle.instance_book.specs.KeptStates.Told as kept_told
+use Rattle.instance_book.specs.KeptStates.declared.state.ToldState.{ToldState}
 use Rattle.journal_spec.specs.Before.{States, state_at, Earlier}
 use Rattle.journal_spec.specs.Retaking.{Told, unread, misread, told, held, states_with}
 use Rattle.instance_book.specs.declared.shown.ShownState.{ShownState}

@@ -23,7 +23,7 @@ use Rattle.machine_states.specs.Views.{suspended_of}
 use Rattle.machine_states.specs.declared.frame.Suspended as stored
 use Rattle.frame_codec.specs.Forms.{read_form}
 use Rattle.frame_codec.specs.FormViews.{before_of}
-use Rattle.kept_states.specs.Links.{next_links, behind_at}
+use Rattle.instance_book.specs.KeptStates.Links.{next_links, behind_at}
 use Rattle.journal_records.specs.Records.{Record, begins, changes, renews, draws}
 use Rattle.journal_records.specs.Views.{ending_of, finish_of}
 use Rattle.journal_records.specs.declared.records.EndedRecord.{EndedRecord}

@@ -11,7 +11,7 @@ use Rattle.machine_states.specs.declared.frame.Suspended as stored
 use Rattle.frame_codec.specs.Stored.{IsStored}
 use Rattle.frame_codec.specs.Reading.{read_state}
 use Rattle.frame_codec.specs.Forms.{BindsBefore}
-use Rattle.kept_states.specs.Links.{behind_at}
+use Rattle.instance_book.specs.KeptStates.Links.{behind_at}
 use Rattle.instance_book.specs.declared.book.Book.{Book}
 use Rattle.journal_spec.specs.Retaking.{arena_of}
 use Rattle.book_redo.specs.declared.behind.Behind.{Behind}

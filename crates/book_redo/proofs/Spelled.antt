@@ -3,8 +3,8 @@ use Rattle.std.proofs.Common.{◌≡◌, ℕ, zero, suc, List, Option, Some, Non
 use Rattle.machine_states.specs.Machine.{Suspended}
 use Rattle.frame_codec.specs.Spelling.{StateHasBytes}
 use Rattle.frame_codec.specs.Forms.{form_bytes, BindsBefore}
-use Rattle.kept_states.specs.Kept.{Form, spelled, whole, bytes_of, Kept, IsKeptBy, IsKeptFrom, KeptAreWritten}
-use Rattle.kept_states.specs.Links.{behind_at}
+use Rattle.instance_book.specs.KeptStates.Kept.{Form, spelled, whole, bytes_of, Kept, IsKeptBy, IsKeptFrom, KeptAreWritten}
+use Rattle.instance_book.specs.KeptStates.Links.{behind_at}
 
 -- what is kept as bytes has a spelling, and binds what is bound before
 has_spelling : (parent : Option Suspended) (links : ℕ) (d : Suspended) (f : Form) (bytes : List ℕ) → IsKeptBy parent links d f → bytes_of f ≡ Some bytes

@@ -17,7 +17,7 @@ use Rattle.frame_codec.specs.Reading.{read_state}
 use Rattle.frame_codec.specs.Forms.{read_form, IsStoredBefore}
 use Rattle.frame_codec.specs.FormViews as codec
 use Rattle.frame_codec.specs.FormViews.{before_of}
-use Rattle.kept_states.specs.Links.{behind_at}
+use Rattle.instance_book.specs.KeptStates.Links.{behind_at}
 use Rattle.instance_book.specs.declared.book.Book.{Book}
 use Rattle.instance_book.proofs.Behind.{arena_again}
 use Rattle.journal_spec.specs.Before.{before_told}

@@ -13,7 +13,7 @@ use Rattle.machine_states.specs.Views.{origin_of, suspended_of}
 use Rattle.machine_states.specs.declared.frame.Suspended as stored
 use Rattle.frame_codec.specs.Spelling.{StateHasBytes}
 use Rattle.frame_codec.specs.Forms.{form_bytes, IsStoredBefore, BindsBefore}
-use Rattle.kept_states.specs.Links.{behind_at}
+use Rattle.instance_book.specs.KeptStates.Links.{behind_at}
 use Rattle.instance_book.specs.declared.book.Book.{Book}
 use Rattle.instance_book.specs.Standing.{book_under}
 use Rattle.instance_book.specs.Makes.{HasItsStates}

@@ -5,3 +5,7 @@ pub mod Behind
 pub mod Renewing
 pub mod Runs
 pub mod Told
+pub use Rattle.instance_book.specs as InstanceBook
+pub use Rattle.journal_spec.specs as JournalSpec
+pub use Rattle.frame_codec.specs as FrameCodec
+pub use Rattle.machine_states.specs as MachineStates

@@ -18,8 +18,8 @@ use Rattle.machine_states.specs.Machine.{Suspended, inside_of}
 use Rattle.machine_states.specs.Views.{suspended_of}
 use Rattle.frame_codec.specs.Stored.{IsStored}
 use Rattle.frame_codec.specs.Forms.{read_form}
-use Rattle.kept_states.specs.Kept.{IsFormed, kept_of}
-use Rattle.kept_states.specs.Links.{next_links, behind_at}
+use Rattle.instance_book.specs.KeptStates.Kept.{IsFormed, kept_of}
+use Rattle.instance_book.specs.KeptStates.Links.{next_links, behind_at}
 use Rattle.journal_records.specs.Records.{Record, begins, changes, renews, draws}
 use Rattle.journal_records.specs.Fields.{start}
 use Rattle.journal_records.specs.Views.{origin_of, page_change}

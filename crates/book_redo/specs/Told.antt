@@ -7,7 +7,7 @@ use Rattle.machine_states.specs.Machine.{Suspended}
 use Rattle.machine_states.specs.Views.{origin_of, suspended_of}
 use Rattle.machine_states.specs.declared.frame.Suspended as stored
 use Rattle.frame_codec.specs.Forms.{read_form}
-use Rattle.kept_states.specs.Links.{behind_at}
+use Rattle.instance_book.specs.KeptStates.Links.{behind_at}
 use Rattle.journal_spec.specs.Retaking.{arena_of, Told, unread, told_as, script_for}
 use Rattle.journal_spec.specs.Old.{read_alone, told_at}
 use Rattle.instance_book.specs.declared.book.Book.{Book}

@@ -4,9 +4,8 @@ ghost use Rattle.instance_book.specs.Makes.{HasPlaces, HasSomeStates};
 ghost use Rattle.journal_records.specs.Views.{page_change};
 ghost use Rattle.book_redo.specs.Behind.{IsStoredFrom, StartsBehind, AnswersBehind, TellsBehind, OwnsAnswer, OwnsBehind, IsWrittenBehind, IsSpelledBehind};
 
-use instance_book::{Book, origin_at, place_of_numbers};
+use instance_book::{Book, KeptState, kept_are_written, next_links, origin_at, place_of_numbers};
 use journal_records::{Origin as ToldOrigin, PageRecord};
-use kept_states::{KeptState, kept_are_written, next_links};
 use machine_states::{Origin, Suspended};
 use script_nodes::{Library, NamedScript};
 use script_value::Bytes;

@@ -13,14 +13,14 @@ ghost use Rattle.book_redo.specs.Redo.{counted_to, Counts, LandsAs, EndsIn, IsFr
 use crate::takes::{are_held, can_open, takes};
 use crate::told::{state_told, told_there};
 use instance_book::{
-    Book, Change, Ending, Extension, Finish, KeptInstance, Numbered, ShownState, place_of_numbers,
+    Book, Change, Ending, Extension, Finish, KeptInstance, Numbered, ShownState, StoredValue,
+    place_of_numbers,
 };
 use instance_cells::{Cells, Effect};
 use journal_records::{EndedRecord, FinishRecord, Logged, Origin, PageRecord};
 use script_nodes::{Library, NamedScript};
 use script_value::Bytes;
 use std::alloc::{AllocError, Global};
-use kept_states::StoredValue;
 
 // A record of this number counts, and changes nothing else. It takes no memory.
 fn pass_over(book: &mut Book, number: u64)

@@ -12,6 +12,8 @@ mod takes;
 mod told;
 
 pub use again::{are_same_effects, state_left};
+pub use instance_book::{Book, InOrder, Numbered};
+pub use journal_spec::bodies_of_any_format_fit;
 pub use landing::{pass, redo};
 pub use landings::lands;
 pub use renew::{Renewed, as_newest};

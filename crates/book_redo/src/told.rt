@@ -7,8 +7,7 @@ ghost use Rattle.frame_codec.specs.FormViews.{before_of};
 ghost use Rattle.instance_book.specs.Places.{arena_of, AreStatesOf};
 ghost use Rattle.book_redo.specs.Redo.{IsStateTold, IsBeforeIn, IsAnswerTold, HasNoAnswer};
 
-use instance_book::{Place, ShownState, state_of};
-use kept_states::{KeptState, ToldState, next_links};
+use instance_book::{KeptState, Place, ShownState, ToldState, next_links, state_of};
 use machine_states::Suspended;
 use script_nodes::Script;
 use script_value::Bytes;

@@ -9,16 +9,16 @@ use Rattle.replay_spec.specs.Invariant.{AreAncestors}
 use Rattle.replay_spec.proofs.Ancestors.{ancestors_one}
 use Rattle.replay_spec.proofs.Numbered.{number_of}
 use Rattle.machine_states.specs.Machine.{Suspended}
-use Rattle.frame_codec.specs.Spelling.{state_bytes}
-use Rattle.frame_codec.specs.Reading.{read_state}
-use Rattle.frame_codec.specs.Stored.{IsStored}
-use Rattle.frame_codec.specs.Deltas.{Delta, joined, delta_bytes, read_delta}
-use Rattle.frame_codec.specs.Parted.{Parted, whole_of}
-use Rattle.frame_codec.proofs.States.{states_are_exact}
-use Rattle.frame_codec.proofs.Differences.{joins, delta_back, each_has_bytes}
-use Rattle.frame_codec.proofs.Parts.{delta_whole}
-use Rattle.kept_states.specs.Kept.{Kept, Form, spelled, whole, IsAlone, IsBehind, IsKeptBy}
-use Rattle.kept_states.specs.Links.{links_at}
+use Rattle.instance_book.specs.FrameCodec.Spelling.{state_bytes}
+use Rattle.instance_book.specs.FrameCodec.Reading.{read_state}
+use Rattle.instance_book.specs.FrameCodec.Stored.{IsStored}
+use Rattle.instance_book.specs.FrameCodec.Deltas.{Delta, joined, delta_bytes, read_delta}
+use Rattle.instance_book.specs.FrameCodec.Parted.{Parted, whole_of}
+use Rattle.instance_book.proofs.FrameCodec.States.{states_are_exact}
+use Rattle.instance_book.proofs.FrameCodec.Differences.{joins, delta_back, each_has_bytes}
+use Rattle.instance_book.proofs.FrameCodec.Parts.{delta_whole}
+use Rattle.instance_book.specs.KeptStates.Kept.{Kept, Form, spelled, whole, IsAlone, IsBehind, IsKeptBy}
+use Rattle.instance_book.specs.KeptStates.Links.{links_at}
 use Rattle.instance_book.specs.declared.numbered.Numbered.{Numbered}
 use Rattle.instance_book.specs.declared.page.KeptPage.{KeptPage}
 use Rattle.instance_book.specs.declared.instance.KeptInstance.{KeptInstance}

@@ -21,8 +21,8 @@ use Rattle.replay_spec.proofs.Numbered.{put_length}
 use Rattle.replay_spec.proofs.Stand.{among_of}
 use Rattle.replay_spec.proofs.Admitted.{page_stands, start_is_no_page, page_is_no_start}
 use Rattle.machine_states.specs.Machine.{Suspended}
-use Rattle.kept_states.specs.Kept.{IsKeptFrom}
-use Rattle.kept_states.specs.Links.{links_at}
+use Rattle.instance_book.specs.KeptStates.Kept.{IsKeptFrom}
+use Rattle.instance_book.specs.KeptStates.Links.{links_at}
 use Rattle.machine_states.specs.Laws.{IsStateOf}
 use Rattle.machine_states.specs.Views.{Keeps, origin_of, state_of, segment_of}
 use Rattle.machine_states.specs.declared.segment.Outcome.{Outcome}
@@ -36,7 +36,7 @@ use Rattle.book_visits.specs.declared.ticket.Ticket.{Ticket}
 use Rattle.instance_book.specs.Views.{page_of, script_in, no_script}
 use Rattle.book_visits.specs.Views.{ticket_of}
 use Rattle.instance_book.specs.Places.{Source, own, given, source_in, arena_of, kept_at, IsStateAt, IsNextIn, IsNextAt}
-use Rattle.frame_codec.specs.Spelling.{StateHasBytes}
+use Rattle.instance_book.specs.FrameCodec.Spelling.{StateHasBytes}
 use Rattle.instance_book.specs.Changes.{OpensKept}
 use Rattle.book_visits.specs.Changes.{HasStateBy, IsSpelledBy}
 use Rattle.book_visits.specs.Fits.{GoesOnFrom, GoesOnBySource, FitsAs, IsForSome, IsStateOver}

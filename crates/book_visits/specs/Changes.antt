@@ -5,7 +5,7 @@ use Rattle.replay_spec.specs.Book as spec
 use Rattle.replay_spec.specs.Step as step
 use Rattle.replay_spec.specs.Step.{Decision, replies, records}
 use Rattle.machine_states.specs.Views.{suspended_of}
-use Rattle.frame_codec.specs.Spelling.{StateHasBytes}
+use Rattle.instance_book.specs.FrameCodec.Spelling.{StateHasBytes}
 use Rattle.instance_book.specs.declared.change.Extension.{Extension}
 use Rattle.instance_book.specs.declared.change.Change.{Change}
 use Rattle.instance_book.specs.declared.change.Change.TheVariants.{Opens, Extends}

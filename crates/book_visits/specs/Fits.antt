@@ -10,7 +10,7 @@ use Rattle.machine_states.specs.Machine.{Suspended}
 use Rattle.machine_states.specs.Laws.{IsStateOf}
 use Rattle.machine_states.specs.Views.{origin_of, suspended_of}
 use Rattle.machine_states.specs.declared.frame.Suspended as stored
-use Rattle.kept_states.specs.Links.{links_at, behind_at}
+use Rattle.instance_book.specs.KeptStates.Links.{links_at, behind_at}
 use Rattle.book_visits.specs.declared.ticket.Ticket.{Ticket}
 use Rattle.book_visits.specs.Views.{ticket_of}
 use Rattle.instance_book.specs.Places.{Source, own, given, IsGiven, arena_of}

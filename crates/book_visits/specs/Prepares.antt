@@ -33,7 +33,7 @@ use Rattle.instance_book.specs.declared.book.Book.{Book}
 use Rattle.book_visits.specs.declared.ticket.Ticket.{Ticket}
 use Rattle.instance_book.specs.Views.{page_of, pages_of, Beside, book_of}
 use Rattle.book_visits.specs.Views.{ticket_of, reply_of}
-use Rattle.kept_states.specs.Kept.{IsKeptFrom}
+use Rattle.instance_book.specs.KeptStates.Kept.{IsKeptFrom}
 use Rattle.instance_book.specs.Places.{kept_at, shown_in}
 use Rattle.instance_book.specs.Changes.{begun_with, gone_in, shown_with, ended_with, begun_at}
 use Rattle.book_visits.specs.Changes.{decision_of, put_into}

@@ -8,11 +8,10 @@ ghost use Rattle.book_visits.specs.Admissions.{IsWhyNot, has_name, IsPlaceAt, Is
 ghost use Rattle.instance_book.specs.Standing.{IsPlacedAt, IsMarkedIn, HasItsMark, IsKeptWhere};
 
 use expiry::expired;
-use instance_book::{Book, KeptInstance, KeptPage, Numbered, Place, place_of_numbers};
+use instance_book::{Book, Closed, KeptInstance, KeptPage, Numbered, Place, place_of_numbers};
 use page_names::{PageName, ScriptName, Target};
 use script_nodes::{Library, NamedScript};
 use script_value::{Refusal, TxName};
-use transactions::Closed;
 
 /// What a target is admitted as.
 #[derive(Clone, Copy)]

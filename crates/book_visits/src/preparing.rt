@@ -16,10 +16,11 @@ use crate::prepared::Prepared;
 use crate::shown::ShownPage;
 use crate::ticket::Ticket;
 use expiry::{LONGEST_LIFE, deadline};
-use instance_book::{Book, Change, Ending, Finish, KeptInstance, Numbered, ShownState};
+use instance_book::{
+    Book, Change, Ending, Finish, KeptInstance, KeptState, Numbered, ShownState, StoredValue,
+};
 use instance_cells::Effect;
 use journal_records::{EndedRecord, FinishRecord, PageRecord};
-use kept_states::{KeptState, StoredValue};
 use machine_states::{Origin, Outcome, Segment};
 use page_names::{PageName, Target};
 use script_value::{Bytes, Refusal, Reply, TxName};

@@ -10,9 +10,8 @@ ghost use Rattle.book_visits.specs.Admissions.{IsKeptSome, HasCellsBy, FitsStart
 use crate::admission::{Admission, admission_to};
 use crate::home::Home;
 use crate::ticket::Ticket;
-use instance_book::{Book, Place, origin_at};
+use instance_book::{Book, Place, next_links, origin_at};
 use instance_cells::Cells;
-use kept_states::next_links;
 use machine_states::Origin;
 use page_names::Target;
 use script_nodes::{Library, NamedScript};

@@ -4,7 +4,7 @@ use Rattle.script_value.specs.Val.{Val}
 use Rattle.script_nodes.specs.declared.script.Node.{Node}
 use Rattle.script_nodes.specs.Arena.{Arena, IsScript, parts}
 use Rattle.segment_progress.specs.States.{state_of}
-use Rattle.replay_spec.specs.Tape.{got}
+use Rattle.segments.specs.ReplaySpec.Tape.{got}
 use Rattle.machine_states.specs.Machine as spec
 use Rattle.machine_states.specs.Machine.{node_at, next, goes, step, outer_env, outer_frames, stepped, in_binding, in_operand, in_seq, in_and, in_or, in_if, in_count, in_store, in_turn, in_call}
 use Rattle.machine_states.specs.Fits.{node_of, IsKind, IsPart, FitsAt}

@@ -7,8 +7,8 @@ use Rattle.script_value.specs.declared.outcome.TxName.{TxName}
 use Rattle.instance_cells.specs.Cells.{Effect, read, cell_at, sum, commit}
 use Rattle.segment_progress.specs.Halts.{IsPaged}
 use Rattle.segment_progress.specs.States.{IsGotOrPaged}
-use Rattle.replay_spec.specs.Tape.{Reads, recorded, present, State, Outcome, paged, faulted, out_of_fuel, End, got, stop, ◌>>=◌, after, charged, is_over, bound, note, set_in, set_cell, read_from, read_cell, added, add_to, add_in, add_cell, as_number}
-use Rattle.replay_spec.specs.Eval.{copied}
+use Rattle.segments.specs.ReplaySpec.Tape.{Reads, recorded, present, State, Outcome, paged, faulted, out_of_fuel, End, got, stop, ◌>>=◌, after, charged, is_over, bound, note, set_in, set_cell, read_from, read_cell, added, add_to, add_in, add_cell, as_number}
+use Rattle.segments.specs.ReplaySpec.Eval.{copied}
 use Rattle.machine_states.specs.Machine.{Frame, gives, given}
 use Rattle.cek_machine.specs.Spots.{NotesMore, TakesMemory}
 

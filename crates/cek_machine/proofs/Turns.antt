@@ -3,7 +3,7 @@ use Rattle.std.proofs.Common.{◌≡◌, ℕ, zero, suc, ◌-◌, ◌<◌, ℤ, 
 use Rattle.script_value.specs.Val.{Val, number}
 use Rattle.script_value.specs.declared.outcome.Fault.{Fault}
 use Rattle.prim_spec.specs.Lists.{list_of}
-use Rattle.replay_spec.specs.Tape.{State, faulted, stop, answer}
+use Rattle.segments.specs.ReplaySpec.Tape.{State, faulted, stop, answer}
 use Rattle.segment_progress.specs.Counts.{count_of}
 use Rattle.machine_states.specs.Machine.{Frame, inside_of, in_turn, visits, given, next_turn, first_turn}
 

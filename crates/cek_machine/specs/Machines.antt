@@ -10,7 +10,7 @@ use Rattle.segments.specs.declared.ends.PlainEnd.{PlainEnd}
 use Rattle.segments.specs.Views.{outcome_of}
 use Rattle.segment_progress.specs.States.{state_of, inside_of as open_of}
 use Rattle.script_nodes.specs.Arena.{Arena, IsScript}
-use Rattle.replay_spec.specs.Tape.{State, Now, Reads, bound}
+use Rattle.segments.specs.ReplaySpec.Tape.{State, Now, Reads, bound}
 use Rattle.machine_states.specs.Laws.{started, resumed}
 use Rattle.machine_states.specs.Machine as spec
 use Rattle.machine_states.specs.Machine.{inside_of, goes, stopped, next, step, steps}

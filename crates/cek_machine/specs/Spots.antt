@@ -12,8 +12,8 @@ use Rattle.segment_progress.specs.declared.halt.Halt.TheVariants.{Memory, Stoppe
 use Rattle.segments.specs.Views.{outcome_of}
 use Rattle.segment_progress.specs.States as plain
 use Rattle.segment_progress.specs.States.{state_of}
-use Rattle.replay_spec.specs.Tape.{State, paged, faulted, out_of_fuel, End, got, stop, Run, ◌>>◌, charge, send_page, add_cell}
-use Rattle.replay_spec.specs.Eval.{copied}
+use Rattle.segments.specs.ReplaySpec.Tape.{State, paged, faulted, out_of_fuel, End, got, stop, Run, ◌>>◌, charge, send_page, add_cell}
+use Rattle.segments.specs.ReplaySpec.Eval.{copied}
 use Rattle.machine_states.specs.declared.frame.Frame.{Frame}
 use Rattle.machine_states.specs.declared.frame.Frame.TheVariants as frame
 use Rattle.cek_machine.specs.declared.control.Control.{Control}

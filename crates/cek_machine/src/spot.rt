@@ -1,8 +1,8 @@
 ghost use Rattle.std.specs.Prelude.{◌<◌, ◌+◌, ◌-◌, [], length, OnOk, IsTrue};
 ghost use Rattle.script_value.specs.Views.{meaning};
 ghost use Rattle.prim_spec.specs.Table.{takes};
-ghost use Rattle.replay_spec.specs.Tape.{shadow, set_cell};
-ghost use Rattle.replay_spec.specs.Eval.{value_at};
+ghost use Rattle.segments.specs.ReplaySpec.Tape.{shadow, set_cell};
+ghost use Rattle.segments.specs.ReplaySpec.Eval.{value_at};
 ghost use Rattle.script_nodes.specs.declared.script.Node.TheVariants as variant;
 ghost use Rattle.machine_states.specs.Machine.{next_operand, next_argument, next_binding};
 ghost use Rattle.cek_machine.specs.Spots.{Moves, Gives, GivesCopy, Sends, Adds, WorksOn, WorksOnNext, Visits, Sound, IsFlat};

@@ -1,6 +1,6 @@
 ghost use Rattle.std.specs.Prelude.{◌<◌, ◌+◌, ◌-◌, OnOk, length};
 ghost use Rattle.script_value.specs.Views.{meaning};
-ghost use Rattle.replay_spec.specs.Tape.{leave};
+ghost use Rattle.segments.specs.ReplaySpec.Tape.{leave};
 ghost use Rattle.machine_states.specs.declared.frame.Frame.TheVariants as frame;
 ghost use Rattle.cek_machine.specs.Kinds.{IsNodeAt, IsFor, IsIf, IsStore, IsRowAt, IsPrimAt, IsCallAt, IsLetAt, Stands};
 ghost use Rattle.cek_machine.specs.Spots.{Gives, Takes, TakesTurn, TurnsOn, Sound, SoundUnder};

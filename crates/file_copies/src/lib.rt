@@ -7,4 +7,5 @@ mod frame;
 mod older;
 
 pub use copying::{CopyFault, compacted_file};
+pub use file_notes::FileNotes;
 pub use older::{Sizes, file_of, sizes_of};

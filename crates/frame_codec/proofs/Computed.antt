@@ -3,8 +3,8 @@ use Rattle.std.proofs.Common.{◌≡◌, ℕ, Bool, true, false, List, [], ◌�
 use Rattle.std.specs.Bool.{Decides}
 use Rattle.std.proofs.lemmas.Bool.Decides.{not_from_Decides}
 use Rattle.script_value.specs.Val.{Val}
-use Rattle.prim_spec.specs.Same.{same}
-use Rattle.prim_spec.proofs.Tests.{same_decides}
+use Rattle.script_nodes.specs.PrimSpec.Same.{same}
+use Rattle.script_nodes.proofs.PrimSpec.Tests.{same_decides}
 use Rattle.web_cells.specs.Shadows.{binding}
 use Rattle.web_cells.specs.Own.{IsOwn}
 use Rattle.machine_states.specs.Machine.{Suspended}

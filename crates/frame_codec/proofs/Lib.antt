@@ -19,3 +19,4 @@ pub mod Computed
 pub mod Reread
 pub mod Leaving
 pub mod Formed
+pub use Rattle.machine_states.proofs as MachineStates

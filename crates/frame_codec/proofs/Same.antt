@@ -7,13 +7,13 @@ use Rattle.std.proofs.lemmas.Bool.{and_parts, and_from}
 use Rattle.std.proofs.lemmas.Slice.Eq.{slice_eq-Decides}
 use Rattle.script_value.specs.Val.{Val}
 use Rattle.script_value.specs.declared.outcome.TxName.{TxName}
-use Rattle.prim_spec.specs.Same.{same}
-use Rattle.prim_spec.proofs.Tests.{same_decides}
+use Rattle.script_nodes.specs.PrimSpec.Same.{same}
+use Rattle.script_nodes.proofs.PrimSpec.Tests.{same_decides}
 use Rattle.script_nodes.specs.declared.script.SendKind.{SendKind}
 use Rattle.script_nodes.specs.declared.script.SendKind.TheVariants.{Suspend, Forward}
-use Rattle.replay_spec.specs.Names.{is_name}
-use Rattle.replay_spec.specs.Recovery.{is_kind}
-use Rattle.replay_spec.proofs.Tests.{equal_self, kind_self}
+use Rattle.machine_states.specs.ReplaySpec.Names.{is_name}
+use Rattle.machine_states.specs.ReplaySpec.Recovery.{is_kind}
+use Rattle.machine_states.proofs.ReplaySpec.Tests.{equal_self, kind_self}
 use Rattle.machine_states.specs.Machine.{Frame, in_binding, in_operand, in_body, in_seq, in_and, in_or, in_if, in_count, in_store, in_turn, in_isolate, in_call, in_task, in_page, in_finish, in_back}
 use Rattle.frame_codec.specs.Difference.{same_frame, is_value}
 

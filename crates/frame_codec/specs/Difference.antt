@@ -3,13 +3,13 @@ use Rattle.std.specs.Prelude.{◌≡◌, ◌↔◌, ℕ, suc, ◌==◌, ◌&&◌
 use Rattle.std.specs.Cmp.Lexicographic.{pointwise}
 use Rattle.std.specs.Str.{bytes_eq}
 use Rattle.script_value.specs.Val.{Val}
-use Rattle.prim_spec.specs.Same.{same}
+use Rattle.script_nodes.specs.PrimSpec.Same.{same}
 use Rattle.web_cells.specs.Shadows.{binding}
 use Rattle.web_cells.specs.Own.{BindsAllOf}
 use Rattle.script_nodes.specs.Arena.{Arena}
 use Rattle.value_bytes.specs.Laws.{AreBytes}
-use Rattle.replay_spec.specs.Names.{is_name}
-use Rattle.replay_spec.specs.Recovery.{is_kind}
+use Rattle.machine_states.specs.ReplaySpec.Names.{is_name}
+use Rattle.machine_states.specs.ReplaySpec.Recovery.{is_kind}
 use Rattle.machine_states.specs.Machine.{Frame, in_binding, in_operand, in_body, in_seq, in_and, in_or, in_if, in_count, in_store, in_turn, in_isolate, in_call, in_task, in_page, in_finish, in_back, Suspended}
 use Rattle.frame_codec.specs.Walk.{frames_fit, shadows_fit}
 use Rattle.frame_codec.specs.Stored.{IsStored}

@@ -1,7 +1,7 @@
 -- Writing and reading undo each other, so a state has one spelling.
 use Rattle.std.specs.Prelude.{◌≡◌, ℕ, List, Some}
 use Rattle.script_nodes.specs.Arena.{Arena, IsScript}
-use Rattle.replay_spec.specs.Tape.{Tape}
+use Rattle.machine_states.specs.ReplaySpec.Tape.{Tape}
 use Rattle.value_bytes.specs.Laws.{AreBytes, HasNoPrefix}
 use Rattle.machine_states.specs.Machine.{Suspended}
 use Rattle.machine_states.specs.Laws.{IsStateOf}

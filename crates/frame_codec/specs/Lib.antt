@@ -14,3 +14,6 @@ pub mod PartedViews
 pub mod Fronts
 pub mod FrontViews
 pub mod Vectors
+pub use Rattle.machine_states.specs as MachineStates
+pub use Rattle.script_nodes.specs as ScriptNodes
+pub use Rattle.machine_states.specs.ReplaySpec

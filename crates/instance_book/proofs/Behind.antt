@@ -3,13 +3,13 @@ use Rattle.std.proofs.Common.{◌≡◌, ◌∙◌, ap, sym, subst, ℕ, suc, �
 use Rattle.std.proofs.lemmas.Option.{same_Some}
 use Rattle.script_nodes.specs.Arena.{Arena, IsScript, script_of}
 use Rattle.script_nodes.specs.Setup.{Named}
-use Rattle.replay_spec.specs.Book.{Page, at_number, page_at, parent_of}
-use Rattle.replay_spec.specs.Next.{Home, page_tape}
-use Rattle.replay_spec.specs.Invariant.{AreAncestors}
-use Rattle.replay_spec.proofs.Ancestors.{ancestors_one}
-use Rattle.machine_states.specs.Machine.{Suspended}
-use Rattle.machine_states.specs.Laws.{IsStateOf, EachPageHasOneState}
-use Rattle.frame_codec.specs.Stored.{IsStored}
+use Rattle.journal_records.specs.ReplaySpec.Book.{Page, at_number, page_at, parent_of}
+use Rattle.journal_records.specs.ReplaySpec.Next.{Home, page_tape}
+use Rattle.journal_records.specs.ReplaySpec.Invariant.{AreAncestors}
+use Rattle.journal_records.proofs.ReplaySpec.Ancestors.{ancestors_one}
+use Rattle.kept_states.specs.MachineStates.Machine.{Suspended}
+use Rattle.kept_states.specs.MachineStates.Laws.{IsStateOf, EachPageHasOneState}
+use Rattle.kept_states.specs.FrameCodec.Stored.{IsStored}
 use Rattle.kept_states.specs.Kept.{Kept, IsAlone, IsBehind, IsKeptBy}
 use Rattle.kept_states.specs.Links.{next_links, links_at}
 use Rattle.kept_states.proofs.Read.{of_script}

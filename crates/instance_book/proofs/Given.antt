@@ -4,10 +4,10 @@ use Rattle.std.proofs.lemmas.Bool.Decides.{nat_tests}
 use Rattle.std.proofs.lemmas.Option.{none-some}
 use Rattle.std.specs.List.{AllByRecursion}
 use Rattle.script_nodes.specs.Setup.{Named}
-use Rattle.replay_spec.specs.Book.{Page, Instance, instance_at, page_at, parent_of}
-use Rattle.replay_spec.specs.Invariant.{Apart, AreAncestors}
-use Rattle.replay_spec.proofs.Numbered.{number_of}
-use Rattle.machine_states.specs.Machine.{Suspended}
+use Rattle.journal_records.specs.ReplaySpec.Book.{Page, Instance, instance_at, page_at, parent_of}
+use Rattle.journal_records.specs.ReplaySpec.Invariant.{Apart, AreAncestors}
+use Rattle.journal_records.proofs.ReplaySpec.Numbered.{number_of}
+use Rattle.kept_states.specs.MachineStates.Machine.{Suspended}
 use Rattle.kept_states.specs.Kept.{Kept}
 use Rattle.instance_book.specs.declared.numbered.Numbered.{Numbered}
 use Rattle.instance_book.specs.declared.page.KeptPage.{KeptPage}

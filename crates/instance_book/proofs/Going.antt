@@ -2,12 +2,12 @@
 use Rattle.std.proofs.Common.{◌≡◌, ◌∙◌, sym, subst, List, [], ◌∷◌, reverse, Option, Some, refl}
 use Rattle.std.proofs.lemmas.List.{reverse-append}
 use Rattle.script_nodes.specs.Setup.{Named}
-use Rattle.replay_spec.specs.Book.{Page, Book, chain}
-use Rattle.replay_spec.specs.Admission.{Place}
-use Rattle.replay_spec.specs.Next.{Visit, home, home_of, page_visit}
-use Rattle.replay_spec.specs.Next as next
-use Rattle.replay_spec.proofs.Ancestors.{chain_is}
-use Rattle.machine_states.specs.Machine.{Suspended}
+use Rattle.journal_records.specs.ReplaySpec.Book.{Page, Book, chain}
+use Rattle.journal_records.specs.ReplaySpec.Admission.{Place}
+use Rattle.journal_records.specs.ReplaySpec.Next.{Visit, home, home_of, page_visit}
+use Rattle.journal_records.specs.ReplaySpec.Next as next
+use Rattle.journal_records.proofs.ReplaySpec.Ancestors.{chain_is}
+use Rattle.kept_states.specs.MachineStates.Machine.{Suspended}
 use Rattle.kept_states.specs.Kept.{Kept}
 use Rattle.instance_book.specs.Places.{own, HasState}
 use Rattle.instance_book.specs.Visits.{GoesOnFrom, IsStateBehind}

@@ -8,3 +8,4 @@ pub mod Behind
 pub mod Whole
 pub mod Redone
 pub mod Going
+pub use Rattle.kept_states.proofs.FrameCodec

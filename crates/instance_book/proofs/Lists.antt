@@ -3,9 +3,9 @@ use Rattle.std.proofs.Common.{◌≡◌, ◌∙◌, ap, sym, subst, ℕ, zero, s
 use Rattle.std.specs.Result.{result_ok}
 use Rattle.std.specs.List.{AllByRecursion, insert, remove}
 use Rattle.std.proofs.lemmas.Bool.Decides.{nat_tests}
-use Rattle.replay_spec.specs.Book.{at_number}
-use Rattle.replay_spec.specs.Change.{put_in_order}
-use Rattle.replay_spec.specs.Admission.{is_one}
+use Rattle.journal_records.specs.ReplaySpec.Book.{at_number}
+use Rattle.journal_records.specs.ReplaySpec.Change.{put_in_order}
+use Rattle.journal_records.specs.ReplaySpec.Admission.{is_one}
 use Rattle.instance_book.specs.declared.numbered.Numbered.{Numbered}
 use Rattle.instance_book.specs.Orders.{Rises, IsAt, IsGap, Finds, numbers_of}
 use Rattle.instance_book.proofs.Orders.{Ascends, rises, ascends, one_found, none_found, gap_has_none, first_absent, first_found, put_between, put_over, ascends_put, ascends_kept, length_numbers}

@@ -3,14 +3,14 @@ use Rattle.std.proofs.Common.{◌≡◌, ◌∙◌, ap, sym, subst, ℕ, zero, s
 use Rattle.std.specs.List.{AllByRecursion, list_all}
 use Rattle.std.proofs.lemmas.Bool.{and_parts}
 use Rattle.std.proofs.lemmas.Bool.Decides.{nat_tests}
-use Rattle.replay_spec.specs.Book.{Use, Page, page_at, is_expired, is_evicted, is_over}
-use Rattle.replay_spec.specs.Change.{put_in_order, put_use, used_by, used_in, unless_gone, evict}
-use Rattle.replay_spec.specs.Eviction.{but}
-use Rattle.replay_spec.specs.Recovery.{is_used, can_go}
-use Rattle.replay_spec.specs.Invariant.{AreAbove, IsRising}
-use Rattle.replay_spec.specs.Marks.{Mark, number_of, use_of, uses_of, evictions_of, use_page, go, go_all, mark_at, CanAllGo}
-use Rattle.replay_spec.proofs.Goers.{go_alike, used_in_pages}
-use Rattle.replay_spec.proofs.Marked.{marked, rising_go}
+use Rattle.journal_records.specs.ReplaySpec.Book.{Use, Page, page_at, is_expired, is_evicted, is_over}
+use Rattle.journal_records.specs.ReplaySpec.Change.{put_in_order, put_use, used_by, used_in, unless_gone, evict}
+use Rattle.journal_records.specs.ReplaySpec.Eviction.{but}
+use Rattle.journal_records.specs.ReplaySpec.Recovery.{is_used, can_go}
+use Rattle.journal_records.specs.ReplaySpec.Invariant.{AreAbove, IsRising}
+use Rattle.journal_records.specs.ReplaySpec.Marks.{Mark, number_of, use_of, uses_of, evictions_of, use_page, go, go_all, mark_at, CanAllGo}
+use Rattle.journal_records.proofs.ReplaySpec.Goers.{go_alike, used_in_pages}
+use Rattle.journal_records.proofs.ReplaySpec.Marked.{marked, rising_go}
 use Rattle.instance_book.specs.declared.numbered.Numbered.{Numbered}
 use Rattle.instance_book.specs.declared.in_order.InOrder.{InOrder}
 use Rattle.instance_book.specs.declared.page.KeptPage.{KeptPage}

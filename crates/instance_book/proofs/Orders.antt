@@ -6,9 +6,9 @@ use Rattle.std.specs.Ordering.{nat_cmp, ordering_index}
 use Rattle.std.proofs.lemmas.Cmp.{ranked}
 use Rattle.std.proofs.lemmas.List.Sorted.{IsNonDecreasingBy-from_default}
 use Rattle.std.proofs.lemmas.Bool.Decides.{nat_tests}
-use Rattle.replay_spec.specs.Book.{at_number}
-use Rattle.replay_spec.specs.Change.{put_in_order}
-use Rattle.replay_spec.specs.Admission.{is_one}
+use Rattle.journal_records.specs.ReplaySpec.Book.{at_number}
+use Rattle.journal_records.specs.ReplaySpec.Change.{put_in_order}
+use Rattle.journal_records.specs.ReplaySpec.Admission.{is_one}
 use Rattle.instance_book.specs.Orders.{Rises, IsAt, IsGap, Finds}
 
 -- the same by recursion

@@ -1,6 +1,6 @@
 -- What records that are told again make of a book.
 use Rattle.std.proofs.Common.{◌≡◌, ap, ℕ, true, List, []}
-use Rattle.replay_spec.specs.Recovery.{can_go}
+use Rattle.journal_records.specs.ReplaySpec.Recovery.{can_go}
 
 -- ---- a start
 

@@ -6,9 +6,9 @@ use Rattle.std.specs.List.{AllByRecursion}
 use Rattle.std.proofs.lemmas.Bool.Decides.{nat_tests}
 use Rattle.std.proofs.lemmas.List.{map-append}
 use Rattle.script_nodes.specs.Setup.{Named, Library}
-use Rattle.replay_spec.specs.Book.{Page, Instance, at_number, instance_at, page_at}
-use Rattle.replay_spec.specs.Change.{put_in_order, put_page, put_instance, mend, without}
-use Rattle.replay_spec.specs.Marks.{number_of, mark_at}
+use Rattle.journal_records.specs.ReplaySpec.Book.{Page, Instance, at_number, instance_at, page_at}
+use Rattle.journal_records.specs.ReplaySpec.Change.{put_in_order, put_page, put_instance, mend, without}
+use Rattle.journal_records.specs.ReplaySpec.Marks.{number_of, mark_at}
 use Rattle.instance_book.specs.declared.numbered.Numbered.{Numbered}
 use Rattle.instance_book.specs.declared.page.KeptPage.{KeptPage}
 use Rattle.instance_book.specs.declared.instance.KeptInstance.{KeptInstance}

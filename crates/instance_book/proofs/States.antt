@@ -2,14 +2,14 @@
 use Rattle.std.proofs.Common.{◌≡◌, ◌∙◌, ap, sym, subst, ℕ, ◌<◌, ◌≤◌, List, [], ◌∷◌, length, Some, None, refl, arith}
 use Rattle.std.proofs.lemmas.List.{length-reverse}
 use Rattle.script_nodes.specs.Setup.{Named}
-use Rattle.page_names.specs.Names.{page}
-use Rattle.replay_spec.specs.Book.{Page, at_number, page_at, chain}
-use Rattle.replay_spec.specs.Change.{put_page, put_in_order}
-use Rattle.replay_spec.specs.Next.{Home}
-use Rattle.replay_spec.specs.Invariant.{Lineage}
-use Rattle.replay_spec.proofs.Ancestors.{Grown, put_grown, lineage_grown, chain_is}
-use Rattle.replay_spec.proofs.Numbered.{put_length}
-use Rattle.machine_states.specs.Machine.{Suspended}
+use Rattle.script_nodes.specs.PageNames.Names.{page}
+use Rattle.journal_records.specs.ReplaySpec.Book.{Page, at_number, page_at, chain}
+use Rattle.journal_records.specs.ReplaySpec.Change.{put_page, put_in_order}
+use Rattle.journal_records.specs.ReplaySpec.Next.{Home}
+use Rattle.journal_records.specs.ReplaySpec.Invariant.{Lineage}
+use Rattle.journal_records.proofs.ReplaySpec.Ancestors.{Grown, put_grown, lineage_grown, chain_is}
+use Rattle.journal_records.proofs.ReplaySpec.Numbered.{put_length}
+use Rattle.kept_states.specs.MachineStates.Machine.{Suspended}
 use Rattle.kept_states.specs.Kept.{Kept}
 use Rattle.kept_states.specs.Links.{next_links, links_at}
 use Rattle.instance_book.specs.declared.numbered.Numbered.{Numbered}

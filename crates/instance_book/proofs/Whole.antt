@@ -2,11 +2,11 @@
 use Rattle.std.proofs.Common.{◌≡◌, ◌∙◌, ap, sym, ◌<◌, ◌≤◌, List, length, take, reverse, map, arith}
 use Rattle.std.proofs.lemmas.List.{length-take, length-map, length-reverse, reverse-reverse, take_all}
 use Rattle.script_value.specs.Val.{Val}
-use Rattle.machine_states.specs.Machine.{Frame, Suspended}
-use Rattle.machine_states.specs.declared.frame.Suspended as stored
-use Rattle.machine_states.specs.Views.{frame_of, suspended_of}
-use Rattle.frame_codec.specs.Fronts.{front}
-use Rattle.frame_codec.specs.declared.need.Need.{Need}
+use Rattle.kept_states.specs.MachineStates.Machine.{Frame, Suspended}
+use Rattle.kept_states.specs.MachineStates.declared.frame.Suspended as stored
+use Rattle.kept_states.specs.MachineStates.Views.{frame_of, suspended_of}
+use Rattle.kept_states.specs.FrameCodec.Fronts.{front}
+use Rattle.kept_states.specs.FrameCodec.declared.need.Need.{Need}
 
 all_of_it : (n : Need) (d e : Suspended) → front n d ≡ e → length e.env < n.variables → length e.frames < n.frames → d ≡ e
 all_of_it n d e is few less =

@@ -2,10 +2,10 @@
 use Rattle.std.specs.Prelude.{◌≡◌, ◌+◌, ◌^◌, ◌<◌, ℕ, List, [], ◌∷◌, length, Option, Some, None, ⊤}
 use Rattle.script_value.specs.declared.outcome.TxName.{TxName}
 use Rattle.script_nodes.specs.Setup.{Named, Library}
-use Rattle.replay_spec.specs.Book as spec
-use Rattle.replay_spec.specs.Book.{at_number}
-use Rattle.replay_spec.specs.Change.{put_page, put_instance, put_use, used_by, used_in, unless_gone, evict, mend, without}
-use Rattle.replay_spec.specs.Marks.{use_of, uses_of, evictions_of}
+use Rattle.journal_records.specs.ReplaySpec.Book as spec
+use Rattle.journal_records.specs.ReplaySpec.Book.{at_number}
+use Rattle.journal_records.specs.ReplaySpec.Change.{put_page, put_instance, put_use, used_by, used_in, unless_gone, evict, mend, without}
+use Rattle.journal_records.specs.ReplaySpec.Marks.{use_of, uses_of, evictions_of}
 use Rattle.journal_records.specs.Views.{page_change, ending_of, finish_of}
 use Rattle.instance_book.specs.declared.numbered.Numbered.{Numbered}
 use Rattle.instance_book.specs.declared.in_order.InOrder.{InOrder}

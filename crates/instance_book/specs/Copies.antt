@@ -1,8 +1,8 @@
 -- Copies of what is kept and of changes.
 use Rattle.std.specs.Prelude.{◌≡◌, ℕ, List}
 use Rattle.script_nodes.specs.Setup.{Named}
-use Rattle.replay_spec.specs.Book as spec
-use Rattle.machine_states.specs.Views.{suspended_of}
+use Rattle.journal_records.specs.ReplaySpec.Book as spec
+use Rattle.kept_states.specs.MachineStates.Views.{suspended_of}
 use Rattle.journal_records.specs.Views.{IsSamePage}
 use Rattle.instance_book.specs.declared.in_order.InOrder.{InOrder}
 use Rattle.instance_book.specs.declared.page.KeptPage.{KeptPage}

@@ -2,11 +2,11 @@
 use Rattle.std.specs.Prelude.{Option, Some, None, ⊤}
 use Rattle.script_nodes.specs.Arena.{Arena}
 use Rattle.script_nodes.specs.Setup.{Named}
-use Rattle.machine_states.specs.Machine.{Suspended}
-use Rattle.machine_states.specs.Fits.{Fits}
-use Rattle.machine_states.specs.Views.{origin_of}
-use Rattle.frame_codec.specs.Stored.{IsStored}
-use Rattle.machine_states.specs.declared.segment.Origin.{Origin}
+use Rattle.kept_states.specs.MachineStates.Machine.{Suspended}
+use Rattle.kept_states.specs.MachineStates.Fits.{Fits}
+use Rattle.kept_states.specs.MachineStates.Views.{origin_of}
+use Rattle.kept_states.specs.FrameCodec.Stored.{IsStored}
+use Rattle.kept_states.specs.MachineStates.declared.segment.Origin.{Origin}
 use Rattle.instance_book.specs.Places.{arena_of}
 
 -- what a ticket goes on from, if anything, fits a script

@@ -1,10 +1,10 @@
 -- Fronts of the states of pages.
 use Rattle.std.specs.Prelude.{◌≡◌}
 use Rattle.script_nodes.specs.Setup.{Named}
-use Rattle.machine_states.specs.Views.{suspended_of}
-use Rattle.machine_states.specs.declared.frame.Suspended as stored
-use Rattle.frame_codec.specs.Fronts.{front}
-use Rattle.frame_codec.specs.declared.need.Need.{Need}
+use Rattle.kept_states.specs.MachineStates.Views.{suspended_of}
+use Rattle.kept_states.specs.MachineStates.declared.frame.Suspended as stored
+use Rattle.kept_states.specs.FrameCodec.Fronts.{front}
+use Rattle.kept_states.specs.FrameCodec.declared.need.Need.{Need}
 use Rattle.instance_book.specs.declared.numbered.Numbered.{Numbered}
 use Rattle.instance_book.specs.declared.in_order.InOrder.{InOrder}
 use Rattle.instance_book.specs.declared.page.KeptPage.{KeptPage}

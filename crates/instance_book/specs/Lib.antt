@@ -12,3 +12,5 @@ pub mod Swept
 pub mod Segments
 pub mod Copies
 pub mod Visits
+pub use Rattle.kept_states.specs as KeptStates
+pub use Rattle.kept_states.specs.FrameCodec

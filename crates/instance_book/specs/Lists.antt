@@ -1,7 +1,7 @@
 -- Lists of things in the order of their numbers.
 use Rattle.std.specs.Prelude.{◌≡◌, ◌==◌, ◌<◌, not, ℕ, List, filter, Option, None, vec_len, vec_capacity}
-use Rattle.replay_spec.specs.Book.{at_number}
-use Rattle.replay_spec.specs.Change.{put_in_order}
+use Rattle.journal_records.specs.ReplaySpec.Book.{at_number}
+use Rattle.journal_records.specs.ReplaySpec.Change.{put_in_order}
 use Rattle.instance_book.specs.declared.numbered.Numbered.{Numbered}
 use Rattle.instance_book.specs.declared.in_order.InOrder.{InOrder}
 use Rattle.instance_book.specs.Orders.{numbers_of}

@@ -2,18 +2,18 @@
 use Rattle.std.specs.Prelude.{◌≡◌, ℕ, List, length, Option, option_map, IfSome, ⊤, None, ◌≤◌, ◌^◌, max}
 use Rattle.std.specs.Borrow.{Bor}
 use Rattle.script_nodes.specs.Setup.{Named, Library}
-use Rattle.replay_spec.specs.Book as spec
-use Rattle.replay_spec.specs.Change.{put_instance}
+use Rattle.journal_records.specs.ReplaySpec.Book as spec
+use Rattle.journal_records.specs.ReplaySpec.Change.{put_instance}
 use Rattle.instance_book.specs.declared.numbered.Numbered.{Numbered}
 use Rattle.instance_book.specs.declared.in_order.InOrder.{InOrder}
 use Rattle.instance_book.specs.declared.page.KeptPage.{KeptPage}
 use Rattle.instance_book.specs.declared.instance.KeptInstance.{KeptInstance}
 use Rattle.instance_book.specs.declared.book.Book.{Book}
 use Rattle.instance_book.specs.Views.{instance_of, instances_of, Beside, book_of}
-use Rattle.machine_states.specs.Machine.{Suspended}
+use Rattle.kept_states.specs.MachineStates.Machine.{Suspended}
 use Rattle.instance_book.specs.Places.{Source, own, given, seen_from, IsKept, AreKept, IsPlaced, ArePlaced, IsNextAt}
-use Rattle.replay_spec.specs.Rules.{Rules}
-use Rattle.replay_spec.specs.Book.{reopened}
+use Rattle.journal_records.specs.ReplaySpec.Rules.{Rules}
+use Rattle.journal_records.specs.ReplaySpec.Book.{reopened}
 
 -- whatever the scripts, f made the new instances of the old ones
 abbrev pub AllBecome : (List spec.Instance → List spec.Instance) → (old new : InOrder KeptInstance) → Type 0

@@ -4,25 +4,25 @@ use Rattle.std.specs.List.{AllByRecursion}
 use Rattle.std.specs.Borrow.{Bor}
 pub use Rattle.script_nodes.specs.Arena.{arena_of}
 use Rattle.script_nodes.specs.Setup.{Named}
-use Rattle.replay_spec.specs.Book as spec
-use Rattle.replay_spec.specs.Change.{put_page, put_in_order, put_use, used_in, unless_gone, evict}
-use Rattle.replay_spec.specs.Recovery.{can_go}
-use Rattle.replay_spec.specs.Next.{Home, home, page_tape}
-use Rattle.replay_spec.specs.Invariant.{Lineage}
-use Rattle.machine_states.specs.Machine.{Suspended}
-use Rattle.machine_states.specs.Laws.{IsStateOf}
-use Rattle.machine_states.specs.Views.{origin_of, suspended_of}
-use Rattle.machine_states.specs.declared.frame.Suspended as stored
-use Rattle.machine_states.specs.declared.segment.Origin.{Origin}
-use Rattle.frame_codec.specs.Spelling.{StateHasBytes}
-use Rattle.frame_codec.specs.Stored.{IsStored}
+use Rattle.journal_records.specs.ReplaySpec.Book as spec
+use Rattle.journal_records.specs.ReplaySpec.Change.{put_page, put_in_order, put_use, used_in, unless_gone, evict}
+use Rattle.journal_records.specs.ReplaySpec.Recovery.{can_go}
+use Rattle.journal_records.specs.ReplaySpec.Next.{Home, home, page_tape}
+use Rattle.journal_records.specs.ReplaySpec.Invariant.{Lineage}
+use Rattle.kept_states.specs.MachineStates.Machine.{Suspended}
+use Rattle.kept_states.specs.MachineStates.Laws.{IsStateOf}
+use Rattle.kept_states.specs.MachineStates.Views.{origin_of, suspended_of}
+use Rattle.kept_states.specs.MachineStates.declared.frame.Suspended as stored
+use Rattle.kept_states.specs.MachineStates.declared.segment.Origin.{Origin}
+use Rattle.kept_states.specs.FrameCodec.Spelling.{StateHasBytes}
+use Rattle.kept_states.specs.FrameCodec.Stored.{IsStored}
 use Rattle.kept_states.specs.Kept.{Kept, IsKeptFrom, kept_of}
 use Rattle.kept_states.specs.Links.{links_at}
 use Rattle.instance_book.specs.declared.numbered.Numbered.{Numbered}
 use Rattle.instance_book.specs.declared.in_order.InOrder.{InOrder}
 use Rattle.instance_book.specs.declared.page.KeptPage.{KeptPage}
 use Rattle.instance_book.specs.declared.instance.KeptInstance.{KeptInstance}
-use Rattle.replay_spec.specs.Marks.{Mark, number_of, mark_at, use_of}
+use Rattle.journal_records.specs.ReplaySpec.Marks.{Mark, number_of, mark_at, use_of}
 use Rattle.instance_book.specs.Lists.{HasRoom}
 use Rattle.instance_book.specs.Views.{page_of, pages_of, mark_of, marks_of, used_of, evicted_of, script_in}
 

@@ -8,9 +8,9 @@ use Rattle.instance_cells.specs.Cells as spec_cells
 use Rattle.instance_cells.specs.Cells.{reads_of}
 use Rattle.instance_cells.specs.declared.effect.Effect.{Effect}
 use Rattle.instance_cells.specs.Views.{effect_of}
-use Rattle.machine_states.specs.Views.{suspended_of}
-use Rattle.replay_spec.specs.Book as spec
-use Rattle.replay_spec.specs.Change.{revoked_by, done, shown_by}
+use Rattle.kept_states.specs.MachineStates.Views.{suspended_of}
+use Rattle.journal_records.specs.ReplaySpec.Book as spec
+use Rattle.journal_records.specs.ReplaySpec.Change.{revoked_by, done, shown_by}
 use Rattle.kept_states.specs.Kept.{Kept, kept_of}
 use Rattle.journal_records.specs.declared.records.PageRecord.{PageRecord}
 use Rattle.instance_book.specs.declared.numbered.Numbered.{Numbered}

@@ -4,10 +4,10 @@ use Rattle.std.specs.Borrow.{Bor}
 use Rattle.script_nodes.specs.Setup.{Named, Library}
 use Rattle.script_nodes.specs.Views.{named_of}
 use Rattle.script_nodes.specs.declared.setup.NamedScript.{NamedScript}
-use Rattle.replay_spec.specs.Book as book
-use Rattle.replay_spec.specs.Admission as spec
-use Rattle.replay_spec.specs.Recovery.{page_of_numbers}
-use Rattle.replay_spec.specs.Marks.{mark_at}
+use Rattle.journal_records.specs.ReplaySpec.Book as book
+use Rattle.journal_records.specs.ReplaySpec.Admission as spec
+use Rattle.journal_records.specs.ReplaySpec.Recovery.{page_of_numbers}
+use Rattle.journal_records.specs.ReplaySpec.Marks.{mark_at}
 use Rattle.instance_book.specs.declared.numbered.Numbered.{Numbered}
 use Rattle.instance_book.specs.declared.page.KeptPage.{KeptPage}
 use Rattle.instance_book.specs.declared.instance.KeptInstance.{KeptInstance}

@@ -2,9 +2,9 @@
 use Rattle.std.specs.Prelude.{◌≡◌, ℕ, List, filter, Option, None, option_map}
 use Rattle.script_value.specs.Val.{Val}
 use Rattle.script_nodes.specs.Setup.{Named, Library}
-use Rattle.replay_spec.specs.Book as spec
-use Rattle.replay_spec.specs.Book.{at_number, is_live}
-use Rattle.replay_spec.specs.Rules.{Journal, Rules, begun_length, first_file, empty_book}
+use Rattle.journal_records.specs.ReplaySpec.Book as spec
+use Rattle.journal_records.specs.ReplaySpec.Book.{at_number, is_live}
+use Rattle.journal_records.specs.ReplaySpec.Rules.{Journal, Rules, begun_length, first_file, empty_book}
 use Rattle.instance_book.specs.declared.book.Book.{Book}
 use Rattle.instance_book.specs.Views.{Beside, book_of}
 

@@ -1,6 +1,6 @@
 -- The uses of pages, and which pages can't be answered any more.
 use Rattle.std.specs.Prelude.{ℕ, Bool, true, false, nat_le, List, Option, Some, None, if◌then◌else◌}
-use Rattle.replay_spec.specs.Marks.{Mark, use_page}
+use Rattle.journal_records.specs.ReplaySpec.Marks.{Mark, use_page}
 
 -- the marks after a segment of this number answered a page, if it answered one
 abbrev pub use_if : Option ℕ → (number : ℕ) → List Mark → List Mark

@@ -3,10 +3,10 @@ use Rattle.std.specs.Prelude.{◌≡◌, ℕ, List, [], map, get_or, Option, Som
 use Rattle.script_value.specs.Val.{list, no_vals}
 use Rattle.script_nodes.specs.Core.{lit, no_cores}
 use Rattle.script_nodes.specs.Setup.{Named, Library}
-use Rattle.replay_spec.specs.Book as spec
-use Rattle.replay_spec.specs.Book.{at_number, Doubt, File}
-use Rattle.replay_spec.specs.Rules.{first_file}
-use Rattle.replay_spec.specs.Marks.{Mark, uses_of, evictions_of}
+use Rattle.journal_records.specs.ReplaySpec.Book as spec
+use Rattle.journal_records.specs.ReplaySpec.Book.{at_number, Doubt, File}
+use Rattle.journal_records.specs.ReplaySpec.Rules.{first_file}
+use Rattle.journal_records.specs.ReplaySpec.Marks.{Mark, uses_of, evictions_of}
 use Rattle.instance_book.specs.declared.numbered.Numbered.{Numbered}
 use Rattle.instance_book.specs.declared.in_order.InOrder.{InOrder}
 use Rattle.instance_book.specs.declared.page.KeptPage.{KeptPage}

@@ -3,13 +3,13 @@ use Rattle.std.specs.Prelude.{◌≡◌, List, [], ◌∷◌, ◌++◌, map, Opt
 use Rattle.instance_cells.specs.Cells.{reads_of}
 use Rattle.instance_cells.specs.Views.{effect_of}
 use Rattle.script_nodes.specs.Arena.{arena_of}
-use Rattle.replay_spec.specs.Tape.{recorded}
-use Rattle.replay_spec.specs.Book as spec
-use Rattle.replay_spec.specs.Next.{Visit, home_of, page_tape, tape_for}
-use Rattle.machine_states.specs.Machine.{Suspended}
-use Rattle.machine_states.specs.Laws.{IsStateOf}
-use Rattle.machine_states.specs.Views.{Keeps}
-use Rattle.machine_states.specs.declared.segment.Segment.{Segment}
+use Rattle.journal_records.specs.ReplaySpec.Tape.{recorded}
+use Rattle.journal_records.specs.ReplaySpec.Book as spec
+use Rattle.journal_records.specs.ReplaySpec.Next.{Visit, home_of, page_tape, tape_for}
+use Rattle.kept_states.specs.MachineStates.Machine.{Suspended}
+use Rattle.kept_states.specs.MachineStates.Laws.{IsStateOf}
+use Rattle.kept_states.specs.MachineStates.Views.{Keeps}
+use Rattle.kept_states.specs.MachineStates.declared.segment.Segment.{Segment}
 
 -- the visit answers a page, and this is the state of the page's chain
 pub record IsStateBehind (v : Visit) (d : Suspended) : Type 0 where

@@ -1,7 +1,7 @@
 ghost use Rattle.std.specs.Prelude.{◌≡◌, ◌<◌, ◌^◌, List, OnOk, OnErr, option_map, ◌-◌};
 ghost use Rattle.script_nodes.specs.Setup.{Named};
 ghost use Rattle.script_nodes.specs.Views.{library_of};
-ghost use Rattle.replay_spec.specs.Book as spec;
+ghost use Rattle.journal_records.specs.ReplaySpec.Book as spec;
 ghost use Rattle.instance_book.specs.Makes.{count_of, Makes, StaysSame, HasPlaces, KeepsPlaces, HasItsStates, HasWhatIsGiven, KeepsStates, IsInstanceAt, IsPlacedAmong, IsKeptAmong};
 ghost use Rattle.instance_book.specs.Standing.{named_if, script_at};
 ghost use Rattle.instance_book.specs.Swept.{swept, cells_at, IsEmpty};

@@ -3,7 +3,7 @@ use crate::instance::KeptInstance;
 use crate::numbered::Numbered;
 use crate::page::KeptPage;
 use journal_records::{EndedRecord, FinishRecord, PageRecord};
-use machine_states::Suspended;
+use kept_states::Suspended;
 use script_value::TxName;
 
 /// A start showed a page.

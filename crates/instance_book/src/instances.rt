@@ -1,7 +1,7 @@
 ghost use Rattle.std.specs.Prelude.{◌≡◌, filter, OnOk};
 ghost use Rattle.std.specs.Option.{option_copied};
-ghost use Rattle.replay_spec.specs.Book.{is_live};
-ghost use Rattle.replay_spec.specs.Change.{mend, without};
+ghost use Rattle.journal_records.specs.ReplaySpec.Book.{is_live};
+ghost use Rattle.journal_records.specs.ReplaySpec.Change.{mend, without};
 ghost use Rattle.instance_book.specs.Lists.{HasRoom, thing_at};
 ghost use Rattle.instance_book.specs.Views.{HasRoomAt};
 ghost use Rattle.instance_book.specs.Places.{StayKept, StayKeptWith, StayPlaced, StayPlacedWith};

@@ -1,6 +1,6 @@
 ghost use Rattle.std.specs.Prelude.{◌≡◌, [], length, IfOk, IfSome, IfNone, OnOk};
 ghost use Rattle.std.specs.Option.{option_copied};
-ghost use Rattle.replay_spec.specs.Admission.{is_one};
+ghost use Rattle.journal_records.specs.ReplaySpec.Admission.{is_one};
 ghost use Rattle.instance_book.specs.Orders.{Rises, IsAt, Finds, numbers_of};
 ghost use Rattle.instance_book.specs.Lists.{HasRoom, HasNone, HasNumbersOf, thing_at, things_with, things_without};
 

@@ -1,7 +1,7 @@
 ghost use Rattle.std.specs.Prelude.{◌≡◌, IfOk};
 ghost use Rattle.script_nodes.specs.Views.{named_of};
-ghost use Rattle.machine_states.specs.Views.{suspended_of};
-ghost use Rattle.frame_codec.specs.Stored.{IsStored};
+ghost use Rattle.kept_states.specs.MachineStates.Views.{suspended_of};
+ghost use Rattle.kept_states.specs.FrameCodec.Stored.{IsStored};
 ghost use Rattle.instance_book.specs.Places.{AreStatesOf, IsStateIn, IsOriginIn};
 ghost use Rattle.instance_book.specs.Fits.{IsOriginOf, IsStoredOrigin};
 ghost use Rattle.instance_book.specs.Fronts.{IsFrontIn};
@@ -9,9 +9,7 @@ ghost use Rattle.instance_book.specs.Fronts.{IsFrontIn};
 use crate::in_order::InOrder;
 use crate::numbered::Numbered;
 use crate::page::KeptPage;
-use frame_codec::{Need, join};
-use kept_states::Found;
-use machine_states::{Origin, Suspended, each_page_has_one_state};
+use kept_states::{Found, Need, Origin, Suspended, each_page_has_one_state, join};
 use script_nodes::NamedScript;
 use std::alloc::{AllocError, Global};
 

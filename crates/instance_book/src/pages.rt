@@ -1,7 +1,7 @@
 ghost use Rattle.std.specs.Prelude.{◌≡◌};
 ghost use Rattle.std.specs.List.{list_all};
-ghost use Rattle.replay_spec.specs.Book.{is_over};
-ghost use Rattle.replay_spec.specs.Marks.{use_page, go, go_all};
+ghost use Rattle.journal_records.specs.ReplaySpec.Book.{is_over};
+ghost use Rattle.journal_records.specs.ReplaySpec.Marks.{use_page, go, go_all};
 ghost use Rattle.instance_book.specs.Lists.{HasRoom};
 ghost use Rattle.instance_book.specs.Views.{pages_of, evicted_of};
 ghost use Rattle.instance_book.specs.Places.{CanTake, IsPageAt, IsShownAt, IsMarkedAt, PutsPage, PutsShown, PutsMark, ShowsPage, ChangesMarks};

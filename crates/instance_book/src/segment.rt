@@ -19,10 +19,10 @@ use crate::page::{KeptPage, new_page};
 use crate::shown::ShownState;
 use instance_cells::{Cells, Effect};
 use journal_records::PageRecord;
+use kept_states::StoredValue;
 use script_nodes::SendKind;
 use script_value::{Items, TxName, Value};
 use std::alloc::{AllocError, Global};
-use kept_states::StoredValue;
 use transactions::Closed;
 
 // These transactions are closed too.

@@ -1,5 +1,4 @@
-use kept_states::KeptState;
-use machine_states::Suspended;
+use kept_states::{KeptState, Suspended};
 use script_value::TxName;
 
 /// What a page has that its record does not tell: its transactions and its state.

@@ -6,3 +6,4 @@ pub mod Counts
 pub mod Levels
 pub mod Measured
 pub mod Sizes
+pub use Rattle.replay_spec.proofs as ReplaySpec

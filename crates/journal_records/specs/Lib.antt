@@ -5,3 +5,4 @@ pub mod Old
 pub mod Laws
 pub mod Views
 pub mod Vectors
+pub use Rattle.replay_spec.specs as ReplaySpec

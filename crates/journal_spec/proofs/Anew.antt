@@ -11,11 +11,11 @@ use Rattle.script_nodes.specs.Setup.{Named}
 use Rattle.replay_spec.specs.Book.{Change, opens, extends, ends, finishes, sweeps, Book}
 use Rattle.replay_spec.specs.Admission.{when}
 use Rattle.replay_spec.proofs.Admitted.{came_from, when_is}
-use Rattle.machine_states.specs.Machine.{Suspended}
-use Rattle.frame_codec.specs.Stored.{IsStored}
-use Rattle.frame_codec.specs.Reading.{read_state}
-use Rattle.frame_codec.specs.Forms.{form_bytes, RisesBefore, BindsBefore}
-use Rattle.frame_codec.proofs.Formed.{forms_are_exact}
+use Rattle.kept_states.specs.MachineStates.Machine.{Suspended}
+use Rattle.kept_states.specs.FrameCodec.Stored.{IsStored}
+use Rattle.kept_states.specs.FrameCodec.Reading.{read_state}
+use Rattle.kept_states.specs.FrameCodec.Forms.{form_bytes, RisesBefore, BindsBefore}
+use Rattle.kept_states.proofs.FrameCodec.Formed.{forms_are_exact}
 use Rattle.journal_records.specs.Records.{changes, ChangeFits, opening_page, extension_page, body_of}
 use Rattle.journal_spec.specs.Retaking.{arena_of, unread, told, told_as, told_by, script_for}
 use Rattle.journal_spec.specs.Old.{binds_before, read_alone, told_alone}

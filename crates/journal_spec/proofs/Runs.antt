@@ -17,7 +17,7 @@ use Rattle.replay_spec.specs.Tape.{Reads, recorded, present, bound, is_over, Ans
 use Rattle.replay_spec.specs.Eval.{Calls, with_task, calls_from, no_calls, calls_of, evaluated, eval, eval_into, eval_while, turns, for_each, copied, value_at, is_not_false, is_any, segment_at_end}
 use Rattle.journal_spec.specs.Depths.{IsShallow, AreShallow, HasShallow, HaveShallow, AreShallowReads, AreShallowAnswers, IsShallowEffect, RunsStayShallow}
 use Rattle.journal_spec.proofs.Shallow.{GivesShallow, listed, operation}
-use Rattle.frame_codec.proofs.Reread.{all_append}
+use Rattle.kept_states.proofs.FrameCodec.Reread.{all_append}
 
 one_more : {A : Type 0} (P : A → Type 0) (xs : List A) (x : A) → AllByRecursion P xs → P x → AllByRecursion P (xs ++ x ∷ [])
 one_more P xs x h g = all_append P xs (x ∷ []) h (g, tt)

@@ -14,9 +14,9 @@ use Rattle.replay_spec.specs.Recovery.{remade}
 use Rattle.replay_spec.proofs.Orderly.{recorded_orderly}
 use Rattle.replay_spec.proofs.Again.{recorded_remade}
 use Rattle.replay_spec.proofs.Admitted.{came_from}
-use Rattle.machine_states.specs.Machine.{Suspended}
-use Rattle.frame_codec.specs.Spelling.{StateHasBytes}
-use Rattle.frame_codec.specs.Forms.{form_bytes}
+use Rattle.kept_states.specs.MachineStates.Machine.{Suspended}
+use Rattle.kept_states.specs.FrameCodec.Spelling.{StateHasBytes}
+use Rattle.kept_states.specs.FrameCodec.Forms.{form_bytes}
 use Rattle.journal_spec.specs.Lengths.{state_by, own_before, is_shallow_state, told_bytes, state_told}
 use Rattle.journal_spec.specs.Making.{has_script}
 use Rattle.journal_spec.specs.Whole.{IsSpelledState}

@@ -15,9 +15,9 @@ use Rattle.replay_spec.proofs.Landed.{never}
 use Rattle.replay_spec.proofs.Living.{there_some}
 use Rattle.replay_spec.proofs.Numbered.{number_of, put_found}
 use Rattle.replay_spec.proofs.Recovered.{place_is}
-use Rattle.machine_states.specs.Machine.{Suspended}
-use Rattle.frame_codec.specs.Stored.{IsStored}
-use Rattle.frame_codec.specs.Forms.{RisesBefore}
+use Rattle.kept_states.specs.MachineStates.Machine.{Suspended}
+use Rattle.kept_states.specs.FrameCodec.Stored.{IsStored}
+use Rattle.kept_states.specs.FrameCodec.Forms.{RisesBefore}
 use Rattle.kept_states.specs.Links.{behind_at}
 use Rattle.journal_spec.specs.Before.{state_at, Made, plain, links_behind, before_told}
 use Rattle.journal_spec.specs.Retaking.{arena_of, told, script_for, retaken}

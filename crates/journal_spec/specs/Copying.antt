@@ -6,9 +6,9 @@ use Rattle.script_nodes.specs.Setup.{Named}
 use Rattle.replay_spec.specs.Book.{Page, Instance, Change, Line, changed, renewed, instance_at, page_at}
 use Rattle.replay_spec.specs.Compaction.{stays_in, is_sweep, compaction, file_length}
 use Rattle.replay_spec.specs.Recovery.{resettled}
-use Rattle.machine_states.specs.Machine.{Suspended, inside_of}
-use Rattle.frame_codec.specs.Stored.{IsStored}
-use Rattle.frame_codec.specs.Forms.{form_bytes}
+use Rattle.kept_states.specs.MachineStates.Machine.{Suspended, inside_of}
+use Rattle.kept_states.specs.FrameCodec.Stored.{IsStored}
+use Rattle.kept_states.specs.FrameCodec.Forms.{form_bytes}
 use Rattle.page_journal.specs.Records.{is_format, at_rest}
 use Rattle.journal_records.specs.Records.{Record, changes, renews, draws, body_of}
 use Rattle.journal_records.specs.Old.{newest_format, read_record_in}

@@ -3,3 +3,5 @@ pub mod Read
 pub mod Told
 pub mod Written
 pub mod Forms
+pub use Rattle.frame_codec.proofs as FrameCodec
+pub use Rattle.frame_codec.proofs.MachineStates

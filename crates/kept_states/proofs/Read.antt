@@ -2,10 +2,10 @@
 use Rattle.std.proofs.Common.{◌≡◌, ◌∙◌, ap, Some, None}
 use Rattle.std.proofs.lemmas.Option.{same_Some, none-some}
 use Rattle.web_cells.specs.Shadows.{Rise}
-use Rattle.script_nodes.specs.Arena.{Arena, IsScript}
-use Rattle.replay_spec.specs.Tape.{Tape}
-use Rattle.machine_states.specs.Machine.{Suspended}
-use Rattle.machine_states.specs.Laws.{IsStateOf}
+use Rattle.frame_codec.specs.ScriptNodes.Arena.{Arena, IsScript}
+use Rattle.frame_codec.specs.ReplaySpec.Tape.{Tape}
+use Rattle.frame_codec.specs.MachineStates.Machine.{Suspended}
+use Rattle.frame_codec.specs.MachineStates.Laws.{IsStateOf}
 use Rattle.frame_codec.specs.Spelling.{StateHasBytes}
 use Rattle.frame_codec.specs.Stored.{IsStored}
 use Rattle.frame_codec.specs.Deltas.{Delta, IsDelta, joined}

@@ -2,11 +2,11 @@
 use Rattle.std.proofs.Common.{◌≡◌, ◌∙◌, ◌≤◌, ◌-◌, sym, ap, ℕ, suc, take, List, [], ◌∷◌, length, get_or, drop, Option, Some, None, option_map, subst, refl, arith}
 use Rattle.std.proofs.lemmas.Option.{same_Some}
 use Rattle.std.specs.Prelude.{IfSome, IfOk, Result, Ok, Err}
-use Rattle.script_nodes.specs.Arena.{Arena}
+use Rattle.frame_codec.specs.ScriptNodes.Arena.{Arena}
 use Rattle.value_bytes.specs.Laws.{AreBytes}
-use Rattle.machine_states.specs.Machine.{Suspended}
-use Rattle.machine_states.specs.Views.{suspended_of}
-use Rattle.machine_states.specs.declared.frame.Suspended as stored
+use Rattle.frame_codec.specs.MachineStates.Machine.{Suspended}
+use Rattle.frame_codec.specs.MachineStates.Views.{suspended_of}
+use Rattle.frame_codec.specs.MachineStates.declared.frame.Suspended as stored
 use Rattle.frame_codec.specs.Stored.{IsStored}
 use Rattle.frame_codec.specs.Forms.{read_form, SpellsForm, FormsAreExact}
 use Rattle.frame_codec.specs.FormViews.{ReadsForm, ReadsDifference}

@@ -1,7 +1,7 @@
 -- What is kept of a state is written so.
 use Rattle.std.proofs.Common.{◌≡◌, ◌∙◌, ℕ, zero, suc, List, ◌∷◌, Some, None, sym, ap}
 use Rattle.std.proofs.lemmas.Option.{same_Some}
-use Rattle.machine_states.specs.Machine.{Suspended}
+use Rattle.frame_codec.specs.MachineStates.Machine.{Suspended}
 use Rattle.frame_codec.specs.Spelling.{state_bytes}
 use Rattle.frame_codec.specs.Deltas.{Delta, delta_bytes}
 use Rattle.frame_codec.specs.Difference.{difference}

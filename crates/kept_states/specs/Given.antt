@@ -1,11 +1,11 @@
 -- What is found of a front of a state.
 use Rattle.std.specs.Prelude.{◌≡◌, Option, Some, None, option_map}
 use Rattle.web_cells.specs.Shadows.{Rise}
-use Rattle.script_nodes.specs.Arena.{Arena}
-use Rattle.machine_states.specs.Machine.{Suspended}
-use Rattle.machine_states.specs.Fits.{Fits}
-use Rattle.machine_states.specs.Views.{suspended_of}
-use Rattle.machine_states.specs.declared.frame.Suspended as stored
+use Rattle.frame_codec.specs.ScriptNodes.Arena.{Arena}
+use Rattle.frame_codec.specs.MachineStates.Machine.{Suspended}
+use Rattle.frame_codec.specs.MachineStates.Fits.{Fits}
+use Rattle.frame_codec.specs.MachineStates.Views.{suspended_of}
+use Rattle.frame_codec.specs.MachineStates.declared.frame.Suspended as stored
 use Rattle.frame_codec.specs.Stored.{ShadowsFit}
 use Rattle.frame_codec.specs.Deltas.{joined}
 use Rattle.frame_codec.specs.DeltaViews.{delta_of}

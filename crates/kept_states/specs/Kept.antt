@@ -1,10 +1,10 @@
 -- What is kept of the state of a page.
 use Rattle.std.specs.Prelude.{◌≡◌, ℕ, zero, suc, List, Option, Some, None}
 use Rattle.web_cells.specs.Own.{BindsAllOf}
-use Rattle.machine_states.specs.Machine.{Suspended}
-use Rattle.machine_states.specs.Views.{origin_of, suspended_of}
-use Rattle.machine_states.specs.declared.segment.Origin.{Origin}
-use Rattle.machine_states.specs.declared.frame.Suspended as stored
+use Rattle.frame_codec.specs.MachineStates.Machine.{Suspended}
+use Rattle.frame_codec.specs.MachineStates.Views.{origin_of, suspended_of}
+use Rattle.frame_codec.specs.MachineStates.declared.segment.Origin.{Origin}
+use Rattle.frame_codec.specs.MachineStates.declared.frame.Suspended as stored
 use Rattle.frame_codec.specs.Spelling.{StateHasBytes}
 use Rattle.frame_codec.specs.Deltas.{Delta, IsDelta}
 use Rattle.frame_codec.specs.Forms.{form_bytes}

@@ -4,3 +4,5 @@ pub mod Given
 pub mod Told
 pub mod Vectors
 pub mod Forms
+pub use Rattle.frame_codec.specs as FrameCodec
+pub use Rattle.frame_codec.specs.MachineStates

@@ -1,6 +1,6 @@
 -- How many links a page is from one whose state is kept by itself.
 use Rattle.std.specs.Prelude.{ℕ, zero, suc, ◌+◌, Option, None, nat_lt, if◌then◌else◌}
-use Rattle.machine_states.specs.Machine.{Suspended}
+use Rattle.frame_codec.specs.MachineStates.Machine.{Suspended}
 
 -- the links of a page after one that has these: one more, or none where that has 32
 abbrev pub next_links : ℕ → ℕ

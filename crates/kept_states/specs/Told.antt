@@ -2,10 +2,10 @@
 use Rattle.std.specs.Prelude.{◌≡◌, ℕ, List, ◌∷◌, Option, Some, option_map, IfSome}
 use Rattle.std.specs.Borrow.{Bor}
 use Rattle.web_cells.specs.Own.{BindsAllOf}
-use Rattle.script_nodes.specs.Arena.{Arena}
-use Rattle.machine_states.specs.Machine.{Suspended}
-use Rattle.machine_states.specs.Views.{suspended_of}
-use Rattle.machine_states.specs.declared.frame.Suspended as stored
+use Rattle.frame_codec.specs.ScriptNodes.Arena.{Arena}
+use Rattle.frame_codec.specs.MachineStates.Machine.{Suspended}
+use Rattle.frame_codec.specs.MachineStates.Views.{suspended_of}
+use Rattle.frame_codec.specs.MachineStates.declared.frame.Suspended as stored
 use Rattle.frame_codec.specs.Stored.{IsStored}
 use Rattle.frame_codec.specs.Deltas.{IsDelta, joined, delta_bytes}
 use Rattle.frame_codec.specs.DeltaViews.{delta_of}

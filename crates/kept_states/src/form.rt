@@ -1,5 +1,5 @@
 ghost use Rattle.std.specs.Prelude.{◌≡◌, ◌↔◌, IsTrue, IfOk, Some, None, IfSome, option_map};
-ghost use Rattle.machine_states.specs.Views.{suspended_of};
+ghost use Rattle.frame_codec.specs.MachineStates.Views.{suspended_of};
 ghost use Rattle.frame_codec.specs.Stored.{IsStored};
 ghost use Rattle.frame_codec.specs.Forms.{SpellsForm};
 ghost use Rattle.frame_codec.specs.FormViews.{ReadsForm};
@@ -9,12 +9,10 @@ ghost use Rattle.kept_states.specs.Given.{GivesAlone, GivesBehind};
 
 use crate::shades::binds_all_of;
 use frame_codec::{
-    BEHIND, Delta, Need, Parted, copied_front, decode_delta, decode_form, delta,
+    BEHIND, Delta, Need, Parted, Script, Suspended, copied_front, decode_delta, decode_form, delta,
     each_delta_has_bytes, forms_are_exact, is_spelled, join, read_delta_front, read_front,
     spell_delta, spell_state,
 };
-use machine_states::Suspended;
-use script_nodes::Script;
 use script_value::Bytes;
 use std::alloc::{AllocError, Global};
 

@@ -12,6 +12,7 @@ mod state;
 mod value;
 
 pub use form::Found;
+pub use frame_codec::{Need, Origin, Suspended, each_page_has_one_state, join};
 pub use links::{MOST_LINKS, next_links};
 pub use list::StoredValues;
 pub use memory::trimmed;

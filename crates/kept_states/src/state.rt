@@ -1,5 +1,5 @@
 ghost use Rattle.std.specs.Prelude.{◌≡◌, IfOk, option_map};
-ghost use Rattle.machine_states.specs.Views.{suspended_of};
+ghost use Rattle.frame_codec.specs.MachineStates.Views.{suspended_of};
 ghost use Rattle.kept_states.specs.Kept.{bytes_of, IsKeptAfter, kept_of};
 ghost use Rattle.frame_codec.specs.Forms.{IsStoredBefore};
 ghost use Rattle.frame_codec.specs.FormViews.{before_of};
@@ -7,9 +7,7 @@ ghost use Rattle.kept_states.specs.Given.{GivesAlone, GivesBehind};
 ghost use Rattle.kept_states.specs.Told.{TellsState, KeepsTold};
 
 use crate::form::{Form, Found, ToldForm};
-use frame_codec::Need;
-use machine_states::{Origin, Suspended};
-use script_nodes::Script;
+use frame_codec::{Need, Origin, Script, Suspended};
 use script_value::Bytes;
 use std::alloc::{AllocError, Global};
 

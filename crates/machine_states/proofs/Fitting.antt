@@ -8,8 +8,8 @@ use Rattle.script_value.specs.declared.value.Value.TheVariants.{Truth}
 use Rattle.script_value.specs.declared.outcome.Op.{Op}
 use Rattle.script_value.specs.declared.outcome.Fault.{Fault}
 use Rattle.script_value.specs.declared.outcome.TxName.{TxName}
-use Rattle.prim_spec.specs.Table.{value_of, is_false}
-use Rattle.prim_spec.specs.Lists.{list_of}
+use Rattle.script_nodes.specs.PrimSpec.Table.{value_of, is_false}
+use Rattle.script_nodes.specs.PrimSpec.Lists.{list_of}
 use Rattle.script_nodes.specs.declared.script.Node.{Node}
 use Rattle.script_nodes.specs.declared.script.Node.TheVariants as node
 use Rattle.script_nodes.specs.declared.script.SendKind.{SendKind}

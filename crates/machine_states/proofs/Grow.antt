@@ -2,7 +2,7 @@
 use Rattle.std.proofs.Common.{◌≡◌, ◌⊎◌, inl, inr, ℕ, zero, suc, ◌+◌, ◌^◌, min, Bool, true, false, List, [], ◌∷◌, ◌++◌, Option, Some, None, refl, ap, ◌∙◌, arith}
 use Rattle.script_value.specs.Val.{Val}
 use Rattle.script_value.specs.declared.outcome.TxName.{TxName}
-use Rattle.page_spec.specs.Page.{page_of}
+use Rattle.replay_spec.specs.PageSpec.Page.{page_of}
 use Rattle.script_nodes.specs.declared.script.SendKind.{SendKind}
 use Rattle.script_nodes.specs.Arena.{Arena}
 use Rattle.replay_spec.specs.Tape.{finishes, ends, halt, Reads, recorded, present, bound, Answer, State, begins, How, page_stop, Outcome, End, got, stop, Run, after, charged, is_over, sent, read_from, set_in, add_in}

@@ -13,3 +13,4 @@ pub mod Visiting
 pub mod Stepping
 pub mod Unbound
 pub mod Stacks
+pub use Rattle.replay_spec.proofs as ReplaySpec

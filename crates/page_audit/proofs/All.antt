@@ -4,10 +4,10 @@ use Rattle.page_journal.specs.Records.{framed, frames}
 use Rattle.page_journal.specs.Taken.{TakesAll}
 use Rattle.page_journal.proofs.Frames.{length-framed}
 use Rattle.setup_reader.specs.Texts.{setup_of_texts}
-use Rattle.journal_spec.specs.Making.{Making, nothing, made_in}
-use Rattle.journal_spec.specs.Old.{with_body_at, with_bodies_at, book_of_format}
-use Rattle.audit_spec.specs.Findings as spec
-use Rattle.audit_spec.specs.Findings.{shelf_in, found_in, first_found, first_finding, answer_over, audited}
+use Rattle.book_recovery.specs.JournalSpec.Making.{Making, nothing, made_in}
+use Rattle.book_recovery.specs.JournalSpec.Old.{with_body_at, with_bodies_at, book_of_format}
+use Rattle.record_audit.specs.AuditSpec.Findings as spec
+use Rattle.record_audit.specs.AuditSpec.Findings.{shelf_in, found_in, first_found, first_finding, answer_over, audited}
 use Rattle.book_recovery.proofs.Took.{at_first}
 use Rattle.page_audit.specs.declared.answer.Audited.{Audited}
 use Rattle.page_audit.specs.declared.answer.AuditFault.{AuditFault}

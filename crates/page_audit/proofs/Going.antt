@@ -1,13 +1,13 @@
 -- What an auditor makes of one record.
 use Rattle.std.proofs.Common.{◌≡◌, ◌∙◌, ap, sym, subst, ℕ, zero, suc, ◌+◌, ◌<◌, Bool, true, false, List, length, Option, refl, arith}
-use Rattle.instance_book.specs.declared.in_order.InOrder.{InOrder}
+use Rattle.book_recovery.specs.InstanceBook.declared.in_order.InOrder.{InOrder}
 use Rattle.journal_records.specs.Old.{read_record_in}
 use Rattle.setup_reader.specs.Texts.{setup_of_texts}
-use Rattle.journal_spec.specs.Before.{Made}
-use Rattle.journal_spec.specs.Making.{Making, damaged, made_in}
-use Rattle.journal_spec.specs.Old.{with_body_at}
-use Rattle.audit_spec.specs.Findings as spec
-use Rattle.audit_spec.specs.Findings.{shelf_by, found_in, first_found}
+use Rattle.book_recovery.specs.JournalSpec.Before.{Made}
+use Rattle.book_recovery.specs.JournalSpec.Making.{Making, damaged, made_in}
+use Rattle.book_recovery.specs.JournalSpec.Old.{with_body_at}
+use Rattle.record_audit.specs.AuditSpec.Findings as spec
+use Rattle.record_audit.specs.AuditSpec.Findings.{shelf_by, found_in, first_found}
 use Rattle.book_recovery.specs.declared.found.Found.{Found}
 use Rattle.book_recovery.specs.declared.found.Found.TheVariants as found
 use Rattle.book_recovery.specs.declared.reader.Reader.{Reader}

@@ -2,3 +2,4 @@ pub mod Looking
 pub mod Going
 pub mod All
 pub mod Unwritten
+pub use Rattle.record_audit.proofs.AuditSpec

@@ -4,18 +4,18 @@ use Rattle.std.specs.declared.alloc.AllocError.{AllocError}
 use Rattle.script_nodes.specs.Setup.{Library}
 use Rattle.script_nodes.specs.declared.library.Library.{Library as Kept}
 use Rattle.script_nodes.specs.Views.{library_of}
-use Rattle.instance_book.specs.declared.in_order.InOrder.{InOrder}
-use Rattle.instance_book.specs.declared.book.Book.{Book}
-use Rattle.instance_book.specs.Standing.{book_under}
-use Rattle.instance_book.specs.Views.{no_journal}
+use Rattle.book_recovery.specs.InstanceBook.declared.in_order.InOrder.{InOrder}
+use Rattle.book_recovery.specs.InstanceBook.declared.book.Book.{Book}
+use Rattle.book_recovery.specs.InstanceBook.Standing.{book_under}
+use Rattle.book_recovery.specs.InstanceBook.Views.{no_journal}
 use Rattle.journal_records.specs.Records.{Record}
 use Rattle.journal_records.specs.Old.{read_record_in}
-use Rattle.journal_spec.specs.Before.{Made}
-use Rattle.journal_spec.specs.Making.{Making, made_in}
-use Rattle.journal_spec.specs.Owning.{IsOwnRecordIn}
-use Rattle.audit_spec.specs.declared.word.Word.{Word}
-use Rattle.audit_spec.specs.Findings.{fault_of, found_at, found_in, first_found}
-use Rattle.audit_spec.proofs.Passing.{own_of_none}
+use Rattle.book_recovery.specs.JournalSpec.Before.{Made}
+use Rattle.book_recovery.specs.JournalSpec.Making.{Making, made_in}
+use Rattle.book_recovery.specs.JournalSpec.Owning.{IsOwnRecordIn}
+use Rattle.record_audit.specs.AuditSpec.declared.word.Word.{Word}
+use Rattle.record_audit.specs.AuditSpec.Findings.{fault_of, found_at, found_in, first_found}
+use Rattle.record_audit.proofs.AuditSpec.Passing.{own_of_none}
 use Rattle.record_audit.specs.Faults.{IsMadeOf, IsFaultIn}
 use Rattle.book_recovery.specs.declared.found.Found.{Found}
 use Rattle.book_recovery.specs.declared.found.Found.TheVariants as found

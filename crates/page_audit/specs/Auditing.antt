@@ -1,15 +1,15 @@
 -- What an auditor makes of the records of a journal, one by one.
 use Rattle.std.specs.Prelude.{◌≡◌, ◌<◌, ◌≤◌, ℕ, ◌+◌, List, [], length, Option, Some, None, Result, ⊤}
 use Rattle.script_nodes.specs.Views.{library_of}
-use Rattle.instance_book.specs.declared.in_order.InOrder.{InOrder}
+use Rattle.book_recovery.specs.InstanceBook.declared.in_order.InOrder.{InOrder}
 use Rattle.journal_records.specs.Records.{Record}
 use Rattle.journal_records.specs.Old.{read_record_in}
 use Rattle.setup_reader.specs.Texts.{setup_of_texts}
-use Rattle.journal_spec.specs.Making.{Making, made_in}
-use Rattle.journal_spec.specs.Old.{with_body_at}
-use Rattle.audit_spec.specs.declared.word.Word.{Word}
-use Rattle.audit_spec.specs.Findings as spec
-use Rattle.audit_spec.specs.Findings.{shelf_by, found_in, first_found, answer_over}
+use Rattle.book_recovery.specs.JournalSpec.Making.{Making, made_in}
+use Rattle.book_recovery.specs.JournalSpec.Old.{with_body_at}
+use Rattle.record_audit.specs.AuditSpec.declared.word.Word.{Word}
+use Rattle.record_audit.specs.AuditSpec.Findings as spec
+use Rattle.record_audit.specs.AuditSpec.Findings.{shelf_by, found_in, first_found, answer_over}
 use Rattle.record_audit.specs.Faults.{IsFaultIn}
 use Rattle.book_recovery.specs.declared.found.Found.{Found}
 use Rattle.book_recovery.specs.declared.found.Found.TheVariants as found

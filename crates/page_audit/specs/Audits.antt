@@ -8,7 +8,7 @@ use Rattle.page_journal.specs.Records.{Log, Damaged, Intact, format_of, records}
 use Rattle.page_journal.specs.declared.repair.JournalFault.{JournalFault}
 use Rattle.page_journal.specs.declared.repair.JournalFault.TheVariants as journal
 use Rattle.setup_reader.specs.Texts.{setup_of_texts}
-use Rattle.audit_spec.specs.Findings.{Answer, yes, no, is_damaged, audited}
+use Rattle.record_audit.specs.AuditSpec.Findings.{Answer, yes, no, is_damaged, audited}
 use Rattle.page_audit.specs.declared.answer.Audited.{Audited}
 use Rattle.page_audit.specs.declared.answer.Audited.TheVariants as answer
 use Rattle.page_audit.specs.declared.answer.AuditFault.{AuditFault}

@@ -1,8 +1,8 @@
 ghost use Rattle.std.specs.Prelude.{◌≡◌};
 ghost use Rattle.page_audit.specs.declared.answer.AuditFault.TheVariants.{DiskFault as AuditDiskFault, Memory as AuditMemory};
 
-use audit_spec::Word;
 use page_journal::{DiskFault, JournalFault};
+use record_audit::Word;
 use std::alloc::AllocError;
 use thiserror::Error;
 use web_outside::Failed;

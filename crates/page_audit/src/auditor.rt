@@ -1,16 +1,15 @@
 ghost use Rattle.std.specs.Prelude.{◌≡◌, ◌<◌, IfOk, IsErrOf};
 ghost use Rattle.journal_records.specs.Old.{read_record_in};
-ghost use Rattle.audit_spec.specs.Findings.{shelf_by};
+ghost use Rattle.record_audit.specs.AuditSpec.Findings.{shelf_by};
 ghost use Rattle.book_recovery.specs.Found.{HasStates};
 ghost use Rattle.page_audit.specs.Auditing.{IsReady, IsStarted, Begins, Looks, IsWordFor, IsOwnUnless, Concludes};
 ghost use Rattle.page_audit.specs.declared.auditor.Finding.TheVariants as finding;
 
 use crate::answer::{AuditFault, Audited};
-use audit_spec::Word;
 use book_recovery::{Found, SoundReader};
 use journal_records::{Logged, decode};
 use page_journal::Take;
-use record_audit::fault_in;
+use record_audit::{Word, fault_in};
 use std::alloc::{AllocError, Global};
 
 /// What an audit has found so far.

@@ -8,3 +8,4 @@ mod file;
 
 pub use answer::{AuditFault, Audited};
 pub use disks::audit;
+pub use record_audit::Word;

@@ -10,10 +10,10 @@ use Rattle.setup_reader.specs.Texts.{IsReadSetup, setup_of_texts}
 use Rattle.setup_reader.proofs.Edited.{read_short, sound}
 use Rattle.journal_records.specs.Fields.{ScriptFits, script_bytes}
 use Rattle.journal_records.specs.Records.{IsInGrammar, begin_of}
-use Rattle.journal_spec.specs.Before.{Made}
-use Rattle.journal_spec.specs.Making.{nothing, damaged, other, began}
-use Rattle.journal_spec.specs.Bytes.{book_in_bytes}
-use Rattle.journal_spec.specs.Opening.{first_body}
+use Rattle.shelf.specs.JournalSpec.Before.{Made}
+use Rattle.shelf.specs.JournalSpec.Making.{nothing, damaged, other, began}
+use Rattle.shelf.specs.JournalSpec.Bytes.{book_in_bytes}
+use Rattle.shelf.specs.JournalSpec.Opening.{first_body}
 use Rattle.shelf.specs.Faults.{IsTooLong}
 use Rattle.shelf.specs.Opening.{IsFaultOf, IsTooLongIn}
 use Rattle.shelf.specs.declared.begin.BeginFault.{BeginFault}

@@ -2,10 +2,10 @@
 use Rattle.std.proofs.Common.{◌≡◌, ◌≢◌, ◌∙◌, ap, sym, refl, ℕ, List, [], ◌∷◌, length, Option, Some, None, arith}
 use Rattle.setup_reader.specs.Texts.{setup_of_texts}
 use Rattle.page_journal.specs.Records.{Log, Damaged, Intact, newest, format_of, records, stored, at_rest}
-use Rattle.journal_spec.specs.Before.{Made}
-use Rattle.journal_spec.specs.Making.{made_in}
-use Rattle.journal_spec.specs.Old.{book_of_format, format_of_now}
-use Rattle.journal_spec.specs.Bytes.{by_log, book_in_bytes}
+use Rattle.shelf.specs.JournalSpec.Before.{Made}
+use Rattle.shelf.specs.JournalSpec.Making.{made_in}
+use Rattle.shelf.specs.JournalSpec.Old.{book_of_format, format_of_now}
+use Rattle.shelf.specs.JournalSpec.Bytes.{by_log, book_in_bytes}
 use Rattle.shelf.specs.Migrating.{making_by, bodies_now, IsTooLongAnew}
 use Rattle.shelf.specs.Opening.{now_by_log, now_in_bytes}
 use Rattle.play_desk.proofs.Short.{stored_short}

@@ -16,11 +16,11 @@ use Rattle.replay_spec.specs.Runs.{empty_shelf}
 use Rattle.replay_spec.specs.Step.{lost, kept}
 use Rattle.page_journal.specs.Opened.{TellsFormat}
 use Rattle.page_journal.specs.Records.{Intact, records, at_rest, at_rest_in, stored}
-use Rattle.journal_spec.specs.Making.{damaged, other}
-use Rattle.journal_spec.specs.Bytes.{book_in_bytes}
-use Rattle.journal_spec.specs.Opening.{opened_book}
-use Rattle.journal_spec.specs.Standing.{Between, HoldIn, IsOneOf, if_kept}
-use Rattle.journal_spec.specs.Laws.{MeasuresDoubt}
+use Rattle.shelf.specs.JournalSpec.Making.{damaged, other}
+use Rattle.shelf.specs.JournalSpec.Bytes.{book_in_bytes}
+use Rattle.shelf.specs.JournalSpec.Opening.{opened_book}
+use Rattle.shelf.specs.JournalSpec.Standing.{Between, HoldIn, IsOneOf, if_kept}
+use Rattle.shelf.specs.JournalSpec.Laws.{MeasuresDoubt}
 use Rattle.shelf.specs.Views.{book_in, rules_of, IsInOrder, IsOwnShelf}
 use Rattle.shelf.specs.Faults.{IsAnother}
 use Rattle.shelf.specs.Opening.{IsCrashed, IsTooLongIn, bodies_after, now_in_bytes, opening_bodies}

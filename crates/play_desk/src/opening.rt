@@ -14,10 +14,9 @@ ghost use Rattle.shelf.specs.Owning.{IsOwnImage};
 ghost use Rattle.shelf.specs.Views.{IsInOrder, IsOwnShelf, book_in, rules_of};
 
 use disk_trio::Disks;
-use journal_spec::images_make_books;
 use play_steps::Reopen;
 use script_nodes::Setup;
-use shelf::{BeginFault, Rules, Shelf, a_reopened_shelf_has_crashed};
+use shelf::{BeginFault, Rules, Shelf, a_reopened_shelf_has_crashed, images_make_books};
 use std::alloc::Global;
 use trio_rack::{give_trio, take_trio};
 use web_disk::{Disk, Rack, RackFault};

@@ -10,9 +10,9 @@ use Rattle.instance_book.specs.declared.book.Book.{Book}
 use Rattle.instance_book.specs.Orders.{numbers_of}
 use Rattle.instance_book.specs.Views.{Beside, book_of}
 use Rattle.instance_book.specs.Standing.{book_under}
-use Rattle.journal_spec.specs.Before.{Made}
-use Rattle.journal_spec.specs.Retaking.{script_for}
-use Rattle.journal_spec.specs.Lengths.{state_by}
+use Rattle.book_redo.specs.JournalSpec.Before.{Made}
+use Rattle.book_redo.specs.JournalSpec.Retaking.{script_for}
+use Rattle.book_redo.specs.JournalSpec.Lengths.{state_by}
 use Rattle.audit_spec.specs.Tests.{goes_on, is_admitted, runs_so, least_go, is_in_time}
 use Rattle.record_audit.specs.Faults.{IsMadeOf}
 

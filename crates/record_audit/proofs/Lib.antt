@@ -6,3 +6,4 @@ pub mod Beside
 pub mod Pages
 pub mod Compared
 pub mod Told
+pub use Rattle.audit_spec.proofs as AuditSpec

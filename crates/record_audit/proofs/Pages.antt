@@ -11,8 +11,8 @@ use Rattle.journal_records.specs.Fields as fields
 use Rattle.journal_records.specs.Reading.{change_from}
 use Rattle.journal_records.specs.Views.{origin_of, page_change}
 use Rattle.journal_records.specs.declared.records.PageRecord.{PageRecord}
-use Rattle.journal_spec.specs.Before.{Made}
-use Rattle.journal_spec.specs.Retaking.{unread}
+use Rattle.book_redo.specs.JournalSpec.Before.{Made}
+use Rattle.book_redo.specs.JournalSpec.Retaking.{unread}
 use Rattle.book_redo.proofs.Over.{page_number}
 use Rattle.audit_spec.specs.Tests.{goes_on, is_due, is_in_time, tells_state, tells_own}
 

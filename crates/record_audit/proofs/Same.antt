@@ -4,7 +4,7 @@ use Rattle.std.specs.Prelude.{◌↔◌, IsTrue}
 use Rattle.instance_cells.specs.Cells.{Effect}
 use Rattle.replay_spec.specs.Recovery.{are_effects}
 use Rattle.replay_spec.proofs.Tests.{effects_self}
-use Rattle.journal_spec.proofs.Remaking.{effects_mean}
+use Rattle.book_redo.proofs.JournalSpec.Remaking.{effects_mean}
 
 pub effects_test : (ds es : List Effect) (r : Bool) → (IsTrue r ↔ (ds ≡ es)) → r ≡ are_effects ds es
 effects_test ds es true h = sym (ap (are_effects ds) (sym (h.0 refl)) ∙ effects_self ds)

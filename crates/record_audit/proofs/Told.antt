@@ -14,10 +14,10 @@ use Rattle.server_limits.specs.Limits.{most_fuel}
 use Rattle.machine_states.specs.Machine.{Suspended}
 use Rattle.machine_states.specs.Views.{suspended_of}
 use Rattle.machine_states.specs.declared.frame.Suspended as stored
-use Rattle.journal_spec.specs.Before.{Made}
-use Rattle.journal_spec.specs.Retaking.{Told, told, script_for}
-use Rattle.journal_spec.specs.Lengths.{state_by, told_own}
-use Rattle.journal_spec.specs.Old.{told_at}
+use Rattle.book_redo.specs.JournalSpec.Before.{Made}
+use Rattle.book_redo.specs.JournalSpec.Retaking.{Told, told, script_for}
+use Rattle.book_redo.specs.JournalSpec.Lengths.{state_by, told_own}
+use Rattle.book_redo.specs.JournalSpec.Old.{told_at}
 use Rattle.instance_book.specs.declared.book.Book.{Book}
 use Rattle.instance_book.specs.Views.{Beside, book_of}
 use Rattle.instance_book.specs.Standing.{book_under}

@@ -2,7 +2,7 @@
 use Rattle.std.proofs.Common.{◌≡◌, ℕ, List, Bool, true, false, Option, Some, None, refl, not, if◌then◌else◌}
 use Rattle.replay_spec.specs.Book.{Change}
 use Rattle.replay_spec.specs.Recovery.{number_in, is_repeated}
-use Rattle.journal_spec.specs.Before.{Made}
+use Rattle.book_redo.specs.JournalSpec.Before.{Made}
 use Rattle.audit_spec.specs.declared.word.Word.{Word}
 use Rattle.audit_spec.specs.declared.word.Word.TheVariants as word
 use Rattle.audit_spec.specs.Tests.{goes_on, is_admitted, runs_so, least_go, is_in_time, tells_own}

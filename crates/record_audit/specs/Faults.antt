@@ -12,7 +12,7 @@ use Rattle.instance_book.specs.Orders.{numbers_of}
 use Rattle.instance_book.specs.Views.{Beside, book_of}
 use Rattle.instance_book.specs.Standing.{book_under}
 use Rattle.book_redo.specs.Redo.{HasToldStates}
-use Rattle.journal_spec.specs.Before.{Made}
+use Rattle.book_redo.specs.JournalSpec.Before.{Made}
 use Rattle.audit_spec.specs.declared.word.Word.{Word}
 use Rattle.audit_spec.specs.Tests.{are_numbers, least_go, tells_own}
 use Rattle.audit_spec.specs.Findings.{fault_of}

@@ -10,10 +10,10 @@ ghost use Rattle.audit_spec.specs.Tests.{runs_so};
 ghost use Rattle.record_audit.specs.Faults.{GoesLeast, GoLeast, TellsOwn};
 
 use crate::runs::script_at;
+use book_redo::{is_same_state, state_left, told_state};
 use book_visits::{first_to_go, why_not};
 use instance_book::{Book, InOrder, KeptPage, place_of_numbers};
 use journal_records::{Origin, PageRecord};
-use book_redo::{is_same_state, state_left, told_state};
 use script_nodes::Library;
 use server_limits::MOST_LIFE;
 use std::alloc::{AllocError, Global};

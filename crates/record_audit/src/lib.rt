@@ -9,4 +9,5 @@ mod home;
 mod runs;
 mod so;
 
+pub use audit_spec::Word;
 pub use fault::fault_in;

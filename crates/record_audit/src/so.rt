@@ -7,9 +7,9 @@ ghost use Rattle.journal_records.specs.Views.{effects_in};
 ghost use Rattle.audit_spec.specs.Tests.{ends_so, finishes_so};
 ghost use Rattle.record_audit.specs.Runs.{is_shown};
 
+use book_redo::are_same_effects;
 use instance_cells::Effect;
 use journal_records::{EndedRecord, FinishRecord, PageRecord};
-use book_redo::are_same_effects;
 use script_nodes::SendKind;
 use script_value::TxName;
 use segments::{PlainEnd, Rerun};

@@ -3,7 +3,7 @@ use Rattle.std.proofs.Common.{◌≡◌, ℕ, zero, suc, ◌+◌, ◌==◌, ◌<
 use Rattle.std.proofs.lemmas.Bool.Decides.{nat_tests}
 use Rattle.script_value.specs.Val.{Val, truth}
 use Rattle.script_value.specs.declared.outcome.TxName.{TxName}
-use Rattle.prim_spec.specs.Table.{is_false, value_of}
+use Rattle.script_nodes.specs.PrimSpec.Table.{is_false, value_of}
 use Rattle.script_nodes.specs.Core.{Core, Cores, lit, var, bind, branch, repeat, prim, call, seq, and_all, or_any, send, finish, back, isolate, cell_ref, cell_shadow, inst_ref, inst_set, inst_add, no_cores, core}
 use Rattle.script_nodes.specs.declared.script.Node.{Node}
 use Rattle.script_nodes.specs.Calls.{CallsBelow, AllCallBelow, AreBelow}

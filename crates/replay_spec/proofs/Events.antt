@@ -2,7 +2,7 @@
 use Rattle.std.proofs.Common.{◌≡◌, ◌==◌, ℕ, List, [], Option, Some, None, Bool, not, refl, sym, ap, subst, ◌∙◌, ⊎_elim, slice_get, arith}
 use Rattle.std.specs.Prelude.{nat_le, if◌then◌else◌}
 use Rattle.script_value.specs.declared.outcome.TxName.{TxName}
-use Rattle.page_names.specs.Names.{Destination}
+use Rattle.script_nodes.specs.PageNames.Names.{Destination}
 use Rattle.script_nodes.specs.Setup.{Named}
 use Rattle.replay_spec.specs.Book.{Instance, Opening, Change, opens, extends, ends, finishes, sweeps, Book, is_live, instance_at, spend}
 use Rattle.replay_spec.specs.Rules.{Rules}

@@ -5,8 +5,8 @@ use Rattle.std.proofs.lemmas.Option.{same_Some}
 use Rattle.script_value.specs.declared.outcome.TxName.{TxName}
 use Rattle.script_value.specs.declared.outcome.Refusal.{Refusal}
 use Rattle.script_value.specs.declared.outcome.Refusal.TheVariants.{Revoked, Expired}
-use Rattle.page_names.specs.Names.{page}
-use Rattle.page_names.specs.declared.names.PageName.{PageName}
+use Rattle.script_nodes.specs.PageNames.Names.{page}
+use Rattle.script_nodes.specs.PageNames.declared.names.PageName.{PageName}
 use Rattle.script_nodes.specs.Setup.{Named}
 use Rattle.replay_spec.specs.Names.{first_closed}
 use Rattle.replay_spec.specs.Book.{Eviction, Instance, Opening, Extension, Change, opens, extends, ends, finishes, sweeps, Book, is_live, instance_at, evictor, is_expired}

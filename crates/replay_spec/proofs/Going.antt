@@ -3,7 +3,7 @@ use Rattle.std.proofs.Common.{◌≡◌, ◌<◌, ℕ, List, [], Option, Some, N
 use Rattle.std.specs.Prelude.{nat_le, nat_lt, if◌then◌else◌, ◌+◌, length, ⊤}
 use Rattle.std.proofs.lemmas.Bool.Decides.{nat_tests}
 use Rattle.script_value.specs.declared.outcome.TxName.{TxName}
-use Rattle.page_names.specs.Names.{Destination}
+use Rattle.script_nodes.specs.PageNames.Names.{Destination}
 use Rattle.script_nodes.specs.Setup.{Named}
 use Rattle.replay_spec.specs.Book.{Change, sweeps, Doubt, Book, Work, landing, compacting, draw, spend}
 use Rattle.replay_spec.specs.Rules.{Rules}

@@ -5,7 +5,7 @@ use Rattle.std.proofs.lemmas.Bool.Decides.{nat_tests}
 use Rattle.script_value.specs.Val.{Val}
 use Rattle.script_value.specs.declared.outcome.TxName.{TxName}
 use Rattle.script_value.specs.declared.outcome.Refusal.{Refusal}
-use Rattle.page_names.specs.Names.{Destination}
+use Rattle.script_nodes.specs.PageNames.Names.{Destination}
 use Rattle.script_nodes.specs.Setup.{Named}
 use Rattle.replay_spec.specs.Tape.{present, How, shows, finishes, ends, Outcome, paged}
 use Rattle.replay_spec.specs.Tape as tape

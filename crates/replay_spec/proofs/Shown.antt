@@ -6,7 +6,7 @@ use Rattle.std.proofs.lemmas.Bool.Decides.{nat_tests}
 use Rattle.std.proofs.lemmas.Bool.{and_from}
 use Rattle.std.proofs.lemmas.Slice.Eq.{bytes_eq-Decides}
 use Rattle.script_value.specs.declared.outcome.TxName.{TxName}
-use Rattle.page_names.specs.declared.names.PageName.{PageName}
+use Rattle.script_nodes.specs.PageNames.declared.names.PageName.{PageName}
 use Rattle.script_nodes.specs.Setup.{Named}
 use Rattle.script_nodes.specs.declared.script.SendKind.{SendKind}
 use Rattle.replay_spec.specs.Names.{first_closed}

@@ -1,7 +1,7 @@
 -- What holds of pages that go for others.
 use Rattle.std.specs.Prelude.{◌≡◌, ◌⊎◌, ◌≤◌, ◌<◌, ℕ, List, ◌+◌, length, filter, not, Option, Some, None, true, false, ⊤}
-use Rattle.page_names.specs.Names.{page}
-use Rattle.page_names.specs.declared.names.PageName.{PageName}
+use Rattle.script_nodes.specs.PageNames.Names.{page}
+use Rattle.script_nodes.specs.PageNames.declared.names.PageName.{PageName}
 use Rattle.script_nodes.specs.Setup.{Named}
 use Rattle.replay_spec.specs.Book.{Use, Instance, Extension, Change, extends, Work, landing, compacting, Doubt, Book, instance_at, at_number, evictor, is_evicted}
 use Rattle.replay_spec.specs.Rules.{Rules, empty_book}

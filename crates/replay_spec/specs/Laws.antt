@@ -3,8 +3,8 @@ use Rattle.std.specs.Prelude.{◌≡◌, ◌⊎◌, ◌≤◌, ◌<◌, ◌-◌,
 use Rattle.script_value.specs.Val.{Val}
 use Rattle.script_value.specs.declared.outcome.TxName.{TxName}
 use Rattle.script_value.specs.declared.outcome.Refusal.TheVariants.{Unknown, Revoked, Closed}
-use Rattle.page_names.specs.Names.{Destination, start, page}
-use Rattle.page_names.specs.declared.names.PageName.{PageName}
+use Rattle.script_nodes.specs.PageNames.Names.{Destination, start, page}
+use Rattle.script_nodes.specs.PageNames.declared.names.PageName.{PageName}
 use Rattle.instance_cells.specs.Cells.{Holds, AreOn, reads_of}
 use Rattle.script_nodes.specs.Core.{AllOnCells}
 use Rattle.script_nodes.specs.declared.script.SendKind.TheVariants.{Forward}

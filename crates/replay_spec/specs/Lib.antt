@@ -25,3 +25,4 @@ pub mod Remade
 pub mod Evicting
 pub mod Migration
 pub mod Marks
+pub use Rattle.page_spec.specs as PageSpec

@@ -2,8 +2,8 @@
 use Rattle.std.specs.Prelude.{◌≡◌, ◌⊎◌, ◌≤◌, ◌<◌, ◌-◌, ◌^◌, ℕ, List, Some, None, true, ⊤}
 use Rattle.std.specs.List.{list_all}
 use Rattle.script_value.specs.declared.outcome.TxName.{TxName}
-use Rattle.page_names.specs.Names.{Destination, page, spelling}
-use Rattle.page_names.specs.declared.names.PageName.{PageName}
+use Rattle.script_nodes.specs.PageNames.Names.{Destination, page, spelling}
+use Rattle.script_nodes.specs.PageNames.declared.names.PageName.{PageName}
 use Rattle.script_value.specs.Val.{Val}
 use Rattle.replay_spec.specs.Tape.{present, Outcome, paged, faulted}
 use Rattle.replay_spec.specs.Tape as tape

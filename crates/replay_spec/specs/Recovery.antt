@@ -3,8 +3,8 @@ use Rattle.std.specs.Prelude.{ℕ, max, ◌+◌, ◌==◌, ◌&&◌, Bool, true,
 use Rattle.std.specs.Ordering.{int_eq}
 use Rattle.script_value.specs.Val.{Val, list, no_vals}
 use Rattle.script_value.specs.declared.outcome.TxName.{TxName}
-use Rattle.prim_spec.specs.Same.{same}
-use Rattle.page_names.specs.Names.{start}
+use Rattle.script_nodes.specs.PrimSpec.Same.{same}
+use Rattle.script_nodes.specs.PageNames.Names.{start}
 use Rattle.instance_cells.specs.Cells.{Effect, read, set, add, cell_of, cell_at, sum, landed}
 use Rattle.script_nodes.specs.declared.script.SendKind.{SendKind}
 use Rattle.script_nodes.specs.declared.script.SendKind.TheVariants.{Suspend, Forward}

@@ -3,7 +3,7 @@ use Rattle.std.specs.Prelude.{◌≡◌, ℕ, pos, negsuc, List, [], ◌∷◌, 
 use Rattle.script_value.specs.Val.{Val, number, text, list, no_vals}
 use Rattle.script_value.specs.declared.outcome.Op.TheVariants as op
 use Rattle.script_value.specs.declared.outcome.TxName.{TxName}
-use Rattle.page_names.specs.Names.{Destination, page}
+use Rattle.script_nodes.specs.PageNames.Names.{Destination, page}
 use Rattle.script_nodes.specs.declared.script.SendKind.TheVariants.{Suspend, Forward}
 use Rattle.script_nodes.specs.Core.{Core, lit, var, bind, seq, branch, prim, send, finish, isolate, cell_ref, cell_shadow, inst_ref, inst_set, inst_add, no_cores, cores_of}
 use Rattle.script_nodes.specs.Setup.{Named}

@@ -3,7 +3,7 @@ use Rattle.std.specs.Prelude.{◌≡◌, ◌-◌, ◌^◌, false, List, [], ◌�
 use Rattle.std.specs.Fmt.{digits}
 use Rattle.script_value.specs.Val.{truth, text}
 use Rattle.script_value.specs.declared.outcome.Refusal.TheVariants.{Unknown, Revoked, Closed, Evicted, Expired}
-use Rattle.page_names.specs.Names.{start}
+use Rattle.script_nodes.specs.PageNames.Names.{start}
 use Rattle.script_nodes.specs.Core.{isolate}
 use Rattle.replay_spec.specs.Runs.{after}
 use Rattle.replay_spec.specs.Rules.{empty_book}

@@ -1,7 +1,7 @@
 -- Worked rows of files: they are compacted, tell another setup, and are read again.
 use Rattle.std.specs.Prelude.{◌≡◌, ℕ, ◌+◌, ◌*◌, ◌-◌, ◌^◌, List, [], ◌∷◌, ◌++◌, Some, codes, refl}
 use Rattle.script_value.specs.Val.{text}
-use Rattle.page_names.specs.Names.{start}
+use Rattle.script_nodes.specs.PageNames.Names.{start}
 use Rattle.script_nodes.specs.Setup.{Named}
 use Rattle.replay_spec.specs.Book.{Change, sweeps, Book, reopened}
 use Rattle.replay_spec.specs.Rules.{Rules}

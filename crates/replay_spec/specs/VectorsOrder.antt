@@ -6,8 +6,8 @@ use Rattle.script_value.specs.declared.outcome.Op.TheVariants as op
 use Rattle.script_value.specs.declared.outcome.Fault.TheVariants.{NotPage}
 use Rattle.script_value.specs.declared.outcome.Refusal.TheVariants.{Unknown, Revoked, Closed, Evicted, Expired}
 use Rattle.script_value.specs.declared.outcome.TxName.{TxName}
-use Rattle.page_names.specs.Names.{Destination, start, page}
-use Rattle.page_names.specs.Hex.{hex16}
+use Rattle.script_nodes.specs.PageNames.Names.{Destination, start, page}
+use Rattle.script_nodes.specs.PageNames.Hex.{hex16}
 use Rattle.script_nodes.specs.declared.script.SendKind.TheVariants.{Suspend}
 use Rattle.script_nodes.specs.Core.{lit, var, bind, prim, send, no_cores, cores_of}
 use Rattle.script_nodes.specs.Setup.{Named}

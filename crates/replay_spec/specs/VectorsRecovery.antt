@@ -3,7 +3,7 @@ use Rattle.std.specs.Prelude.{◌≡◌, ℕ, ◌+◌, pos, negsuc, List, [], �
 use Rattle.script_value.specs.Val.{number, text}
 use Rattle.script_value.specs.declared.outcome.TxName.{TxName}
 use Rattle.script_value.specs.declared.outcome.Refusal.TheVariants.{Unknown}
-use Rattle.page_names.specs.Names.{start}
+use Rattle.script_nodes.specs.PageNames.Names.{start}
 use Rattle.instance_cells.specs.Cells.{Effect, read, set, add}
 use Rattle.script_nodes.specs.declared.script.SendKind.{SendKind}
 use Rattle.script_nodes.specs.declared.script.SendKind.TheVariants.{Suspend, Forward}

@@ -4,7 +4,7 @@ use Rattle.std.specs.Fmt.{digits}
 use Rattle.script_value.specs.Val.{Val, number, text, symbol, list, no_vals, val}
 use Rattle.script_value.specs.declared.outcome.Op.TheVariants as op
 use Rattle.script_value.specs.declared.outcome.Refusal.TheVariants.{Closed}
-use Rattle.page_names.specs.Names.{start}
+use Rattle.script_nodes.specs.PageNames.Names.{start}
 use Rattle.script_nodes.specs.declared.script.SendKind.TheVariants.{Suspend}
 use Rattle.script_nodes.specs.Core.{Core, lit, var, bind, seq, prim, call, send, isolate, inst_ref, inst_add, no_cores, cores_of}
 use Rattle.script_nodes.specs.Setup.{Script, Named}

@@ -7,3 +7,5 @@ pub mod Arena
 pub mod Readings
 pub mod Setup
 pub mod Views
+pub use Rattle.prim_spec.specs as PrimSpec
+pub use Rattle.page_names.specs as PageNames

@@ -5,7 +5,7 @@ use Rattle.segment_progress.specs.declared.halt.Halt.{Halt}
 use Rattle.segment_progress.specs.declared.halt.Halt.TheVariants.{Memory, Stopped}
 use Rattle.segment_progress.specs.declared.halt.How.{How}
 use Rattle.segment_progress.specs.declared.halt.How.TheVariants.{Shows, Finishes, Ends}
-use Rattle.replay_spec.specs.Tape as spec
+use Rattle.segments.specs.ReplaySpec.Tape as spec
 
 abbrev pub how_of : How → spec.How
 how_of (Shows kind) = spec.shows kind

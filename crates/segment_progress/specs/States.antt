@@ -18,7 +18,7 @@ use Rattle.segment_progress.specs.declared.progress.Source.TheVariants as source
 use Rattle.segment_progress.specs.declared.progress.Next.{Next}
 use Rattle.segment_progress.specs.declared.progress.Rest.{Rest}
 use Rattle.segment_progress.specs.declared.progress.Progress.{Progress}
-use Rattle.replay_spec.specs.Tape as spec
+use Rattle.segments.specs.ReplaySpec.Tape as spec
 
 -- the reads that a source still has
 abbrev pub reads_left : Source → spec.Reads

@@ -1,7 +1,7 @@
 ghost use Rattle.std.specs.Prelude.{◌≡◌};
 ghost use Rattle.script_value.specs.Views.{meaning};
 ghost use Rattle.page_spec.specs.Page.{page_of};
-ghost use Rattle.replay_spec.specs.Tape.{page_stop};
+ghost use Rattle.segments.specs.ReplaySpec.Tape.{page_stop};
 ghost use Rattle.segment_progress.specs.Halts.{how_of, HaltsAs};
 ghost use Rattle.segment_progress.specs.declared.halt.Halt.TheVariants.{Memory, Stopped};
 ghost use Rattle.segments.specs.declared.ends.PlainEnd.TheVariants.{Faulted};

@@ -6,9 +6,9 @@ ghost use Rattle.instance_cells.specs.Views.{effect_of};
 ghost use Rattle.web_cells.specs.Shadows.{binding};
 ghost use Rattle.script_nodes.specs.Core.{cell_ref, inst_ref};
 ghost use Rattle.segments.specs.Views.{source_of, now_of, tape_of, outcome_of, segment_of};
-ghost use Rattle.replay_spec.specs.Tape as tape;
-ghost use Rattle.replay_spec.specs.Tape.{begin, begins, charge, send_page, enter, leave, shadow, read_cell, set_cell, add_cell};
-ghost use Rattle.replay_spec.specs.Eval.{copied, eval, no_calls, segment_at};
+ghost use Rattle.segments.specs.ReplaySpec.Tape as tape;
+ghost use Rattle.segments.specs.ReplaySpec.Tape.{begin, begins, charge, send_page, enter, leave, shadow, read_cell, set_cell, add_cell};
+ghost use Rattle.segments.specs.ReplaySpec.Eval.{copied, eval, no_calls, segment_at};
 ghost use Rattle.segment_progress.specs.States.{reads_left, effects_left, left_in, state_of, inside_of, found, Pops, Acts, Does, Ends, TellsStop, TellsNoPage};
 
 use crate::halt::{Halt, How, halt_at};

@@ -1,7 +1,7 @@
 ghost use Rattle.std.specs.Prelude.{◌≡◌, ◌<◌, ◌^◌, length, IfOk, IsTrue};
 ghost use Rattle.script_value.specs.Views.{meaning};
 ghost use Rattle.prim_spec.specs.Table.{is_false, takes, value_of};
-ghost use Rattle.replay_spec.specs.Tape.{answer, as_number};
+ghost use Rattle.segments.specs.ReplaySpec.Tape.{answer, as_number};
 ghost use Rattle.segment_progress.specs.Counts.{count_of};
 ghost use Rattle.segment_progress.specs.States.{state_of, inside_of, Gives, TellsStop};
 ghost use Rattle.segment_progress.specs.declared.progress.Progress.{Progress as Steps};

@@ -1,1 +1,2 @@
 pub mod Views
+pub use Rattle.replay_spec.specs as ReplaySpec

@@ -15,8 +15,8 @@ use Rattle.script_nodes.specs.declared.script.Node.TheVariants as node
 use Rattle.script_nodes.specs.declared.script.SendKind.{SendKind}
 use Rattle.script_nodes.specs.Arena.{Arena, IsScript, IsOnCells}
 use Rattle.script_nodes.proofs.Scripts.{node_on_cells}
-use Rattle.replay_spec.specs.Tape.{Reads, present, Answer, State, Outcome, End, got, stop, Run, after, ◌>>=◌, give, answer, choose, bound, is_over, charged, charge, url, sent, send_page, named, enter, lookup, read_from, read_cell, set_in, note, added, add_to, add_in, as_number}
-use Rattle.replay_spec.specs.Eval.{value_at, copied, is_not_false}
+use Rattle.segments.specs.ReplaySpec.Tape.{Reads, present, Answer, State, Outcome, End, got, stop, Run, after, ◌>>=◌, give, answer, choose, bound, is_over, charged, charge, url, sent, send_page, named, enter, lookup, read_from, read_cell, set_in, note, added, add_to, add_in, as_number}
+use Rattle.segments.specs.ReplaySpec.Eval.{value_at, copied, is_not_false}
 use Rattle.machine_states.specs.Machine.{Control, visit, value, Frame, in_binding, in_operand, in_body, in_seq, in_and, in_or, in_if, in_count, in_store, in_turn, in_isolate, in_call, in_task, in_page, in_finish, in_back, Point, inside_of, visits, gives, given, cut, node_at, part_at, parts_from, bindings_from, body_at, store_by, next_binding, next_part, next_operand, next_argument, next_turn, first_turn, visited, taken, next, Suspended, Machine, Step, goes, stopped, stepped, step, then, steps}
 
 holds_push : (es : List Effect) (e : Effect) (cells : List Val) → Holds es cells → Stands e (cell_at (commit es cells) (cell_of e)) → Holds (es ++ e ∷ []) cells

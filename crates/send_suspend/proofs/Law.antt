@@ -10,11 +10,11 @@ use Rattle.web_cells.specs.Shadows.{bound_to}
 use Rattle.web_cells.specs.Own.{BindsAllOf}
 use Rattle.web_cells.proofs.Shadowed.{rise}
 use Rattle.script_nodes.specs.Arena.{Arena, IsScript, script_of}
-use Rattle.replay_spec.specs.Tape.{Answer, Reads, recorded, present, State, Tape}
-use Rattle.replay_spec.specs.Tape as spec
-use Rattle.replay_spec.specs.Eval as eval
-use Rattle.replay_spec.specs.Eval.{segment_at}
-use Rattle.replay_spec.specs.Laws.{Waits, reading, longer}
+use Rattle.segments.specs.ReplaySpec.Tape.{Answer, Reads, recorded, present, State, Tape}
+use Rattle.segments.specs.ReplaySpec.Tape as spec
+use Rattle.segments.specs.ReplaySpec.Eval as eval
+use Rattle.segments.specs.ReplaySpec.Eval.{segment_at}
+use Rattle.segments.specs.ReplaySpec.Laws.{Waits, reading, longer}
 use Rattle.machine_states.specs.Machine.{Machine, Suspended, Step, goes, stopped, step, then, steps, inside_of}
 use Rattle.machine_states.specs.Fits.{FitsAt, Fits}
 use Rattle.machine_states.specs.Dues.{InSegment, owed}

@@ -9,9 +9,9 @@ use Rattle.instance_cells.specs.Cells.{AreOn, Holds, reads_of}
 use Rattle.instance_cells.specs.Views.{effect_of}
 use Rattle.segments.specs.declared.ends.PlainEnd.{PlainEnd}
 use Rattle.segments.specs.Views as plain
-use Rattle.replay_spec.specs.Tape.{Answer, Reads, recorded, present, Tape}
-use Rattle.replay_spec.specs.Eval as eval
-use Rattle.replay_spec.specs.Laws.{reading, longer}
+use Rattle.segments.specs.ReplaySpec.Tape.{Answer, Reads, recorded, present, Tape}
+use Rattle.segments.specs.ReplaySpec.Eval as eval
+use Rattle.segments.specs.ReplaySpec.Laws.{reading, longer}
 use Rattle.machine_states.specs.Machine as machine
 use Rattle.machine_states.specs.Machine.{inside_of}
 use Rattle.machine_states.specs.Fits.{Fits}

@@ -14,7 +14,7 @@ use Rattle.web_disk.specs.declared.rack.RackFault.TheVariants as rack_fault
 use Rattle.trio_rack.specs.Trios.{shelves_of}
 use Rattle.trio_rack.proofs.Each.{each_more}
 use Rattle.trio_rack.proofs.Homes.{disks_home, shelves_home}
-use Rattle.audit_spec.specs.Findings.{Answer, no, yes}
+use Rattle.page_audit.specs.AuditSpec.Findings.{Answer, no, yes}
 use Rattle.page_audit.specs.Audits.{IsAnswer, audit_of}
 use Rattle.page_audit.specs.declared.answer.Audited.{Audited}
 use Rattle.page_audit.specs.declared.answer.Audited.TheVariants as answer

@@ -8,7 +8,7 @@ use Rattle.script_nodes.specs.Setup.{Named}
 use Rattle.replay_spec.specs.Rules.{Rules}
 use Rattle.page_journal.specs.Records.{format_of}
 use Rattle.setup_reader.specs.Texts.{setup_of_texts}
-use Rattle.audit_spec.proofs.OwnImage.{own_image}
+use Rattle.page_audit.proofs.AuditSpec.OwnImage.{own_image}
 use Rattle.page_audit.specs.Audits.{audit_by}
 use Rattle.site_serving.specs.Shelves.{IsOwnImage, IsOwnOpening, Opening}
 use Rattle.server_command.specs.Auditing.{HoldYes, IsYes}

@@ -3,7 +3,7 @@ use Rattle.web_outside.specs.Causes.{Rose}
 use Rattle.std.proofs.Common.{◌≡◌, ◌<◌, ◌≤◌, ◌∙◌, inl, inr, ℕ, List, length, Option, Some, ap, subst}
 use Rattle.trio_rack.specs.Trios.{MayBeBare, shelves_of}
 use Rattle.command_words.specs.declared.Options.{Options}
-use Rattle.journal_spec.specs.Lengths.{journal_rules}
+use Rattle.page_audit.specs.JournalSpec.Lengths.{journal_rules}
 use Rattle.script_nodes.specs.Setup.{Named}
 use Rattle.site_serving.specs.Shelves.{Rules}
 use Rattle.play_steps.specs.Step.{Step}

@@ -12,12 +12,12 @@ use Rattle.replay_spec.specs.Book.{Book}
 use Rattle.replay_spec.specs.Rules as spec
 use Rattle.page_journal.specs.Opened.{TellsFormat}
 use Rattle.page_journal.specs.Records.{at_rest, format_of, stored}
-use Rattle.journal_spec.specs.Bytes.{book_in_bytes}
-use Rattle.journal_spec.specs.Making.{Making}
-use Rattle.journal_spec.specs.Opening.{opened_on}
+use Rattle.page_audit.specs.JournalSpec.Bytes.{book_in_bytes}
+use Rattle.page_audit.specs.JournalSpec.Making.{Making}
+use Rattle.page_audit.specs.JournalSpec.Opening.{opened_on}
 use Rattle.site_serving.specs.Shelves.{IsTooLongAnew}
 use Rattle.site_serving.specs.Shelves.{HoldsAtRest, IsTooLongBehind, bodies_after, now_in_bytes}
-use Rattle.journal_spec.specs.Standing.{Stands}
+use Rattle.page_audit.specs.JournalSpec.Standing.{Stands}
 use Rattle.lock_row.proofs.Places.{get_there, map_get}
 use Rattle.site_serving.specs.Shelves as site
 use Rattle.site_serving.specs.Shelves.fault

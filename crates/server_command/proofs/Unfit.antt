@@ -10,12 +10,12 @@ use Rattle.page_journal.specs.Records as log
 use Rattle.page_journal.specs.Records.{Log, at_rest, behind, bodies_of, format_of, framed, frames, is_format, magic, newest, records, records_behind, records_from, stored, with_first}
 use Rattle.page_journal.proofs.Frames.{length-at_rest, length-framed}
 use Rattle.replay_spec.specs.Book.{Book}
-use Rattle.journal_spec.specs.Before.{Made}
-use Rattle.journal_spec.specs.Making.{Making, nothing, begun, made, damaged, other, made_in}
-use Rattle.journal_spec.specs.Old.{book_of_format}
-use Rattle.journal_spec.specs.Bytes.{book_in_bytes, by_log}
-use Rattle.journal_spec.specs.Opening.{opened_on}
-use Rattle.journal_spec.specs.Standing.{IsMadeBook}
+use Rattle.page_audit.specs.JournalSpec.Before.{Made}
+use Rattle.page_audit.specs.JournalSpec.Making.{Making, nothing, begun, made, damaged, other, made_in}
+use Rattle.page_audit.specs.JournalSpec.Old.{book_of_format}
+use Rattle.page_audit.specs.JournalSpec.Bytes.{book_in_bytes, by_log}
+use Rattle.page_audit.specs.JournalSpec.Opening.{opened_on}
+use Rattle.page_audit.specs.JournalSpec.Standing.{IsMadeBook}
 use Rattle.site_serving.specs.Shelves.{IsTooLongAnew, bodies_by, making_by}
 use Rattle.site_serving.specs.Shelves.{IsTooLongBehind, bodies_after, now_by_log, now_in_bytes}
 use Rattle.server_command.specs.Racks.{Unfit, full, unfit_file, unfit_left, unfit_length, unfit_made, unfit_read}

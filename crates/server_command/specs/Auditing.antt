@@ -8,9 +8,9 @@ use Rattle.web_disk.specs.View.{RackView, AreAmong}
 use Rattle.web_disk.specs.declared.rack.RackFault.{RackFault}
 use Rattle.web_disk.specs.declared.rack.RackFault.TheVariants as rack_fault
 use Rattle.trio_rack.specs.Trios.{shelves_of}
-use Rattle.audit_spec.specs.Findings.{Answer, Finding, is_damaged, no, yes}
-use Rattle.audit_spec.specs.declared.word.Word.{Word}
-use Rattle.audit_spec.specs.declared.word.Word.TheVariants as word
+use Rattle.page_audit.specs.AuditSpec.Findings.{Answer, Finding, is_damaged, no, yes}
+use Rattle.page_audit.specs.AuditSpec.declared.word.Word.{Word}
+use Rattle.page_audit.specs.AuditSpec.declared.word.Word.TheVariants as word
 use Rattle.page_audit.specs.Audits.{audit_of}
 use Rattle.page_audit.specs.declared.answer.Audited.{Audited}
 use Rattle.page_audit.specs.declared.answer.Audited.TheVariants as answer

@@ -23,7 +23,7 @@ use Rattle.measured_run.specs.Generator.{source_of}
 use Rattle.measured_run.specs.Drawing.{most_steps, run_drawn}
 use Rattle.measured_run.specs.Counting.{line_for}
 use Rattle.measured_run.specs.Setups.{load_scripts}
-use Rattle.journal_spec.specs.Lengths.{journal_rules}
+use Rattle.page_audit.specs.JournalSpec.Lengths.{journal_rules}
 use Rattle.play_desk.specs.Desk.{Desk, first_desk, desk_rules}
 use Rattle.server_command.specs.declared.program.Status.{Status}
 use Rattle.server_command.specs.declared.program.Status.TheVariants as status

@@ -9,12 +9,12 @@ use Rattle.script_nodes.specs.Setup.{Named}
 use Rattle.setup_reader.specs.Texts.{setup_of_texts}
 use Rattle.page_journal.specs.Records.{Intact, records, at_rest, stored}
 use Rattle.replay_spec.specs.Book.{Book}
-use Rattle.journal_spec.specs.Before.{Made}
-use Rattle.journal_spec.specs.Making as making
-use Rattle.journal_spec.specs.Making.{Making}
-use Rattle.journal_spec.specs.Bytes.{book_in_bytes}
-use Rattle.journal_spec.specs.Opening.{opened_on}
-use Rattle.journal_spec.specs.Standing.{Between, HoldIn, if_kept}
+use Rattle.page_audit.specs.JournalSpec.Before.{Made}
+use Rattle.page_audit.specs.JournalSpec.Making as making
+use Rattle.page_audit.specs.JournalSpec.Making.{Making}
+use Rattle.page_audit.specs.JournalSpec.Bytes.{book_in_bytes}
+use Rattle.page_audit.specs.JournalSpec.Opening.{opened_on}
+use Rattle.page_audit.specs.JournalSpec.Standing.{Between, HoldIn, if_kept}
 use Rattle.site_serving.specs.Shelves.{bodies_after, now_in_bytes}
 use Rattle.play_desk.specs.Asking.{AsksForAll, AsksForFirst, AsksForNone, AsksUntil}
 use Rattle.play_desk.specs.Opening.{AreHome, FailedFor, IsKept, IsReadAtRest}

@@ -15,8 +15,8 @@ use Rattle.setup_reader.specs.Setup.{Parsed, setup_of}
 use Rattle.replay_spec.specs.Book.{reopened}
 use Rattle.page_journal.specs.Records.{at_rest}
 use Rattle.replay_spec.specs.Rules.{Rules}
-use Rattle.journal_spec.specs.Opening.{opened_on}
-use Rattle.journal_spec.specs.Standing.{IsMadeBook}
+use Rattle.page_audit.specs.JournalSpec.Opening.{opened_on}
+use Rattle.page_audit.specs.JournalSpec.Standing.{IsMadeBook}
 use Rattle.request_workers.specs.Counting.{Count}
 use Rattle.request_workers.specs.Tallies.{count_of}
 use Rattle.request_workers.specs.declared.tally.Tally.{Tally}

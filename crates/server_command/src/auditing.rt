@@ -8,9 +8,8 @@ ghost use Rattle.server_command.specs.Racks.{AreBack, racks_of};
 
 use crate::program::Status;
 use crate::telling::{hand_on, tell_audited, tell_end};
-use audit_spec::Word;
 use command_words::{AuditOptions, Service};
-use page_audit::{AuditFault, Audited, audit};
+use page_audit::{AuditFault, Audited, Word, audit};
 use std::alloc::Global;
 use trio_rack::{give_trio, take_trio};
 use web_disk::{Disk, Rack, RackFault};

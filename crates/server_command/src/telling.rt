@@ -16,7 +16,7 @@ ghost use Rattle.server_command.specs.Telling.{TellsOutcome, TellsUnopened, unop
 use crate::auditing::{AuditCause, AuditEnd};
 use crate::program::Status;
 use crate::serving::ServeFault;
-use audit_spec::Word;
+use page_audit::Word;
 use play_desk::{OpenCause, OpenFault};
 use request_workers::Tally;
 use script_nodes::Setup;

@@ -8,7 +8,7 @@ use Rattle.replay_spec.specs.Book.{Page, Instance, instance_at, page_at, parent_
 use Rattle.replay_spec.specs.Invariant.{Apart, AreAncestors}
 use Rattle.replay_spec.proofs.Numbered.{number_of}
 use Rattle.machine_states.specs.Machine.{Suspended}
-use Rattle.kept_states.specs.Kept.{Kept}
+use Rattle.instance_book.specs.KeptStates.Kept.{Kept}
 use Rattle.instance_book.specs.declared.numbered.Numbered.{Numbered}
 use Rattle.instance_book.specs.declared.page.KeptPage.{KeptPage}
 use Rattle.instance_book.specs.declared.instance.KeptInstance.{KeptInstance}

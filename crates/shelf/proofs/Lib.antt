@@ -49,3 +49,4 @@ pub mod Rewritten
 pub mod Migrated
 pub mod Moving
 pub mod Throughout
+pub use Rattle.journal_spec.proofs as JournalSpec

@@ -27,7 +27,7 @@ use Rattle.machine_states.specs.declared.segment.Origin.TheVariants as origin
 use Rattle.machine_states.specs.declared.segment.Outcome.{Outcome}
 use Rattle.machine_states.specs.declared.segment.Outcome.TheVariants.{Shown, Finished, Ended, Faulted, Fuel}
 use Rattle.machine_states.specs.declared.segment.Segment.{Segment}
-use Rattle.send_suspend.specs.Segments.{newest, FitsFrom, Replays, bindings_in, AreBindings, IsConsistent}
+use Rattle.visit_runs.specs.SendSuspend.Segments.{newest, FitsFrom, Replays, bindings_in, AreBindings, IsConsistent}
 use Rattle.book_visits.specs.declared.ticket.Ticket.{Ticket}
 use Rattle.book_visits.specs.Views.{ticket_of}
 use Rattle.script_nodes.proofs.Scripts.{arena_again}

@@ -20,9 +20,9 @@ use Rattle.machine_states.specs.Views.{segment_of, origin_of, suspended_of, stat
 use Rattle.machine_states.specs.declared.segment.Outcome.{Outcome}
 use Rattle.machine_states.specs.declared.segment.Outcome.TheVariants.{Shown, Finished, Ended, Faulted, Fuel}
 use Rattle.machine_states.specs.declared.segment.Segment.{Segment}
-use Rattle.frame_codec.specs.Spelling.{StateHasBytes}
-use Rattle.frame_codec.specs.Forms.{RisesBefore}
-use Rattle.kept_states.specs.Links.{behind_at}
+use Rattle.instance_book.specs.FrameCodec.Spelling.{StateHasBytes}
+use Rattle.instance_book.specs.FrameCodec.Forms.{RisesBefore}
+use Rattle.instance_book.specs.KeptStates.Links.{behind_at}
 use Rattle.journal_spec.specs.Before.{state_at, Earlier, links_behind, before_told}
 use Rattle.instance_book.specs.declared.book.Book as kept
 use Rattle.instance_book.specs.declared.in_order.InOrder.{InOrder}
@@ -32,7 +32,7 @@ use Rattle.instance_book.specs.declared.change.Extension.{Extension}
 use Rattle.instance_book.specs.declared.change.Change.{Change}
 use Rattle.instance_book.specs.declared.change.Change.TheVariants.{Opens, Extends, Ends, Finishes}
 use Rattle.book_visits.specs.declared.ticket.Ticket.{Ticket}
-use Rattle.kept_states.specs.Kept.{IsKeptFrom}
+use Rattle.instance_book.specs.KeptStates.Kept.{IsKeptFrom}
 use Rattle.instance_book.specs.Places.{given, arena_of, kept_at}
 use Rattle.instance_book.specs.Standing.{script_at}
 use Rattle.instance_book.specs.Views.{Beside, book_of, instances_of}

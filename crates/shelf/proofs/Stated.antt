@@ -26,7 +26,7 @@ use Rattle.machine_states.specs.Laws.{started, Stops, IsStateOf}
 use Rattle.machine_states.proofs.Halting.{script_stop}
 use Rattle.machine_states.proofs.Law.{page_is_inside}
 use Rattle.machine_states.proofs.Replay.{stops_as_run, one_state}
-use Rattle.kept_states.specs.Links.{links_at, behind_at}
+use Rattle.instance_book.specs.KeptStates.Links.{links_at, behind_at}
 use Rattle.machine_states.specs.Views.{Keeps, origin_of, segment_of, state_of}
 use Rattle.machine_states.specs.declared.segment.Outcome.{Outcome as StoredOutcome}
 use Rattle.machine_states.specs.declared.segment.Outcome.TheVariants.{Shown, Finished, Ended, Faulted, Fuel}

@@ -24,9 +24,9 @@ use Rattle.replay_spec.proofs.Admitted.{StandsAt, page_stands, page_is_no_start}
 use Rattle.machine_states.specs.Machine.{Suspended}
 use Rattle.machine_states.specs.Views.{segment_of, suspended_of}
 use Rattle.machine_states.specs.declared.segment.Segment.{Segment}
-use Rattle.frame_codec.specs.Spelling.{StateHasBytes}
-use Rattle.frame_codec.specs.Forms.{RisesBefore, BindsBefore}
-use Rattle.frame_codec.proofs.Formed.{forms_are_exact}
+use Rattle.instance_book.specs.FrameCodec.Spelling.{StateHasBytes}
+use Rattle.instance_book.specs.FrameCodec.Forms.{RisesBefore, BindsBefore}
+use Rattle.instance_book.proofs.FrameCodec.Formed.{forms_are_exact}
 use Rattle.journal_spec.specs.Retaking.{arena_of, Told, unread, misread, told, told_as, told_by, script_for, if_held, held}
 use Rattle.journal_spec.specs.Before.{Earlier, before_told}
 use Rattle.journal_spec.specs.Retaking as books

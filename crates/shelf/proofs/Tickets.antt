@@ -28,8 +28,8 @@ use Rattle.replay_spec.proofs.Orderly.{went, stepped}
 use Rattle.machine_states.specs.Machine.{Suspended}
 use Rattle.machine_states.specs.Views.{segment_of}
 use Rattle.machine_states.specs.declared.segment.Segment.{Segment}
-use Rattle.frame_codec.specs.Stored.{IsStored}
-use Rattle.kept_states.specs.Links.{links_at}
+use Rattle.instance_book.specs.FrameCodec.Stored.{IsStored}
+use Rattle.instance_book.specs.KeptStates.Links.{links_at}
 use Rattle.instance_book.specs.declared.book.Book as kept
 use Rattle.book_visits.specs.declared.ticket.Ticket.{Ticket}
 use Rattle.instance_book.specs.declared.change.Change.{Change}

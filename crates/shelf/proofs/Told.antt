@@ -8,12 +8,12 @@ use Rattle.std.proofs.lemmas.Bool.{and_from}
 use Rattle.std.proofs.lemmas.List.{reverse-reverse}
 use Rattle.script_value.specs.Val.{Val}
 use Rattle.value_bytes.specs.Spelling.{HasBytes}
-use Rattle.kept_states.specs.Kept.{Form, spelled, whole, bytes_of, IsKeptBy, KeptAreWritten}
-use Rattle.kept_states.specs.Links.{behind_at}
+use Rattle.instance_book.specs.KeptStates.Kept.{Form, spelled, whole, bytes_of, IsKeptBy, KeptAreWritten}
+use Rattle.instance_book.specs.KeptStates.Links.{behind_at}
 use Rattle.machine_states.specs.Machine.{Frame, in_binding, in_operand, in_body, in_seq, in_and, in_or, in_if, in_count, in_store, in_turn, in_isolate, in_call, in_task, in_page, in_finish, in_back, Suspended}
-use Rattle.frame_codec.specs.Forms.{form_bytes, BindsBefore}
-use Rattle.frame_codec.specs.Spelling.{FrameHasBytes, ShadowHasBytes, StateHasBytes}
-use Rattle.frame_codec.proofs.States.{all_reversed}
+use Rattle.instance_book.specs.FrameCodec.Forms.{form_bytes, BindsBefore}
+use Rattle.instance_book.specs.FrameCodec.Spelling.{FrameHasBytes, ShadowHasBytes, StateHasBytes}
+use Rattle.instance_book.proofs.FrameCodec.States.{all_reversed}
 use Rattle.journal_records.specs.Fields.{is_shallow}
 use Rattle.journal_records.proofs.Measured.{value_shallow}
 use Rattle.journal_spec.specs.Lengths.{is_shallow_frame, is_shallow_state, told_bytes}

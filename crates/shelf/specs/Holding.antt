@@ -13,8 +13,8 @@ use Rattle.instance_cells.specs.Views.{effect_of}
 use Rattle.machine_states.specs.Machine.{Suspended, inside_of}
 use Rattle.machine_states.specs.Views.{suspended_of, Keeps}
 use Rattle.machine_states.specs.declared.segment.Segment.{Segment}
-use Rattle.frame_codec.specs.Spelling.{StateHasBytes}
-use Rattle.frame_codec.specs.Stored.{IsStored}
+use Rattle.instance_book.specs.FrameCodec.Spelling.{StateHasBytes}
+use Rattle.instance_book.specs.FrameCodec.Stored.{IsStored}
 use Rattle.instance_book.specs.declared.book.Book.{Book}
 use Rattle.instance_book.specs.declared.change.Change.{Change}
 use Rattle.instance_book.specs.declared.change.Change.TheVariants.{Opens, Extends}

@@ -15,3 +15,6 @@ pub mod Preparing
 pub mod Recording
 pub mod Runs
 pub mod Visits
+pub use Rattle.journal_spec.specs as JournalSpec
+pub use Rattle.instance_book.specs as InstanceBook
+pub use Rattle.file_copies.specs.FileNotes

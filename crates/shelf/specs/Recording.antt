@@ -26,9 +26,9 @@ use Rattle.book_visits.specs.Fits.{GoesOnGiven}
 use Rattle.machine_states.specs.Machine.{Suspended}
 use Rattle.std.specs.Borrow.{Bor}
 use Rattle.machine_states.specs.Views.{origin_of, suspended_of}
-use Rattle.frame_codec.specs.Forms.{BindsBefore}
-use Rattle.kept_states.specs.Kept.{Form, bytes_of, IsKeptFrom}
-use Rattle.kept_states.specs.Links.{behind_at}
+use Rattle.instance_book.specs.FrameCodec.Forms.{BindsBefore}
+use Rattle.instance_book.specs.KeptStates.Kept.{Form, bytes_of, IsKeptFrom}
+use Rattle.instance_book.specs.KeptStates.Links.{behind_at}
 use Rattle.journal_spec.specs.Lengths.{is_shallow_state, told_bytes}
 
 -- why a record of this length can't be added to a journal of this one

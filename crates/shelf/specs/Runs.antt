@@ -12,7 +12,7 @@ use Rattle.machine_states.specs.Machine.{inside_of}
 use Rattle.machine_states.specs.Fits.{Fits}
 use Rattle.machine_states.specs.Views.{segment_of, Keeps}
 use Rattle.machine_states.specs.declared.segment.Segment.{Segment}
-use Rattle.send_suspend.specs.Segments.{newest, IsConsistent, Replays}
+use Rattle.visit_runs.specs.SendSuspend.Segments.{newest, IsConsistent, Replays}
 use Rattle.book_visits.specs.declared.ticket.Ticket.{Ticket}
 use Rattle.book_visits.specs.Views.{ticket_of}
 use Rattle.instance_book.specs.Places.{arena_of}

@@ -12,7 +12,7 @@ ghost use Rattle.instance_book.specs.Makes.{HasItsStates};
 ghost use Rattle.book_recovery.specs.Found.{IsBookInOrder};
 ghost use Rattle.shelf.specs.Faults.{begin_fault};
 ghost use Rattle.shelf.specs.Opening.{HasOwnRecords, OpensOwn, Opens, TellsSetup, TellsFull, IsLibraryOf, with_book, WasFound};
-ghost use Rattle.file_notes.specs.Files.{IsNoted};
+ghost use Rattle.file_copies.specs.FileNotes.Files.{IsNoted};
 ghost use Rattle.shelf.specs.Files.{KnowsRead, NotesBegun, NotesRenewed};
 ghost use Rattle.shelf.specs.Ranges.{AreInRange};
 
@@ -23,7 +23,7 @@ use crate::rules::Rules;
 use crate::shelf::Shelf;
 use book_recovery::{Found, ReadBook, read_book};
 use disk_trio::Disks;
-use file_notes::FileNotes;
+use file_copies::FileNotes;
 use instance_book::Book;
 use journal_records::{Recorded, body_length, encode, records_are_exact};
 use journal_spec::{

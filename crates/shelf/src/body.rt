@@ -2,12 +2,12 @@ ghost use Rattle.std.specs.Prelude.{◌≡◌, length, IsTrue, IfOk, OnOk};
 ghost use Rattle.web_disk.specs.View.{NoNewImage, Elapses};
 ghost use Rattle.page_journal.specs.Settled.{IsSettled, IsReady, IsSound, view_of, length_of, is_broken};
 ghost use Rattle.book_visits.specs.Changes.{IsSpelledIn};
-ghost use Rattle.file_notes.specs.Files.{IsNoted, HasRoom, StaysAsTold};
+ghost use Rattle.file_copies.specs.FileNotes.Files.{IsNoted, HasRoom, StaysAsTold};
 ghost use Rattle.shelf.specs.Recording.{CanBeTold, IsToldBody, IsKeptIn, BindsIn};
 
 use crate::recording::{recorded, told_state, written};
 use book_visits::Ticket;
-use file_notes::FileNotes;
+use file_copies::FileNotes;
 use instance_book::Change;
 use page_journal::Journal;
 use script_value::{Bytes, Reply};

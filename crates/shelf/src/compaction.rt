@@ -5,15 +5,14 @@ ghost use Rattle.page_journal.specs.Replacing.{IsWholeFile};
 ghost use Rattle.page_journal.specs.Scanned.{IsQuiet};
 ghost use Rattle.page_journal.specs.Settled.{HasFailed, IsSettled, IsSound, view_of, bodies_in, length_of, is_broken};
 ghost use Rattle.journal_records.specs.Fields.{numbers_end};
-ghost use Rattle.file_notes.specs.Files.{IsNoted};
+ghost use Rattle.file_copies.specs.FileNotes.Files.{IsNoted};
 ghost use Rattle.file_copies.specs.declared.copying.CopyFault.TheVariants as copy_fault;
 ghost use Rattle.shelf.specs.Compacting.{IsPlanOf, IsPlannedFor, IsTooLongFor, IsWholeCopy, IsCopyFor, Replaces, Rewrites};
 
 use crate::doubt::{Doubt, Work};
 use crate::shelf::Shelf;
 use disk_trio::Disks;
-use file_copies::{CopyFault, compacted_file};
-use file_notes::FileNotes;
+use file_copies::{CopyFault, FileNotes, compacted_file};
 use instance_book::Book;
 use journal_records::{Recorded, encode, records_are_exact};
 use journal_spec::{

@@ -25,10 +25,12 @@ mod take;
 pub use begin::BeginFault;
 pub use book_visits::Ticket;
 pub use doubt::{Doubt, Work};
+pub use journal_spec::images_make_books;
 use replay_spec::{orderly_books_stay, pages_stay};
 pub use rules::Rules;
 pub use run::run_ticket;
 pub use shelf::Shelf;
+pub use visit_runs::Segment;
 use web_disk::Disk;
 
 /// A ticket that fits the book of its take goes on to fit: a page that was shown stays as it is while its instance lives, so

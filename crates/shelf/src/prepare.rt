@@ -17,8 +17,8 @@ use book_visits::{Prepared, Ticket, a_shown_page_has_its_state, admit, prepare};
 use instance_book::Book;
 use script_nodes::Library;
 use script_value::Reply;
-use send_suspend::Segment;
 use std::alloc::Global;
+use visit_runs::Segment;
 
 /// What the publish of a ticket is prepared as, or answered, on a shelf that is not down, before its record is measured.
 ///

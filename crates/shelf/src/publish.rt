@@ -15,8 +15,8 @@ use journal_spec::{
     events_are_kept, events_stand_between, landings_are_kept, landings_stand_between,
 };
 use script_value::Reply;
-use send_suspend::Segment;
 use std::alloc::Global;
+use visit_runs::Segment;
 use web_disk::Disk;
 use web_outside::Nonces;
 

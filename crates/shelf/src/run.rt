@@ -8,9 +8,8 @@ use book_visits::Ticket;
 use instance_cells::Cells;
 use replay_spec::effects_are_on_cells;
 use script_nodes::Library;
-use send_suspend::Segment;
 use std::alloc::{AllocError, Global};
-use visit_runs::run_from;
+use visit_runs::{Segment, run_from};
 
 /// Runs the segment of a ticket over these cells, from the state that the ticket goes on from.
 ///

@@ -16,8 +16,8 @@ use page_names::Target;
 use replay_spec::effects_hold_run_same;
 use script_nodes::Library;
 use script_value::Reply;
-use send_suspend::Segment;
 use std::alloc::{AllocError, Global};
+use visit_runs::Segment;
 
 /// What the segment of a ticket comes to over the cells of now: the first run's result where its effects hold over them, and
 /// else that of a second run. A start's cells are its own, so it is never run again.

@@ -2,7 +2,7 @@ ghost use Rattle.std.specs.Prelude.{◌≡◌, ◌<◌, ◌^◌};
 
 use crate::doubt::Doubt;
 use crate::rules::Rules;
-use file_notes::FileNotes;
+use file_copies::FileNotes;
 use instance_book::Book;
 use page_journal::Journal;
 use script_nodes::Library;

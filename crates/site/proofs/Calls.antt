@@ -5,7 +5,7 @@ use Rattle.script_value.specs.Val.{Val}
 use Rattle.script_value.specs.declared.outcome.Reply as answers
 use Rattle.page_names.specs.Names.{Destination}
 use Rattle.web_disk.specs.View.{View}
-use Rattle.journal_spec.specs.Laws.{ImagesMakeBooks}
+use Rattle.shelf.specs.JournalSpec.Laws.{ImagesMakeBooks}
 use Rattle.replay_spec.specs.Step as step
 use Rattle.shelf.specs.Visits.{Ticket, ticket_of, reply_of}
 use Rattle.shelf.specs.declared.shelf.Shelf.{Shelf}

@@ -15,7 +15,7 @@ use Rattle.replay_spec.specs.Admission.{admit, refusal_of}
 use Rattle.replay_spec.specs.Step.{taken, take}
 use Rattle.replay_spec.specs.Invariant.{IsOrderly}
 use Rattle.shelf.specs.Visits.{Ticket, ticket_of, FitsAs, IsRunnable, HasItsScript}
-use Rattle.instance_book.specs.Makes.{HasItsStates}
+use Rattle.shelf.specs.InstanceBook.Makes.{HasItsStates}
 use Rattle.history_spec.specs.Histories.{Entry, own_of, owed_by, Owes, IsLegal, shelf_behind}
 use Rattle.history_spec.specs.Laws.{take_of, tickets_taken}
 use Rattle.history_spec.specs.Kept.{IsKept}

@@ -5,9 +5,9 @@ use Rattle.setup_reader.specs.Texts.{setup_of_texts}
 use Rattle.web_disk.specs.View.{View, LeavesOnly}
 use Rattle.web_disk.proofs.Moments.{started}
 use Rattle.page_journal.proofs.Mending.{leaves_then}
-use Rattle.journal_spec.specs.Before.{Made}
-use Rattle.journal_spec.specs.Laws.{ImagesMakeBooks, MeasuresDoubt}
-use Rattle.journal_spec.specs.Standing.{MakesIn, if_kept, Held, Stands}
+use Rattle.shelf.specs.JournalSpec.Before.{Made}
+use Rattle.shelf.specs.JournalSpec.Laws.{ImagesMakeBooks, MeasuresDoubt}
+use Rattle.shelf.specs.JournalSpec.Standing.{MakesIn, if_kept, Held, Stands}
 use Rattle.replay_spec.specs.Book.{Book, reopened}
 use Rattle.replay_spec.specs.Rules.{Rules}
 use Rattle.script_value.specs.Val.{Val}

@@ -12,7 +12,7 @@ use Rattle.script_nodes.specs.declared.library.Library as kept
 use Rattle.setup_reader.specs.Texts.{setup_of_texts}
 use Rattle.replay_spec.specs.Book.{Book}
 use Rattle.journal_records.specs.Records.{IsInGrammar, begin_of}
-use Rattle.journal_spec.specs.Standing.{IsOneOf}
+use Rattle.shelf.specs.JournalSpec.Standing.{IsOneOf}
 use Rattle.shelf.specs.declared.begin.BeginFault.{BeginFault}
 use Rattle.shelf.specs.declared.begin.BeginFault.TheVariants.{DiskFault, Memory}
 use Rattle.shelf.specs.declared.rules.Rules.{Rules}

@@ -8,7 +8,7 @@ use Rattle.history_spec.specs.Histories.{Entry}
 use Rattle.history_spec.specs.Laws.{moment_of}
 use Rattle.site.specs.declared.opening.Opening.{Opening}
 use Rattle.setup_reader.specs.Texts.{setup_of_texts}
-use Rattle.journal_spec.specs.Standing.{IsOneOf}
+use Rattle.shelf.specs.JournalSpec.Standing.{IsOneOf}
 use Rattle.shelf.specs.Opening.{IsOfNow}
 use Rattle.site.specs.Openings.{scripts_in, IsOwnOpening, start_of, source_of, book_then}
 use Rattle.site.specs.Sound.{StandsFor}

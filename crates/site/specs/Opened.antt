@@ -3,7 +3,7 @@ use Rattle.std.specs.Prelude.{◌≤◌, ◌⊎◌, ℕ, List}
 use mathlib.Core.List.{IsPrefix}
 use Rattle.web_disk.specs.View.{View, LeavesOnly}
 use Rattle.setup_reader.specs.Texts.{setup_of_texts}
-use Rattle.journal_spec.specs.Standing.{MakesIn, Stands}
+use Rattle.shelf.specs.JournalSpec.Standing.{MakesIn, Stands}
 use Rattle.replay_spec.specs.Book.{Book}
 use Rattle.replay_spec.specs.Runs.{Shelf}
 use Rattle.replay_spec.specs.Step.{kept, recovered}

@@ -5,7 +5,7 @@ use Rattle.std.specs.BTreeMap.{is_at}
 use Rattle.std.specs.Ordering.{is_eq, ordering_then, nat_cmp}
 use Rattle.std.proofs.lemmas.Bool.Decides.{nat_tests}
 use Rattle.script_value.specs.declared.outcome.TxName.{TxName}
-use Rattle.replay_spec.specs.Names.{is_name, has}
+use Rattle.machine_states.specs.ReplaySpec.Names.{is_name, has}
 use Rattle.transactions.specs.Sets.{compared, HasJust}
 
 -- two names compare equal where they are the same

@@ -4,7 +4,7 @@ use Rattle.std.specs.BTreeSet.{BTreeSet, contains_by}
 use Rattle.std.specs.declared.cmp.Ordering.{Ordering}
 use Rattle.std.specs.Ordering.{ordering_then, nat_cmp}
 use Rattle.script_value.specs.declared.outcome.TxName.{TxName}
-use Rattle.replay_spec.specs.Names.{has}
+use Rattle.machine_states.specs.ReplaySpec.Names.{has}
 
 -- how a name compares to a pair of numbers: by its ticket, and then by its entry
 abbrev pub compared : TxName → ℕ × ℕ → Ordering

@@ -1,5 +1,5 @@
 ghost use Rattle.std.specs.Prelude.{◌≡◌, List, [], ◌∷◌, ◌++◌, IfOk, OnOk, OnErr};
-ghost use Rattle.replay_spec.specs.Names.{has};
+ghost use Rattle.machine_states.specs.ReplaySpec.Names.{has};
 
 use script_value::TxName;
 use std::alloc::{AllocError, Global};

@@ -5,19 +5,19 @@ use Rattle.script_nodes.specs.Arena.{Arena, script_of}
 use Rattle.script_nodes.specs.Setup.{Script}
 use Rattle.instance_cells.specs.Cells.{reads_of}
 use Rattle.instance_cells.specs.Views.{effect_of}
-use Rattle.replay_spec.specs.Tape.{Reads, recorded, present, Tape}
-use Rattle.replay_spec.specs.Eval as eval
-use Rattle.replay_spec.specs.Eval.{run}
-use Rattle.replay_spec.specs.Book.{Page}
-use Rattle.replay_spec.specs.Next.{Visit, newest, home_of, tape_of, tape_for, page_tape}
-use Rattle.replay_spec.specs.Laws.{longer}
-use Rattle.replay_spec.proofs.Decided.{tape_longer}
-use Rattle.machine_states.specs.Machine.{inside_of}
-use Rattle.machine_states.specs.Laws.{IsStateOf}
-use Rattle.machine_states.specs.Views.{suspended_of, origin_of, Keeps}
-use Rattle.machine_states.specs.declared.segment.Origin.{Origin}
-use Rattle.machine_states.specs.declared.segment.Origin.TheVariants as origin
-use Rattle.machine_states.specs.declared.segment.Segment.{Segment}
+use Rattle.send_suspend.specs.ReplaySpec.Tape.{Reads, recorded, present, Tape}
+use Rattle.send_suspend.specs.ReplaySpec.Eval as eval
+use Rattle.send_suspend.specs.ReplaySpec.Eval.{run}
+use Rattle.send_suspend.specs.ReplaySpec.Book.{Page}
+use Rattle.send_suspend.specs.ReplaySpec.Next.{Visit, newest, home_of, tape_of, tape_for, page_tape}
+use Rattle.send_suspend.specs.ReplaySpec.Laws.{longer}
+use Rattle.send_suspend.proofs.ReplaySpec.Decided.{tape_longer}
+use Rattle.send_suspend.specs.MachineStates.Machine.{inside_of}
+use Rattle.send_suspend.specs.MachineStates.Laws.{IsStateOf}
+use Rattle.send_suspend.specs.MachineStates.Views.{suspended_of, origin_of, Keeps}
+use Rattle.send_suspend.specs.MachineStates.declared.segment.Origin.{Origin}
+use Rattle.send_suspend.specs.MachineStates.declared.segment.Origin.TheVariants as origin
+use Rattle.send_suspend.specs.MachineStates.declared.segment.Segment.{Segment}
 use Rattle.send_suspend.specs.Segments.{IsLastOver, Replays}
 use Rattle.instance_book.specs.Places.{arena_of}
 use Rattle.instance_book.specs.Visits.{GoesOnFrom}

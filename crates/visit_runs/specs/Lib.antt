@@ -1,1 +1,2 @@
 pub mod Likes
+pub use Rattle.send_suspend.specs as SendSuspend

@@ -1,11 +1,11 @@
 -- What the segment of a visit is like.
 use Rattle.std.specs.Prelude.{◌≡◌, ℕ, List}
 use Rattle.script_value.specs.Val.{Val}
-use Rattle.replay_spec.specs.Tape.{present}
-use Rattle.replay_spec.specs.Next.{Visit, comes_to}
-use Rattle.machine_states.specs.Machine.{inside_of}
-use Rattle.machine_states.specs.Views.{Keeps, segment_of}
-use Rattle.machine_states.specs.declared.segment.Segment.{Segment}
+use Rattle.send_suspend.specs.ReplaySpec.Tape.{present}
+use Rattle.send_suspend.specs.ReplaySpec.Next.{Visit, comes_to}
+use Rattle.send_suspend.specs.MachineStates.Machine.{inside_of}
+use Rattle.send_suspend.specs.MachineStates.Views.{Keeps, segment_of}
+use Rattle.send_suspend.specs.MachineStates.declared.segment.Segment.{Segment}
 use Rattle.instance_book.specs.Visits.{KeepsStateOver}
 
 -- A segment is that of a visit over these cells; a page that it shows has its state kept over the visit's tape, and is inside the

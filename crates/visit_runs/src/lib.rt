@@ -4,3 +4,4 @@
 mod run;
 
 pub use run::run_from;
+pub use send_suspend::Segment;

@@ -1,7 +1,7 @@
 ghost use Rattle.std.specs.Prelude.{◌≡◌, ◌<◌, ◌^◌, IfOk};
 ghost use Rattle.script_value.specs.Views.{meaning};
-ghost use Rattle.machine_states.specs.Fits.{Fits};
-ghost use Rattle.machine_states.specs.Views.{Keeps};
+ghost use Rattle.send_suspend.specs.MachineStates.Fits.{Fits};
+ghost use Rattle.send_suspend.specs.MachineStates.Views.{Keeps};
 ghost use Rattle.send_suspend.specs.Segments.{newest, FitsFrom, IsConsistent, Replays};
 
 use instance_cells::Cells;

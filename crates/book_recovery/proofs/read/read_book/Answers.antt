@@ -2,7 +2,7 @@ use Rattle.std.proofs.Common.{◌≡◌, ◌∙◌, sym, subst, ℕ, List, lengt
 use Rattle.page_journal.specs.Records.{at_rest}
 use Rattle.page_journal.specs.Settled.{bodies_in, length_of}
 use Rattle.setup_reader.specs.Texts.{setup_of_texts}
-use Rattle.journal_spec.specs.Old.{book_of_format}
+use Rattle.book_redo.specs.JournalSpec.Old.{book_of_format}
 use Rattle.book_recovery.specs.declared.found.Found.{Found}
 use Rattle.book_recovery.specs.Found.{Finds, IsFoundInOrder, HasStates}
 use Rattle.book_recovery.specs.Reading.{Gives, HasFew}

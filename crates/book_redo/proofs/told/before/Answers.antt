@@ -3,7 +3,7 @@ use Rattle.script_nodes.specs.Arena.{Arena}
 use Rattle.machine_states.specs.Machine.{Suspended}
 use Rattle.machine_states.specs.Views.{suspended_of}
 use Rattle.frame_codec.specs.Stored.{IsStored}
-use Rattle.kept_states.specs.Links.{behind_at}
+use Rattle.instance_book.specs.KeptStates.Links.{behind_at}
 use Rattle.instance_book.proofs.Behind.{arena_again}
 use Rattle.book_redo.proofs.Redone.{behind_more}
 use Rattle.book_redo.proofs.told.before.Goals as goal

@@ -2,8 +2,8 @@ use Rattle.std.proofs.Common.{◌≡◌, subst, refl, Option, Some, None, IfSome
 use Rattle.machine_states.specs.Views.{suspended_of}
 use Rattle.frame_codec.specs.Forms.{read_form}
 use Rattle.frame_codec.specs.FormViews.{before_of}
-use Rattle.kept_states.specs.Told.{IsTold}
-use Rattle.kept_states.specs.declared.state.ToldState.{ToldState}
+use Rattle.instance_book.specs.KeptStates.Told.{IsTold}
+use Rattle.instance_book.specs.KeptStates.declared.state.ToldState.{ToldState}
 use Rattle.book_redo.proofs.Passed.{read_again, state_told}
 use Rattle.book_redo.proofs.told.state_told.Goals as goal
 

@@ -6,7 +6,7 @@ use Rattle.script_value.specs.declared.outcome.Reply.{Reply}
 use Rattle.script_value.specs.declared.outcome.TxName.{TxName}
 use Rattle.instance_cells.specs.Views.{effect_of}
 use Rattle.machine_states.specs.Views.{origin_of, suspended_of}
-use Rattle.kept_states.specs.Kept.{Kept, IsKeptFrom}
+use Rattle.instance_book.specs.KeptStates.Kept.{Kept, IsKeptFrom}
 use Rattle.replay_spec.specs.Book as spec
 use Rattle.replay_spec.specs.Change.{shown_by}
 use Rattle.replay_spec.specs.Recovery.{can_go}

@@ -1,17 +1,17 @@
 use Rattle.std.proofs.Common.{◌≡◌, ◌∙◌, ap, sym, subst, suc, ◌-◌, Option, Some, option_map, refl, arith}
 use Rattle.std.proofs.lemmas.Option.{same_Some, none-some}
 use Rattle.script_nodes.specs.Views.{named_of}
-use Rattle.machine_states.specs.Machine.{Suspended}
-use Rattle.machine_states.specs.declared.frame.Suspended as stored
-use Rattle.machine_states.specs.Views.{suspended_of}
-use Rattle.frame_codec.specs.Deltas.{joined}
-use Rattle.frame_codec.specs.DeltaViews.{delta_of}
-use Rattle.frame_codec.specs.Fronts.{front, shared_need}
-use Rattle.frame_codec.specs.declared.need.Need.{Need}
+use Rattle.kept_states.specs.MachineStates.Machine.{Suspended}
+use Rattle.kept_states.specs.MachineStates.declared.frame.Suspended as stored
+use Rattle.kept_states.specs.MachineStates.Views.{suspended_of}
+use Rattle.kept_states.specs.FrameCodec.Deltas.{joined}
+use Rattle.kept_states.specs.FrameCodec.DeltaViews.{delta_of}
+use Rattle.kept_states.specs.FrameCodec.Fronts.{front, shared_need}
+use Rattle.kept_states.specs.FrameCodec.declared.need.Need.{Need}
 use Rattle.kept_states.specs.Given.{Makes}
 use Rattle.kept_states.specs.declared.form.Found.{Found}
 use Rattle.kept_states.specs.declared.form.Found.TheVariants as kept
-use Rattle.frame_codec.specs.declared.difference.Delta.{Delta}
+use Rattle.kept_states.specs.FrameCodec.declared.difference.Delta.{Delta}
 use Rattle.kept_states.proofs.Read.{rises, fits_script}
 use Rattle.instance_book.proofs.Behind.{arena_again, is_of_script, is_alone, parent_has, links_before, is_behind}
 use Rattle.instance_book.proofs.origins.+front_of.Goals as goal

@@ -1,8 +1,8 @@
 use Rattle.std.proofs.Common.{ap, sym, subst, Some}
 use Rattle.script_nodes.specs.Arena.{Arena}
-use Rattle.machine_states.specs.Views.{suspended_of}
-use Rattle.machine_states.specs.Fits.{Fits}
-use Rattle.frame_codec.specs.Stored.{IsStored}
+use Rattle.kept_states.specs.MachineStates.Views.{suspended_of}
+use Rattle.kept_states.specs.MachineStates.Fits.{Fits}
+use Rattle.kept_states.specs.FrameCodec.Stored.{IsStored}
 use Rattle.instance_book.proofs.Behind.{arena_again}
 use Rattle.instance_book.proofs.origins.origin_at.Goals as goal
 

@@ -3,8 +3,8 @@ use Rattle.std.proofs.lemmas.List.{length-map}
 use Rattle.script_value.specs.Val.{Val}
 use Rattle.script_value.specs.Views.{meaning}
 use Rattle.script_nodes.specs.Views.{named_of}
-use Rattle.machine_states.specs.declared.frame.Frame.{Frame}
-use Rattle.frame_codec.specs.Stored.{IsStored}
+use Rattle.kept_states.specs.MachineStates.declared.frame.Frame.{Frame}
+use Rattle.kept_states.specs.FrameCodec.Stored.{IsStored}
 use Rattle.instance_book.proofs.Behind.{arena_again, is_of_script}
 use Rattle.instance_book.proofs.Whole.{is_whole}
 use Rattle.instance_book.proofs.origins.state_of.Goals as goal

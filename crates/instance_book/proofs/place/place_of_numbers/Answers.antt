@@ -2,9 +2,9 @@ use Rattle.std.proofs.Common.{◌≡◌, ℕ, sym, subst, List, Some}
 use Rattle.std.proofs.lemmas.Option.{same_Some}
 use Rattle.script_nodes.specs.Setup.{Named}
 use Rattle.script_nodes.specs.Views.{library_of, named_of}
-use Rattle.replay_spec.specs.Book.{at_number}
-use Rattle.replay_spec.proofs.Numbered.{number_of}
-use Rattle.replay_spec.specs.Marks.{Mark, mark_at}
+use Rattle.journal_records.specs.ReplaySpec.Book.{at_number}
+use Rattle.journal_records.proofs.ReplaySpec.Numbered.{number_of}
+use Rattle.journal_records.specs.ReplaySpec.Marks.{Mark, mark_at}
 use Rattle.instance_book.specs.declared.numbered.Numbered.{Numbered}
 use Rattle.instance_book.specs.declared.page.KeptPage.{KeptPage}
 use Rattle.instance_book.specs.declared.instance.KeptInstance.{KeptInstance}

@@ -1,6 +1,6 @@
 use Rattle.std.proofs.Common.{◌∙◌, ap, sym}
 use Rattle.script_nodes.specs.declared.script.SendKind.{SendKind}
-use Rattle.replay_spec.specs.Change.{revoked_by}
+use Rattle.journal_records.specs.ReplaySpec.Change.{revoked_by}
 use Rattle.instance_book.specs.Views.{pages_of}
 use Rattle.instance_book.proofs.Seen.{pages_numbered}
 use Rattle.instance_book.proofs.segment.revoked_after.Goals as goal

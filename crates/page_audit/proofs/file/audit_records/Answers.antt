@@ -1,7 +1,7 @@
 use Rattle.std.proofs.Common.{◌∙◌, sym, subst, ℕ}
 use Rattle.page_journal.specs.Records.{Log, format_of, stored}
 use Rattle.setup_reader.specs.Texts.{setup_of_texts}
-use Rattle.audit_spec.specs.Findings.{audited}
+use Rattle.record_audit.specs.AuditSpec.Findings.{audited}
 use Rattle.page_audit.specs.Audits.{audit_by, IsAnswer}
 use Rattle.page_audit.proofs.All.{all_answered}
 use Rattle.page_audit.proofs.file.audit_records.Goals as goal

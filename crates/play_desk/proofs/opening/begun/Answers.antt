@@ -3,7 +3,7 @@ use Rattle.std.specs.Prelude.{Err}
 use Rattle.script_nodes.specs.Setup.{Named}
 use Rattle.script_nodes.specs.Views.{scripts_of}
 use Rattle.setup_reader.specs.Texts.{setup_of_texts}
-use Rattle.journal_spec.proofs.Standings.{one_of}
+use Rattle.shelf.proofs.JournalSpec.Standings.{one_of}
 use Rattle.web_disk.specs.View.{View, AreAmong}
 use Rattle.shelf.specs.Faults.{IsTooLong}
 use Rattle.shelf.specs.Opening.{IsFaultOf, IsOfNow}

@@ -4,7 +4,7 @@ use Rattle.script_nodes.specs.Views.{library_of}
 use Rattle.machine_states.specs.Views.{suspended_of}
 use Rattle.machine_states.specs.declared.frame.Suspended as stored
 use Rattle.journal_records.specs.Views.{page_change}
-use Rattle.journal_spec.specs.Retaking.{script_for}
+use Rattle.book_redo.specs.JournalSpec.Retaking.{script_for}
 use Rattle.book_redo.specs.Again.{ComesTo}
 use Rattle.book_redo.specs.Told.{told_for}
 use Rattle.record_audit.proofs.Pages.{is_page}

@@ -1,7 +1,7 @@
 use Rattle.std.proofs.Common.{◌∙◌, ap}
 use Rattle.script_value.specs.Views.{meaning}
 use Rattle.segments.specs.Views.{outcome_of}
-use Rattle.segment_progress.specs.States.{state_of}
+use Rattle.cek_machine.specs.SegmentProgress.States.{state_of}
 use Rattle.machine_states.specs.Machine.{inside_of, Suspended}
 use Rattle.cek_machine.specs.Spots.{frames_of}
 use Rattle.cek_machine.specs.Machines.{machine_of, kept_of}

@@ -1,10 +1,10 @@
 use Rattle.std.proofs.Common.{◌≡◌, List, [], ◌∷◌, map, Err, refl, sym, ◌∙◌, subst}
 use Rattle.script_nodes.specs.Setup.{Named}
 use Rattle.script_nodes.specs.Views.{scripts_of, library_of}
-use Rattle.instance_book.specs.declared.in_order.InOrder.{InOrder}
-use Rattle.instance_book.specs.declared.instance.KeptInstance.{KeptInstance}
-use Rattle.instance_book.specs.declared.numbered.Numbered.{Numbered}
-use Rattle.instance_book.specs.Views.{instance_of, instances_of}
+use Rattle.shelf.specs.InstanceBook.declared.in_order.InOrder.{InOrder}
+use Rattle.shelf.specs.InstanceBook.declared.instance.KeptInstance.{KeptInstance}
+use Rattle.shelf.specs.InstanceBook.declared.numbered.Numbered.{Numbered}
+use Rattle.shelf.specs.InstanceBook.Views.{instance_of, instances_of}
 use Rattle.disk_trio.specs.Trio.{trio_view}
 use Rattle.disk_trio.specs.declared.trio.Disks.{Disks}
 use Rattle.site.specs.Beginnings.{IsOpenedOn}

@@ -4,7 +4,7 @@ use Rattle.script_nodes.specs.Views.{scripts_of}
 use Rattle.replay_spec.specs.Rules.{first_file}
 use Rattle.script_nodes.specs.Setup.{Named}
 use Rattle.journal_records.specs.Views.{script_of}
-use Rattle.journal_spec.specs.Whole.{AreWhole}
+use Rattle.book_redo.specs.JournalSpec.Whole.{AreWhole}
 use Rattle.book_recovery.specs.Reading.{IsSetupOf}
 use Rattle.book_redo.proofs.Passed.{of_some}
 use Rattle.book_recovery.proofs.reader.Reader.begun.Goals as goal

@@ -2,15 +2,15 @@ use Rattle.std.proofs.Common.{◌≡◌, ◌≤◌, ◌+◌, ◌∙◌, ap, sym,
 use Rattle.script_nodes.specs.Views.{library_of}
 use Rattle.script_nodes.specs.declared.library.ScriptText.{ScriptText}
 use Rattle.setup_reader.proofs.Retold.{setup_kept}
-use Rattle.instance_book.specs.declared.book.Book.{Book}
-use Rattle.instance_book.specs.Makes.{count_of, HasPlaces}
+use Rattle.book_redo.specs.InstanceBook.declared.book.Book.{Book}
+use Rattle.book_redo.specs.InstanceBook.Makes.{count_of, HasPlaces}
 use Rattle.journal_records.specs.Records.{renews}
 use Rattle.journal_records.specs.Old.{read_record_in}
 use Rattle.journal_records.specs.Views.{logged_of, script_of}
 use Rattle.journal_records.specs.declared.records.Logged.{Logged}
-use Rattle.instance_book.specs.declared.in_order.InOrder.{InOrder}
+use Rattle.book_redo.specs.InstanceBook.declared.in_order.InOrder.{InOrder}
 use Rattle.setup_reader.specs.Texts.{setup_of_texts}
-use Rattle.journal_spec.specs.Old.{with_body_at}
+use Rattle.book_redo.specs.JournalSpec.Old.{with_body_at}
 use Rattle.book_recovery.specs.Reading.{may_stand, CountsOneMore, IsMadeIn, IsOwnBehind, IsKept, Gives, Renews}
 use Rattle.book_recovery.proofs.Made.{later_made, later_damaged}
 use Rattle.book_recovery.proofs.Way.{is_nine_in, later_way, later_owns, renewed_gives, renewed_kept, renewed_states}

@@ -3,10 +3,10 @@ use Rattle.script_nodes.specs.Views.{library_of}
 use Rattle.replay_spec.specs.Invariant.{Among}
 use Rattle.replay_spec.specs.Recovery.{is_repeated}
 use Rattle.replay_spec.proofs.Stand.{orderly_less}
-use Rattle.instance_book.specs.Standing.{book_under}
+use Rattle.book_redo.specs.InstanceBook.Standing.{book_under}
 use Rattle.book_redo.specs.Redo.{number_by}
 use Rattle.journal_records.specs.Views.{logged_of}
-use Rattle.journal_spec.specs.Before.{state_at}
+use Rattle.book_redo.specs.JournalSpec.Before.{state_at}
 use Rattle.book_redo.specs.declared.renew.Renewed.{Renewed}
 use Rattle.book_redo.specs.declared.renew.Renewed.TheVariants.{Misread}
 use Rattle.book_redo.specs.Renewing.{IsRenewed}

@@ -8,7 +8,7 @@ use Rattle.file_notes.specs.Notes.{is_told}
 use Rattle.script_nodes.specs.Setup.{Named}
 use Rattle.script_nodes.specs.Views.{library_of, scripts_of}
 use Rattle.journal_records.specs.Views.{script_of}
-use Rattle.journal_spec.specs.Whole.{AreWhole}
+use Rattle.book_redo.specs.JournalSpec.Whole.{AreWhole}
 use Rattle.book_recovery.specs.Reading.{IsSetupOf}
 use Rattle.book_redo.proofs.Passed.{of_some}
 use Rattle.book_recovery.proofs.reader.Reader.renewed.Goals as goal

@@ -1,6 +1,6 @@
 use Rattle.std.proofs.Common.{◌∙◌, sym}
 use Rattle.machine_states.specs.Views.{origin_of, suspended_of}
-use Rattle.kept_states.specs.Kept.{kept_of}
+use Rattle.instance_book.specs.KeptStates.Kept.{kept_of}
 use Rattle.book_redo.proofs.Spelled.{spelled_some, spelled_none}
 use Rattle.book_redo.proofs.behind.Behind.spelled.Goals as goal
 

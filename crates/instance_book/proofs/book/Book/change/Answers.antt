@@ -1,6 +1,6 @@
 use Rattle.std.proofs.Common.{◌≡◌, ◌∙◌, ◌<◌, ap, sym, subst, ℕ, List, [], length, map, arith, not, ◌==◌}
-use Rattle.replay_spec.specs.Book.{Instance}
-use Rattle.replay_spec.specs.Change.{put_instance, without}
+use Rattle.journal_records.specs.ReplaySpec.Book.{Instance}
+use Rattle.journal_records.specs.ReplaySpec.Change.{put_instance, without}
 use Rattle.instance_book.specs.Views.{instance_of}
 use Rattle.instance_book.specs.Changes.{OpensKept}
 use Rattle.instance_book.specs.Makes.{shelf_from}

@@ -1,6 +1,6 @@
 use Rattle.std.proofs.Common.{◌≡◌, ◌∙◌, ap, sym, List, [], length, map, arith}
-use Rattle.replay_spec.specs.Book.{Instance}
-use Rattle.replay_spec.specs.Change.{mend}
+use Rattle.journal_records.specs.ReplaySpec.Book.{Instance}
+use Rattle.journal_records.specs.ReplaySpec.Change.{mend}
 use Rattle.instance_book.specs.Views.{instance_of}
 use Rattle.instance_book.specs.Changes.{ended_with}
 use Rattle.instance_book.specs.Makes.{shelf_from}

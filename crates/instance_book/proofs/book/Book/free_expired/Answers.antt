@@ -1,5 +1,5 @@
 use Rattle.std.proofs.Common.{◌≡◌, ◌∙◌, ap, sym, List, [], length, map, filter, arith}
-use Rattle.replay_spec.specs.Book.{Instance, is_live}
+use Rattle.journal_records.specs.ReplaySpec.Book.{Instance, is_live}
 use Rattle.instance_book.specs.Views.{instance_of}
 use Rattle.instance_book.specs.Makes.{shelf_from}
 use Rattle.instance_book.proofs.Seen.{length_kept, length_seen}

@@ -1,7 +1,7 @@
 use Rattle.std.proofs.Common.{◌∙◌, ◌∷◌, [], ap, subst, refl, None}
 use Rattle.script_value.specs.Val.{Val, list, no_vals}
-use Rattle.replay_spec.specs.Book as spec
-use Rattle.replay_spec.specs.Marks.{Mark, uses_of, evictions_of}
+use Rattle.journal_records.specs.ReplaySpec.Book as spec
+use Rattle.journal_records.specs.ReplaySpec.Marks.{Mark, uses_of, evictions_of}
 use Rattle.kept_states.specs.Kept.{kept_of}
 use Rattle.instance_book.specs.Views.{page_of, mark_of}
 use Rattle.instance_book.specs.Changes.{begun_at}

@@ -1,6 +1,6 @@
 use Rattle.std.proofs.Common.{◌∙◌, ap, Option, option_map}
 use Rattle.script_nodes.specs.Views.{library_of}
-use Rattle.replay_spec.specs.Book.{Instance}
+use Rattle.journal_records.specs.ReplaySpec.Book.{Instance}
 use Rattle.instance_book.proofs.book.Book.script.Goals as goal
 
 pub script_of-requires : goal.script_of-requires

@@ -1,9 +1,9 @@
 use Rattle.std.proofs.Common.{◌≡◌, ◌∙◌, ap, sym, subst, ℕ, List, true, Some, None}
 use Rattle.kept_states.specs.Kept.{Kept}
-use Rattle.replay_spec.specs.Book as spec
-use Rattle.replay_spec.specs.Change.{mend}
-use Rattle.replay_spec.specs.Recovery.{can_go}
-use Rattle.replay_spec.specs.Marks.{Mark}
+use Rattle.journal_records.specs.ReplaySpec.Book as spec
+use Rattle.journal_records.specs.ReplaySpec.Change.{mend}
+use Rattle.journal_records.specs.ReplaySpec.Recovery.{can_go}
+use Rattle.journal_records.specs.ReplaySpec.Marks.{Mark}
 use Rattle.instance_book.specs.declared.numbered.Numbered.{Numbered}
 use Rattle.instance_book.specs.declared.in_order.InOrder.{InOrder}
 use Rattle.instance_book.specs.declared.page.KeptPage.{KeptPage}

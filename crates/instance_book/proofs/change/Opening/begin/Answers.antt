@@ -1,7 +1,7 @@
 use Rattle.std.proofs.Common.{◌≡◌, ◌∙◌, ◌∷◌, [], ap, List}
-use Rattle.replay_spec.specs.Book.{Page, Instance}
-use Rattle.replay_spec.specs.Change.{put_in_order, put_page}
-use Rattle.replay_spec.specs.Marks.{Mark, number_of, uses_of, evictions_of}
+use Rattle.journal_records.specs.ReplaySpec.Book.{Page, Instance}
+use Rattle.journal_records.specs.ReplaySpec.Change.{put_in_order, put_page}
+use Rattle.journal_records.specs.ReplaySpec.Marks.{Mark, number_of, uses_of, evictions_of}
 use Rattle.instance_book.specs.Views.{page_of, pages_of, mark_of, marks_of, instance_with}
 use Rattle.instance_book.proofs.Marking.{none_marked}
 use Rattle.instance_book.proofs.change.Opening.begin.Goals as goal

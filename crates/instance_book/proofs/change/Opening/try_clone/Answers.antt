@@ -1,6 +1,6 @@
 use Rattle.std.proofs.Common.{◌∙◌, ◌∷◌, [], ap}
-use Rattle.replay_spec.specs.Book.{Page, Instance}
-use Rattle.replay_spec.specs.Marks.{Mark, uses_of, evictions_of}
+use Rattle.journal_records.specs.ReplaySpec.Book.{Page, Instance}
+use Rattle.journal_records.specs.ReplaySpec.Marks.{Mark, uses_of, evictions_of}
 use Rattle.instance_book.specs.Views.{page_of, mark_of, instance_with}
 use Rattle.instance_book.proofs.change.Opening.try_clone.Goals as goal
 

@@ -1,5 +1,5 @@
 use Rattle.std.proofs.Common.{◌≡◌, ◌∙◌, ◌++◌, ◌∷◌, [], ◌<◌, ap, map, subst, length, get_or, ◌≤◌, List}
-use Rattle.replay_spec.specs.Book.{Page}
+use Rattle.journal_records.specs.ReplaySpec.Book.{Page}
 use Rattle.kept_states.specs.Kept.{Kept}
 use Rattle.instance_book.specs.Views.{page_of, mark_of}
 use Rattle.instance_book.specs.Places.{kept_at, shown_of}

@@ -1,5 +1,5 @@
 use Rattle.std.proofs.Common.{◌∙◌, ap, List}
-use Rattle.replay_spec.specs.Admission.{is_one}
+use Rattle.journal_records.specs.ReplaySpec.Admission.{is_one}
 use Rattle.instance_book.specs.declared.numbered.Numbered.{Numbered}
 use Rattle.instance_book.specs.Orders.{numbers_of}
 use Rattle.instance_book.proofs.Lists.{told}

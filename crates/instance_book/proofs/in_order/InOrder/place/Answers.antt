@@ -1,6 +1,6 @@
 use Rattle.std.proofs.Common.{◌≡◌, subst, List, None, IfNone}
 use Rattle.std.specs.Result.{result_ok}
-use Rattle.replay_spec.specs.Book.{at_number}
+use Rattle.journal_records.specs.ReplaySpec.Book.{at_number}
 use Rattle.instance_book.specs.declared.numbered.Numbered.{Numbered}
 use Rattle.instance_book.proofs.Lists.{told_none}
 use Rattle.instance_book.proofs.in_order.InOrder.place.Goals as goal

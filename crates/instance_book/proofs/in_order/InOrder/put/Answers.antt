@@ -1,6 +1,6 @@
 use Rattle.std.proofs.Common.{◌≡◌, ◌∙◌, ap, sym, subst, List, set}
 use Rattle.std.specs.List.{insert}
-use Rattle.replay_spec.specs.Change.{put_in_order}
+use Rattle.journal_records.specs.ReplaySpec.Change.{put_in_order}
 use Rattle.instance_book.specs.declared.numbered.Numbered.{Numbered}
 use Rattle.instance_book.specs.Orders.{Rises, numbers_of}
 use Rattle.instance_book.proofs.Lists.{at_in, gap_in, done_if, put_at, put_in_gap, rises_put}

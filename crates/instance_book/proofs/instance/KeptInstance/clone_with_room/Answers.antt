@@ -1,5 +1,5 @@
 use Rattle.std.proofs.Common.{◌∙◌, ap, map, List}
-use Rattle.replay_spec.specs.Marks.{uses_of, evictions_of}
+use Rattle.journal_records.specs.ReplaySpec.Marks.{uses_of, evictions_of}
 use Rattle.instance_book.specs.declared.numbered.Numbered.{Numbered}
 use Rattle.instance_book.specs.declared.page.KeptPage.{KeptPage}
 use Rattle.instance_book.specs.Views.{page_of, mark_of, instance_with}

@@ -1,7 +1,7 @@
 use Rattle.std.proofs.Common.{◌∙◌, ap, subst, List}
-use Rattle.replay_spec.specs.Book.{Page, Use, Eviction, Instance}
-use Rattle.replay_spec.specs.Change.{used_by}
-use Rattle.replay_spec.specs.Marks.{use_page}
+use Rattle.journal_records.specs.ReplaySpec.Book.{Page, Use, Eviction, Instance}
+use Rattle.journal_records.specs.ReplaySpec.Change.{used_by}
+use Rattle.journal_records.specs.ReplaySpec.Marks.{use_page}
 use Rattle.instance_book.specs.declared.in_order.InOrder.{InOrder}
 use Rattle.instance_book.specs.declared.page.KeptPage.{KeptPage}
 use Rattle.instance_book.specs.Views.{pages_of, used_of, evicted_of, instance_with}

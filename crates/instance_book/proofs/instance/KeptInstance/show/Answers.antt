@@ -1,7 +1,7 @@
 use Rattle.std.proofs.Common.{◌≡◌, ◌∙◌, ap, sym, subst, List}
-use Rattle.replay_spec.specs.Book.{Page, Use, Eviction, Instance}
-use Rattle.replay_spec.specs.Change.{put_in_order, put_page, put_use, used_in, unless_gone, evict}
-use Rattle.replay_spec.specs.Marks.{use_of}
+use Rattle.journal_records.specs.ReplaySpec.Book.{Page, Use, Eviction, Instance}
+use Rattle.journal_records.specs.ReplaySpec.Change.{put_in_order, put_page, put_use, used_in, unless_gone, evict}
+use Rattle.journal_records.specs.ReplaySpec.Marks.{use_of}
 use Rattle.kept_states.specs.Kept.{Kept}
 use Rattle.instance_book.specs.declared.in_order.InOrder.{InOrder}
 use Rattle.instance_book.specs.declared.page.KeptPage.{KeptPage}

@@ -1,5 +1,5 @@
 use Rattle.std.proofs.Common.{◌≡◌, ◌∙◌, ◌<◌, ap, sym, subst, List, length, get_or, true, false, rules}
-use Rattle.replay_spec.specs.Book.{is_over}
+use Rattle.journal_records.specs.ReplaySpec.Book.{is_over}
 use Rattle.instance_book.specs.declared.numbered.Numbered.{Numbered}
 use Rattle.instance_book.specs.declared.page.KeptPage.{KeptPage}
 use Rattle.instance_book.specs.Views.{page_of, evicted_of}

@@ -1,6 +1,6 @@
 use Rattle.std.proofs.Common.{◌≡◌, map, drop}
 use Rattle.std.specs.List.{list_all}
-use Rattle.replay_spec.specs.Book.{is_over}
+use Rattle.journal_records.specs.ReplaySpec.Book.{is_over}
 use Rattle.instance_book.specs.Views.{page_of, evicted_of}
 use Rattle.instance_book.proofs.pages.InOrder+KeptPage.all_over.Given as goal
 

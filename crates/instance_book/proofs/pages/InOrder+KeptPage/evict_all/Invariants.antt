@@ -1,5 +1,5 @@
 use Rattle.std.proofs.Common.{◌≡◌, drop}
-use Rattle.replay_spec.specs.Marks.{go_all}
+use Rattle.journal_records.specs.ReplaySpec.Marks.{go_all}
 use Rattle.instance_book.specs.Lists.{HasRoom}
 use Rattle.instance_book.specs.Views.{pages_of, marks_of}
 use Rattle.instance_book.specs.Places.{shown_in}

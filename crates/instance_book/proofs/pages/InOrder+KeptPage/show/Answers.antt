@@ -1,7 +1,7 @@
 use Rattle.std.proofs.Common.{◌≡◌, ◌∙◌, ap}
-use Rattle.replay_spec.specs.Book.{Page}
-use Rattle.replay_spec.specs.Change.{put_in_order, put_page}
-use Rattle.replay_spec.specs.Marks.{Mark, number_of, uses_of, evictions_of, go_all}
+use Rattle.journal_records.specs.ReplaySpec.Book.{Page}
+use Rattle.journal_records.specs.ReplaySpec.Change.{put_in_order, put_page}
+use Rattle.journal_records.specs.ReplaySpec.Marks.{Mark, number_of, uses_of, evictions_of, go_all}
 use Rattle.kept_states.specs.Kept.{Kept}
 use Rattle.std.proofs.Common.{List}
 use Rattle.instance_book.specs.Views.{page_of, mark_of, marks_of}

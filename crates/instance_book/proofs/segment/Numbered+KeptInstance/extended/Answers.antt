@@ -1,7 +1,7 @@
 use Rattle.std.proofs.Common.{◌∙◌, ap, refl, List, ℕ, Some, None}
-use Rattle.replay_spec.specs.Book.{Page, Instance}
-use Rattle.replay_spec.specs.Change.{put_page, put_use, unless_gone, used_in, evict, done, revoked_by}
-use Rattle.replay_spec.specs.Marks.{Mark, use_of}
+use Rattle.journal_records.specs.ReplaySpec.Book.{Page, Instance}
+use Rattle.journal_records.specs.ReplaySpec.Change.{put_page, put_use, unless_gone, used_in, evict, done, revoked_by}
+use Rattle.journal_records.specs.ReplaySpec.Marks.{Mark, use_of}
 use Rattle.instance_book.specs.Views.{page_of, mark_of, instance_with}
 use Rattle.instance_book.specs.Changes.{renewed_by}
 use Rattle.instance_book.specs.Segments.{effects_in, new_in, IsLeftBy, IsNewPage}

@@ -1,5 +1,5 @@
 use Rattle.std.proofs.Common.{refl}
-use Rattle.machine_states.specs.Views.{suspended_of}
+use Rattle.frame_codec.specs.MachineStates.Views.{suspended_of}
 use Rattle.frame_codec.specs.DeltaViews.{delta_of}
 use Rattle.kept_states.proofs.form.Form.behind.Goals as goal
 

@@ -1,7 +1,7 @@
 use Rattle.std.proofs.Common.{sym, subst, Option, Some, None}
-use Rattle.machine_states.specs.Views.{suspended_of}
+use Rattle.frame_codec.specs.MachineStates.Views.{suspended_of}
 use Rattle.std.proofs.Common.{Bor}
-use Rattle.machine_states.specs.declared.frame.Suspended.{Suspended}
+use Rattle.frame_codec.specs.MachineStates.declared.frame.Suspended.{Suspended}
 use Rattle.frame_codec.specs.FormViews.{before_of}
 use Rattle.kept_states.specs.Told.{KeepsForm, IsTold}
 use Rattle.kept_states.proofs.Told.{kept_told}

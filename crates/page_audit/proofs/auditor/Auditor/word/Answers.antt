@@ -2,11 +2,11 @@ use Rattle.std.proofs.Common.{◌≡◌, ◌∙◌, ap, sym, subst, ℕ, Some, o
 use Rattle.script_nodes.specs.Views.{library_of}
 use Rattle.replay_spec.specs.Invariant.{Among}
 use Rattle.replay_spec.proofs.Stand.{orderly_less}
-use Rattle.instance_book.specs.declared.in_order.InOrder.{InOrder}
-use Rattle.instance_book.specs.Standing.{book_under}
+use Rattle.book_recovery.specs.InstanceBook.declared.in_order.InOrder.{InOrder}
+use Rattle.book_recovery.specs.InstanceBook.Standing.{book_under}
 use Rattle.journal_records.specs.Old.{read_record_in}
 use Rattle.journal_records.specs.Views.{logged_of}
-use Rattle.journal_spec.specs.Before.{state_at}
+use Rattle.book_recovery.specs.JournalSpec.Before.{state_at}
 use Rattle.book_recovery.specs.declared.found.Found.{Found}
 use Rattle.book_recovery.specs.Reading.{seen_by, IsKept}
 use Rattle.book_recovery.proofs.Took.{whole_by}

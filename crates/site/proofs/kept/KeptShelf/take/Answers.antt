@@ -6,7 +6,7 @@ use Rattle.page_names.specs.Views.{target_of}
 use Rattle.replay_spec.specs.Admission.{admit}
 use Rattle.replay_spec.specs.Step as step
 use Rattle.shelf.specs.Visits.{Ticket, FitsAs, IsRunnable, HasItsScript}
-use Rattle.instance_book.specs.Makes.{HasItsStates}
+use Rattle.shelf.specs.InstanceBook.Makes.{HasItsStates}
 use Rattle.lock_row.proofs.Places.{map_snoc}
 use Rattle.shelf.specs.Views.{book_in, rules_of, taken_of}
 use Rattle.history_spec.specs.Histories.{Entry}

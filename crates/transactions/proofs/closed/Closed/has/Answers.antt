@@ -1,5 +1,5 @@
 use Rattle.std.proofs.Common.{◌∙◌, ap}
-use Rattle.replay_spec.specs.Names.{has}
+use Rattle.machine_states.specs.ReplaySpec.Names.{has}
 use Rattle.transactions.proofs.closed.Closed.has.Goals as goal
 
 pub returns : goal.returns
