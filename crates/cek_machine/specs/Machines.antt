@@ -6,7 +6,7 @@ use Rattle.script_value.specs.declared.outcome.TxName.{TxName}
 use Rattle.script_value.specs.Views.{meaning}
 use Rattle.machine_states.specs.declared.frame.Suspended.{Suspended}
 use Rattle.machine_states.specs.Views.{suspended_of}
-use Rattle.segments.specs.declared.ends.PlainEnd.{PlainEnd}
+use Rattle.segments.specs.declared.ends.RunEnd.{RunEnd}
 use Rattle.segments.specs.Views.{outcome_of}
 use Rattle.segment_progress.specs.States.{state_of, inside_of as open_of}
 use Rattle.script_nodes.specs.Arena.{Arena, IsScript}
@@ -51,7 +51,7 @@ abbrev pub kept_of : Machine → spec.Suspended
 kept_of m = record { env = m.spot.env; frames = frames_of m.spot; shadows = (state_of m.spot.progress).shadows }
 
 -- a step of a machine went on, or stopped so
-abbrev pub Steps : Option PlainEnd → (a : Arena) → (old new : Machine) → Type 0
+abbrev pub Steps : Option RunEnd → (a : Arena) → (old new : Machine) → Type 0
 Steps None a old new = step a (machine_of old) ≡ goes (machine_of new)
 Steps (Some end) a old new = step a (machine_of old) ≡ stopped (outcome_of end) (inside_of (frames_of new.spot)) (kept_of new) (state_of new.spot.progress)
 
@@ -75,10 +75,10 @@ abbrev pub RunTakesMemory : Arena → spec.Machine → Type 0
 RunTakesMemory a m = (k : ℕ) × ((mid : spec.Machine) × ((steps a k m ≡ goes mid) × StepTakesMemory a mid))
 
 -- a machine took the steps from the one count to the other, and the last of them is this stop
-abbrev pub RunsOver : Arena → PlainEnd → (old new : Machine) → (before count : ℕ) → Type 0
+abbrev pub RunsOver : Arena → RunEnd → (old new : Machine) → (before count : ℕ) → Type 0
 RunsOver a end old new before count =
     (k : ℕ) × ((count ≡ before + k + 1) × ((mid : spec.Machine) × ((steps a k (machine_of old) ≡ goes mid)
     × (step a mid ≡ stopped (outcome_of end) (inside_of (frames_of new.spot)) (kept_of new) (state_of new.spot.progress)))))
 
-abbrev pub Runs : PlainEnd → (old new : Machine) → (before count : ℕ) → Type 0
+abbrev pub Runs : RunEnd → (old new : Machine) → (before count : ℕ) → Type 0
 Runs end old new before count = RunsOver old.script.now end old new before count

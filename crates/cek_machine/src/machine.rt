@@ -15,7 +15,7 @@ use machine_states::{Frame, Suspended};
 use script_nodes::Script;
 use script_value::{Items, Value};
 use segment_progress::{Halt, How, Progress, halt_at};
-use segments::{Now, PlainEnd, Rerun};
+use segments::{Now, RunEnd, RunResult};
 use std::alloc::{AllocError, Global};
 use std::mem;
 use std::sync::ledger::Ledger;
@@ -149,7 +149,7 @@ impl<'s> Machine<'s> {
         &mut self,
         alloc: Global,
         steps: &mut Steps<L>,
-    ) -> Result<Option<PlainEnd>, AllocError>
+    ) -> Result<Option<RunEnd>, AllocError>
         requires { IsReady self.old }
         ensures step { IfOk result (λ end. StepsSo end self.old.script.now self.old self.new) }
         ensures ready { IfOk result (λ end. end ≡ None → IsReady self.new) }
@@ -174,7 +174,7 @@ impl<'s> Machine<'s> {
         &mut self,
         alloc: Global,
         steps: &mut Steps<L>,
-    ) -> Result<PlainEnd, AllocError>
+    ) -> Result<RunEnd, AllocError>
         requires ready { IsReady self.old }
         requires within { IsWithin self.old }
         ensures runs { IfOk result (λ end. Runs end self.old self.new steps.old steps.new) }
@@ -189,7 +189,7 @@ impl<'s> Machine<'s> {
     }
 
     /// What the segment came to, where it stopped so, and what is kept of the machine there.
-    pub fn into_parts(self, alloc: Global, end: PlainEnd) -> (Rerun, Suspended)
+    pub fn into_parts(self, alloc: Global, end: RunEnd) -> (RunResult, Suspended)
         ensures end { outcome_of result.0.end ≡ outcome_of end }
         ensures effects { map effect_of result.0.effects.items ≡ (state_in self.entry).effects }
         ensures entered { result.0.entered.items ≡ open_in self.entry }
@@ -203,12 +203,12 @@ impl<'s> Machine<'s> {
             frames,
             progress,
         } = spot;
-        let (rerun, shades) = progress.into_parts(alloc, end);
+        let (run, shades) = progress.into_parts(alloc, end);
         let state = Suspended {
             env,
             frames,
             shades,
         };
-        (rerun, state)
+        (run, state)
     }
 }

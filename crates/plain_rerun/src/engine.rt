@@ -15,7 +15,7 @@ use crate::nodes::{node_of, task_of};
 use script_nodes::{Node, Numbers, Script, SendKind};
 use script_value::{Items, Op, Value};
 use segment_progress::{Halt, How, Progress, applied, halt_at, is_false, turn_count};
-use segments::{Rerun, Tape};
+use segments::{RunResult, Tape};
 use std::alloc::{AllocError, Global};
 use std::mem;
 
@@ -445,7 +445,7 @@ impl<'t> Engine<'t> {
 ///
 /// Where memory runs out, there is no answer. The time that it takes grows with the costs of the tape's segments.
 #[tactic(auto, using(crate::proofs::Under::begins))]
-pub fn rerun(alloc: Global, script: &Script, tape: &Tape) -> Result<Rerun, AllocError>
+pub fn rerun(alloc: Global, script: &Script, tape: &Tape) -> Result<RunResult, AllocError>
     ensures { IfOk result (λ r. segment_of r ≡ run (script_of script.now) (tape_of tape.now)) }
 {
     let mut engine = Engine {
@@ -458,7 +458,7 @@ pub fn rerun(alloc: Global, script: &Script, tape: &Tape) -> Result<Rerun, Alloc
         Err(halt) => halt,
     };
     match halt {
-        Halt::Stopped(end) => Ok(engine.progress.into_rerun(alloc, end)),
+        Halt::Stopped(end) => Ok(engine.progress.into_result(alloc, end)),
         Halt::Memory => Err(AllocError),
     }
 }

@@ -6,4 +6,4 @@ mod goes_on;
 mod nodes;
 
 pub use engine::rerun;
-pub use segments::{Answer, Now, PlainEnd, Reads, Rerun, Tape};
+pub use segments::{Answer, Now, Reads, RunEnd as PlainEnd, RunResult as Rerun, Tape};

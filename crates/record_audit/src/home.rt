@@ -13,7 +13,7 @@ use page_names::{PageName, url_text};
 use plain_rerun::rerun;
 use script_nodes::NamedScript;
 use script_value::{Str, Value};
-use segments::{Answer, Now, Reads, Rerun, Tape};
+use segments::{Answer, Now, Reads, RunResult, Tape};
 use server_limits::MOST_FUEL;
 use std::alloc::{AllocError, Global};
 
@@ -110,7 +110,7 @@ impl Home<'_> {
         number: u64,
         nonce: u64,
         cells: &'t Cells,
-    ) -> Result<Rerun, AllocError>
+    ) -> Result<RunResult, AllocError>
         ensures { IfOk result (λ ran. segment_of ran ≡ comes_behind self.now
             (map answer_of past.now) (meaning answer.now) number nonce cells.now) }
     {

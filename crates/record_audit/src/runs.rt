@@ -15,7 +15,7 @@ use instance_cells::Cells;
 use journal_records::{EndedRecord, FinishRecord, Origin, PageRecord};
 use script_nodes::{Library, NamedScript};
 use script_value::{Items, Value};
-use segments::Rerun;
+use segments::RunResult;
 use std::alloc::{AllocError, Global};
 
 /// The script of this place in the present setup.
@@ -33,7 +33,7 @@ fn run_at(
     answer: &Value,
     number: u64,
     nonce: u64,
-) -> Result<Rerun, AllocError>
+) -> Result<RunResult, AllocError>
     ensures { IfOk result
         (λ ran. segment_of ran ≡ comes_at shelf place.now (meaning answer.now) number nonce) }
 {

@@ -12,7 +12,7 @@ use instance_cells::Effect;
 use journal_records::{EndedRecord, FinishRecord, PageRecord};
 use script_nodes::SendKind;
 use script_value::TxName;
-use segments::{PlainEnd, Rerun};
+use segments::{RunEnd, RunResult};
 
 // Whether these are the same effects, in the same order.
 fn are_effects(left: &[Effect], right: &[Effect]) -> bool
@@ -29,17 +29,17 @@ fn are_names(left: &[TxName], right: &[TxName]) -> bool
 }
 
 // Whether a run stopped with a page of this kind that waits for an answer.
-fn is_of_kind(end: &PlainEnd, kind: SendKind) -> bool
+fn is_of_kind(end: &RunEnd, kind: SendKind) -> bool
     ensures { result ≡ is_shown kind (outcome_of end.now) }
 {
     match end {
-        PlainEnd::Shown { kind: shown, .. } => *shown == kind,
+        RunEnd::Shown { kind: shown, .. } => *shown == kind,
         _ => false,
     }
 }
 
 /// Whether a run shows a page of the record's kind, with its effects, and leaves its transactions.
-pub fn shows_so(ran: &Rerun, page: &PageRecord) -> bool
+pub fn shows_so(ran: &RunResult, page: &PageRecord) -> bool
     ensures { result ≡ is_some (again
         page.now.kind (effects_in page.now.effects) page.now.left.items (segment_of ran.now)) }
 {
@@ -49,18 +49,18 @@ pub fn shows_so(ran: &Rerun, page: &PageRecord) -> bool
 }
 
 /// Whether a run stops with a last page, with the record's effects, and leaves its transactions.
-pub fn ends_so(ran: &Rerun, ended: &EndedRecord) -> bool
+pub fn ends_so(ran: &RunResult, ended: &EndedRecord) -> bool
     ensures { result
         ≡ ends_so (effects_in ended.now.effects) ended.now.left.items (segment_of ran.now) }
 {
-    matches!(&ran.end, PlainEnd::Ended(_))
+    matches!(&ran.end, RunEnd::Ended(_))
         && are_effects(&ran.effects, &ended.effects)
         && are_names(&ran.left, &ended.left)
 }
 
 /// Whether a run stops with a page that frees the instance, with the record's effects.
-pub fn finishes_so(ran: &Rerun, finish: &FinishRecord) -> bool
+pub fn finishes_so(ran: &RunResult, finish: &FinishRecord) -> bool
     ensures { result ≡ finishes_so (effects_in finish.now.effects) (segment_of ran.now) }
 {
-    matches!(&ran.end, PlainEnd::Finished(_)) && are_effects(&ran.effects, &finish.effects)
+    matches!(&ran.end, RunEnd::Finished(_)) && are_effects(&ran.effects, &finish.effects)
 }

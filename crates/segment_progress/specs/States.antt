@@ -8,7 +8,7 @@ use Rattle.script_value.specs.declared.value.Value.{Value}
 use Rattle.script_value.specs.declared.outcome.TxName.{TxName}
 use Rattle.instance_cells.specs.Cells.{Effect}
 use Rattle.instance_cells.specs.Trails.{start_of, effects_of}
-use Rattle.segments.specs.declared.ends.PlainEnd.{PlainEnd}
+use Rattle.segments.specs.declared.ends.RunEnd.{RunEnd}
 use Rattle.segments.specs.Views.{answer_of, now_of, outcome_of}
 use Rattle.segment_progress.specs.Halts.{IsPaged}
 use Rattle.segment_progress.specs.declared.halt.Halt.{Halt}
@@ -84,7 +84,7 @@ Does view (Ok x) old new action = action (inside_of old) (state_of old) ≡ spec
 Does view (Err e) old new action = ⊤
 
 -- what a call that takes no memory gave is how the run ends
-abbrev pub Ends : {X Y : Type 0} → (X → Y) → Result X PlainEnd → Progress → spec.End Y → Type 0
+abbrev pub Ends : {X Y : Type 0} → (X → Y) → Result X RunEnd → Progress → spec.End Y → Type 0
 Ends view (Ok x) p end = end ≡ spec.got (view x) (state_of p)
 Ends view (Err o) p end = end ≡ spec.stop (outcome_of o) (inside_of p) (state_of p)
 

@@ -4,11 +4,11 @@ ghost use Rattle.page_spec.specs.Page.{page_of};
 ghost use Rattle.segments.specs.ReplaySpec.Tape.{page_stop};
 ghost use Rattle.segment_progress.specs.Halts.{how_of, HaltsAs};
 ghost use Rattle.segment_progress.specs.declared.halt.Halt.TheVariants.{Memory, Stopped};
-ghost use Rattle.segments.specs.declared.ends.PlainEnd.TheVariants.{Faulted};
+ghost use Rattle.segments.specs.declared.ends.RunEnd.TheVariants.{Faulted};
 
 use script_nodes::SendKind;
 use script_value::{Fault, Value};
-use segments::PlainEnd;
+use segments::RunEnd;
 use std::alloc::{AllocError, AllocFailed, Global};
 use xexpr_page::{RenderFault, render};
 
@@ -18,7 +18,7 @@ pub enum Halt {
     /// Memory ran out.
     Memory,
     /// The segment stopped.
-    Stopped(PlainEnd),
+    Stopped(RunEnd),
 }
 
 impl From<AllocError> for Halt {
@@ -41,14 +41,14 @@ impl From<Fault> for Halt {
     ghost from_gives = { λ fault e. e ≡ Stopped (Faulted fault) };
 
     fn from(fault: Fault) -> Halt {
-        Halt::Stopped(PlainEnd::Faulted(fault))
+        Halt::Stopped(RunEnd::Faulted(fault))
     }
 }
 
-impl From<PlainEnd> for Halt {
+impl From<RunEnd> for Halt {
     ghost from_gives = { λ end e. e ≡ Stopped end };
 
-    fn from(end: PlainEnd) -> Halt {
+    fn from(end: RunEnd) -> Halt {
         Halt::Stopped(end)
     }
 }
@@ -70,11 +70,11 @@ pub fn halt_at(alloc: Global, how: How, page: &Value) -> Halt
 {
     match render(alloc, page) {
         Ok(page) => Halt::Stopped(match how {
-            How::Shows(kind) => PlainEnd::Shown { page, kind },
-            How::Finishes => PlainEnd::Finished(page),
-            How::Ends => PlainEnd::Ended(page),
+            How::Shows(kind) => RunEnd::Shown { page, kind },
+            How::Finishes => RunEnd::Finished(page),
+            How::Ends => RunEnd::Ended(page),
         }),
-        Err(RenderFault::NotPage) => Halt::Stopped(PlainEnd::Faulted(Fault::NotPage)),
+        Err(RenderFault::NotPage) => Halt::Stopped(RunEnd::Faulted(Fault::NotPage)),
         Err(RenderFault::Memory) => Halt::Memory,
     }
 }

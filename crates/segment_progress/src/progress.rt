@@ -15,7 +15,7 @@ use crate::halt::{Halt, How, halt_at};
 use instance_cells::{AddFault, Effect, Trail};
 use script_nodes::SendKind;
 use script_value::{Items, TxName, Value, size};
-use segments::{Answer, Now, PlainEnd, Reads, Rerun, Tape};
+use segments::{Answer, Now, Reads, RunEnd, RunResult, Tape};
 use std::alloc::{AllocError, Global};
 use std::mem;
 use web_cells::Shades;
@@ -216,7 +216,7 @@ impl<'t> Progress<'t> {
     }
 
     /// The cost grows; a segment over present cells stops where it is above the fuel. It takes no memory.
-    pub fn charge(&mut self, amount: u64) -> Result<(), PlainEnd>
+    pub fn charge(&mut self, amount: u64) -> Result<(), RunEnd>
         ensures gives { Ends (λ x. x) result self.new (charge (inside_of self.old) amount (state_of self.old)) }
         ensures inside { inside_of self.new ≡ inside_of self.old }
         ensures shades { self.new.shades ≡ self.old.shades }
@@ -227,7 +227,7 @@ impl<'t> Progress<'t> {
             Source::Recorded(_) => Ok(()),
             Source::Present { fuel, .. } => {
                 if *fuel < self.cost {
-                    return Err(PlainEnd::Fuel(self.cost));
+                    return Err(RunEnd::Fuel(self.cost));
                 }
                 Ok(())
             }
@@ -370,29 +370,29 @@ impl<'t> Progress<'t> {
             Source::Recorded(_) => Ok(Value::Truth(true)),
             Source::Present { trail, .. } => match trail.add(alloc, cell, operand) {
                 Ok(()) => Ok(Value::Truth(true)),
-                Err(AddFault::Fault(fault)) => Err(Halt::Stopped(PlainEnd::Faulted(fault))),
+                Err(AddFault::Fault(fault)) => Err(Halt::Stopped(RunEnd::Faulted(fault))),
                 Err(AddFault::Memory) => Err(Halt::Memory),
             },
         }
     }
 
     /// What the run comes to, where it stops so, and the bindings of web cells there.
-    pub fn into_parts(self, alloc: Global, end: PlainEnd) -> (Rerun, Shades)
-        ensures rerun { segment_of result.0 ≡ segment_at (outcome_of end) (inside_of self.entry) (state_of self.entry) }
+    pub fn into_parts(self, alloc: Global, end: RunEnd) -> (RunResult, Shades)
+        ensures run { segment_of result.0 ≡ segment_at (outcome_of end) (inside_of self.entry) (state_of self.entry) }
         ensures shades { result.1 ≡ self.entry.shades }
     {
-        let rerun = Rerun {
+        let run = RunResult {
             end,
             effects: effects_of(alloc, self.source),
             entered: self.inside,
             left: self.left,
             cost: self.cost,
         };
-        (rerun, self.shades)
+        (run, self.shades)
     }
 
     /// What the run comes to, where it stops so.
-    pub fn into_rerun(self, alloc: Global, end: PlainEnd) -> Rerun
+    pub fn into_result(self, alloc: Global, end: RunEnd) -> RunResult
         ensures { segment_of result ≡ segment_at (outcome_of end) (inside_of self.entry) (state_of self.entry) }
     {
         self.into_parts(alloc, end).0

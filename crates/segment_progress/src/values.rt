@@ -9,7 +9,7 @@ ghost use Rattle.segment_progress.specs.declared.progress.Progress.{Progress as 
 use crate::halt::Halt;
 use prim_ops::{ApplyFault, apply};
 use script_value::{Fault, Items, Op, Value};
-use segments::PlainEnd;
+use segments::RunEnd;
 use std::alloc::Global;
 
 /// Whether a value is #f, the only one that is false.
@@ -46,7 +46,7 @@ pub fn applied(alloc: Global, op: Op, operands: Items) -> Result<Value, Halt>
 {
     match apply(alloc, op, operands) {
         Ok(value) => Ok(value),
-        Err(ApplyFault::Fault(fault)) => Err(Halt::Stopped(PlainEnd::Faulted(fault))),
+        Err(ApplyFault::Fault(fault)) => Err(Halt::Stopped(RunEnd::Faulted(fault))),
         Err(ApplyFault::Memory) => Err(Halt::Memory),
     }
 }

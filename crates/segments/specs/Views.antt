@@ -7,9 +7,9 @@ use Rattle.segments.specs.declared.tape.Reads.{Reads}
 use Rattle.segments.specs.declared.tape.Reads.TheVariants as reads
 use Rattle.segments.specs.declared.tape.Answer.{Answer}
 use Rattle.segments.specs.declared.tape.Tape.{Tape}
-use Rattle.segments.specs.declared.ends.PlainEnd.{PlainEnd}
-use Rattle.segments.specs.declared.ends.PlainEnd.TheVariants.{Shown, Finished, Ended, Faulted, Fuel}
-use Rattle.segments.specs.declared.ends.Rerun.{Rerun}
+use Rattle.segments.specs.declared.ends.RunEnd.{RunEnd}
+use Rattle.segments.specs.declared.ends.RunEnd.TheVariants.{Shown, Finished, Ended, Faulted, Fuel}
+use Rattle.segments.specs.declared.ends.RunResult.{RunResult}
 use Rattle.replay_spec.specs.Tape as spec
 use Rattle.replay_spec.specs.Eval.{Segment}
 
@@ -35,7 +35,7 @@ newest_of t = record { value = meaning t.answer.now; segment = now_of t.newest }
 abbrev pub tape_of : Tape → spec.Tape
 tape_of t = spec.tape_behind (map answer_of t.past.now) (newest_of t)
 
-abbrev pub outcome_of : PlainEnd → spec.Outcome
+abbrev pub outcome_of : RunEnd → spec.Outcome
 outcome_of (Shown page kind) = spec.paged (spec.shows kind) page
 outcome_of (Finished page) = spec.paged spec.finishes page
 outcome_of (Ended page) = spec.paged spec.ends page
@@ -43,7 +43,7 @@ outcome_of (Faulted k) = spec.faulted k
 outcome_of (Fuel cost) = spec.out_of_fuel cost
 
 -- how a run stopped, and what its last segment did
-abbrev pub segment_of : Rerun → Segment
+abbrev pub segment_of : RunResult → Segment
 segment_of r = record {
   outcome = outcome_of r.end;
   entered = r.entered.items;

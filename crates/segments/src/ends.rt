@@ -8,7 +8,7 @@ use std::alloc::{AllocError, Global};
 
 /// How a segment stopped.
 #[derive(Drop)]
-pub enum PlainEnd {
+pub enum RunEnd {
     /// With a page that waits for an answer.
     Shown { page: Bytes, kind: SendKind },
     /// With a page that frees the instance.
@@ -23,8 +23,8 @@ pub enum PlainEnd {
 
 /// What a run comes to: how it stopped, and what its last segment did.
 #[derive(Drop)]
-pub struct Rerun {
-    pub end: PlainEnd,
+pub struct RunResult {
+    pub end: RunEnd,
     /// What it did to the instance's cells, the oldest first; nothing where its reads were recorded.
     pub effects: Vec<Effect>,
     /// The transactions that are open where it stopped, the outermost first.
@@ -35,30 +35,30 @@ pub struct Rerun {
     pub cost: u64,
 }
 
-impl PlainEnd {
+impl RunEnd {
     /// A copy, equal to its source.
-    pub fn try_clone(&self, alloc: Global) -> Result<PlainEnd, AllocError>
+    pub fn try_clone(&self, alloc: Global) -> Result<RunEnd, AllocError>
         ensures { IfOk result (λ copy. copy ≡ self.now) }
     {
         match self {
-            PlainEnd::Shown { page, kind } => Ok(PlainEnd::Shown {
+            RunEnd::Shown { page, kind } => Ok(RunEnd::Shown {
                 page: page.try_clone(alloc)?,
                 kind: *kind,
             }),
-            PlainEnd::Finished(page) => Ok(PlainEnd::Finished(page.try_clone(alloc)?)),
-            PlainEnd::Ended(page) => Ok(PlainEnd::Ended(page.try_clone(alloc)?)),
-            PlainEnd::Faulted(fault) => Ok(PlainEnd::Faulted(*fault)),
-            PlainEnd::Fuel(cost) => Ok(PlainEnd::Fuel(*cost)),
+            RunEnd::Finished(page) => Ok(RunEnd::Finished(page.try_clone(alloc)?)),
+            RunEnd::Ended(page) => Ok(RunEnd::Ended(page.try_clone(alloc)?)),
+            RunEnd::Faulted(fault) => Ok(RunEnd::Faulted(*fault)),
+            RunEnd::Fuel(cost) => Ok(RunEnd::Fuel(*cost)),
         }
     }
 }
 
-impl Rerun {
+impl RunResult {
     /// A copy, equal to its source.
-    pub fn try_clone(&self, alloc: Global) -> Result<Rerun, AllocError>
+    pub fn try_clone(&self, alloc: Global) -> Result<RunResult, AllocError>
         ensures { IfOk result (λ copy. segment_of copy ≡ segment_of self.now) }
     {
-        Ok(Rerun {
+        Ok(RunResult {
             end: self.end.try_clone(alloc)?,
             effects: clone_effects(alloc, self.effects.as_slice())?,
             entered: self.entered.as_slice().to_vec(alloc)?,

@@ -4,5 +4,5 @@
 mod ends;
 mod tape;
 
-pub use ends::{PlainEnd, Rerun};
+pub use ends::{RunEnd, RunResult};
 pub use tape::{Answer, Now, Reads, Tape, clone_answers};

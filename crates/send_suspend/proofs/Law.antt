@@ -25,7 +25,7 @@ use Rattle.machine_states.proofs.Bound.{halts}
 use Rattle.machine_states.proofs.Inside.{stop_within}
 use Rattle.machine_states.proofs.Unbound.{stop_binds}
 use Rattle.machine_states.proofs.Stepping.{fits_on, fits_kept}
-use Rattle.segments.specs.declared.ends.PlainEnd.{PlainEnd}
+use Rattle.segments.specs.declared.ends.RunEnd.{RunEnd}
 use Rattle.segments.specs.Views as plain
 use Rattle.machine_states.specs.declared.frame.Suspended as kept
 use Rattle.machine_states.specs.Views.{suspended_of, frame_of, outcome_of, Keeps, segment_of}
@@ -240,7 +240,7 @@ came from a b same i value number url cells fuel h m w e o names d s r before co
     (λ f. came_there from b i value number url cells fuel h m w f o names d s r before count ran is) e
 
 -- the parts of a machine at its stop
-pub is_stop : (r : Segment) (end last : PlainEnd) (state : kept.Suspended) (names : List TxName) (d : Suspended) (s : State) → Ends r.outcome last state → plain.outcome_of last ≡ plain.outcome_of end
+pub is_stop : (r : Segment) (end last : RunEnd) (state : kept.Suspended) (names : List TxName) (d : Suspended) (s : State) → Ends r.outcome last state → plain.outcome_of last ≡ plain.outcome_of end
     → suspended_of state ≡ d → r.entered.items ≡ names → map effect_of r.effects.items ≡ s.effects → r.left.items ≡ s.left → r.cost ≡ s.cost → IsStop r (plain.outcome_of end) names d s
 is_stop r end last state names d s ends e f n g h c =
     record { outcome = ends.0 ∙ e; entered = n; kept = subst (λ (x : Suspended). Keeps r.outcome (λ y. y ≡ x)) f ends.1; effects = g; left = h; cost = c }

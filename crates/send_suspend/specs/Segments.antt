@@ -7,7 +7,7 @@ use Rattle.web_cells.specs.Shadows.{Rise}
 use Rattle.web_cells.specs.Own.{BindsAllOf}
 use Rattle.instance_cells.specs.Cells.{AreOn, Holds, reads_of}
 use Rattle.instance_cells.specs.Views.{effect_of}
-use Rattle.segments.specs.declared.ends.PlainEnd.{PlainEnd}
+use Rattle.segments.specs.declared.ends.RunEnd.{RunEnd}
 use Rattle.segments.specs.Views as plain
 use Rattle.segments.specs.ReplaySpec.Tape.{Answer, Reads, recorded, present, Tape}
 use Rattle.segments.specs.ReplaySpec.Eval as eval
@@ -24,7 +24,7 @@ use Rattle.machine_states.specs.declared.segment.Outcome.{Outcome}
 use Rattle.machine_states.specs.declared.segment.Segment.{Segment}
 
 -- the stop of a machine, with this state where it waits for an answer
-abbrev pub Ends : Outcome → PlainEnd → Suspended → Type 0
+abbrev pub Ends : Outcome → RunEnd → Suspended → Type 0
 Ends o end state = (outcome_of o ≡ plain.outcome_of end) × Keeps o (λ d. d ≡ suspended_of state)
 
 -- an answer, and the segment over present cells that runs after it

@@ -11,20 +11,20 @@ use instance_cells::Cells;
 use machine_states::{Origin, Outcome, Segment, Suspended};
 use script_nodes::Script;
 use script_value::{Str, Value};
-use segments::{Now, PlainEnd, Reads};
+use segments::{Now, Reads, RunEnd};
 use std::alloc::{AllocError, Global};
 use std::sync::ledger::Ledger;
 
 // How a segment stopped, with what is kept where it waits for an answer.
-fn outcome_with(end: PlainEnd, state: Suspended) -> Outcome
+fn outcome_with(end: RunEnd, state: Suspended) -> Outcome
     ensures { Ends result end state }
 {
     match end {
-        PlainEnd::Shown { page, kind } => Outcome::Shown { page, kind, state },
-        PlainEnd::Finished(page) => Outcome::Finished(page),
-        PlainEnd::Ended(page) => Outcome::Ended(page),
-        PlainEnd::Faulted(fault) => Outcome::Faulted(fault),
-        PlainEnd::Fuel(cost) => Outcome::Fuel(cost),
+        RunEnd::Shown { page, kind } => Outcome::Shown { page, kind, state },
+        RunEnd::Finished(page) => Outcome::Finished(page),
+        RunEnd::Ended(page) => Outcome::Ended(page),
+        RunEnd::Faulted(fault) => Outcome::Faulted(fault),
+        RunEnd::Fuel(cost) => Outcome::Fuel(cost),
     }
 }
 
@@ -80,13 +80,13 @@ pub fn run_segment<L: Ledger>(
     };
     let mut machine = begin(alloc, script, from, answer, segment)?;
     let end = machine.run(alloc, steps)?;
-    let (rerun, state) = machine.into_parts(alloc, end);
+    let (run, state) = machine.into_parts(alloc, end);
     let entered = state.inside(alloc)?;
     Ok(Segment {
-        outcome: outcome_with(rerun.end, state),
-        effects: rerun.effects,
+        outcome: outcome_with(run.end, state),
+        effects: run.effects,
         entered,
-        left: rerun.left,
-        cost: rerun.cost,
+        left: run.left,
+        cost: run.cost,
     })
 }

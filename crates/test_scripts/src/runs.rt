@@ -6,7 +6,7 @@ use instance_cells::{Cells, Effect};
 use plain_rerun::rerun;
 use script_nodes::{Script, SendKind};
 use script_value::{Items, Str, TxName, Value};
-use segments::{Answer, Now, PlainEnd, Reads, Rerun, Tape, clone_answers};
+use segments::{Answer, Now, Reads, RunEnd, RunResult, Tape, clone_answers};
 use std::alloc::{AllocError, Global};
 
 /// What a segment of these runs may cost, where a row says nothing of it.
@@ -58,7 +58,7 @@ fn run_behind(
     past: &[Answer],
     answer: &Value,
     fuel: u64,
-) -> Result<Rerun, AllocError> {
+) -> Result<RunResult, AllocError> {
     let url = url(alloc, past.len() as u64)?;
     let cells = Cells::of(alloc, script.instance_defaults().as_slice())?;
     rerun(alloc, script, &tape(past, answer, &url, &cells, fuel))
@@ -70,7 +70,7 @@ fn run_over(
     script: &Script,
     answers: &[Value],
     fuel: u64,
-) -> Result<Rerun, AllocError> {
+) -> Result<RunResult, AllocError> {
     let mut past = Vec::new(alloc);
     let mut last = &Value::Truth(false);
     for value in answers {
@@ -119,23 +119,23 @@ pub fn question_of(alloc: Global, row: &str) -> Result<Result<Asked, String>, Al
 }
 
 /// How a run stopped.
-pub fn end_told(alloc: Global, end: &PlainEnd) -> Result<String, AllocError> {
+pub fn end_told(alloc: Global, end: &RunEnd) -> Result<String, AllocError> {
     let (word, page) = match end {
-        PlainEnd::Shown { page, kind } => match kind {
+        RunEnd::Shown { page, kind } => match kind {
             SendKind::Suspend => ("shown", page),
             SendKind::Forward => ("forwarded", page),
         },
-        PlainEnd::Finished(page) => ("finished", page),
-        PlainEnd::Ended(page) => ("ended", page),
-        PlainEnd::Faulted(fault) => return format!(in alloc; "{fault:?}"),
-        PlainEnd::Fuel(cost) => return format!(in alloc; "fuel {cost}"),
+        RunEnd::Finished(page) => ("finished", page),
+        RunEnd::Ended(page) => ("ended", page),
+        RunEnd::Faulted(fault) => return format!(in alloc; "{fault:?}"),
+        RunEnd::Fuel(cost) => return format!(in alloc; "fuel {cost}"),
     };
     let page = str::from_utf8(page.as_slice()).unwrap_or("no text");
     format!(in alloc; "{word} {page}")
 }
 
 // How a run stopped, and what its last segment costs.
-fn with_cost(alloc: Global, run: &Rerun) -> Result<String, AllocError> {
+fn with_cost(alloc: Global, run: &RunResult) -> Result<String, AllocError> {
     let mut told = Told::new(alloc);
     told.put(end_told(alloc, &run.end));
     told.add(", ");
@@ -154,7 +154,7 @@ fn effect_told(alloc: Global, effect: &Effect) -> Result<String, AllocError> {
 }
 
 // How a run stopped, and the effects of its last segment.
-fn with_effects(alloc: Global, run: &Rerun) -> Result<String, AllocError> {
+fn with_effects(alloc: Global, run: &RunResult) -> Result<String, AllocError> {
     let mut told = Told::new(alloc);
     told.put(end_told(alloc, &run.end));
     for effect in run.effects.as_slice() {
@@ -174,7 +174,7 @@ fn tell_names(alloc: Global, told: &mut Told, word: &str, names: &[TxName]) {
 }
 
 // The transactions that are open where a run stopped, and those that its last segment left.
-fn transactions_told(alloc: Global, run: &Rerun) -> Result<String, AllocError> {
+fn transactions_told(alloc: Global, run: &RunResult) -> Result<String, AllocError> {
     let mut told = Told::new(alloc);
     tell_names(alloc, &mut told, "open", run.entered.as_slice());
     tell_names(alloc, &mut told, ", left", run.left.as_slice());
@@ -182,7 +182,7 @@ fn transactions_told(alloc: Global, run: &Rerun) -> Result<String, AllocError> {
 }
 
 // What is asked of a run.
-fn told_of_run(alloc: Global, word: &str, run: &Rerun) -> Result<String, AllocError> {
+fn told_of_run(alloc: Global, word: &str, run: &RunResult) -> Result<String, AllocError> {
     match word {
         "cost" => with_cost(alloc, run),
         "effects" => with_effects(alloc, run),

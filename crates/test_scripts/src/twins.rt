@@ -12,7 +12,7 @@ use machine_states::{Origin, Outcome, Segment, Suspended};
 use plain_rerun::rerun;
 use script_nodes::Script;
 use script_value::{Items, Str, Value, equal};
-use segments::{Answer, Now, PlainEnd, Reads, Rerun};
+use segments::{Answer, Now, Reads, RunEnd, RunResult};
 use send_suspend::run_segment;
 use std::alloc::{AllocError, Global};
 use std::marker::Brand;
@@ -27,7 +27,7 @@ pub struct Twins {
     /// What the machine of stored frames came to.
     pub machine: Segment,
     /// What the slow engine came to, from the start of the script.
-    pub plain: Rerun,
+    pub plain: RunResult,
     /// The steps that the machine took.
     steps: u64,
     /// The frames that it began with.
@@ -359,20 +359,20 @@ pub fn chain_of(
 
 // ---- whether both came to the same
 
-fn are_ends_alike(plain: &PlainEnd, machine: &Outcome) -> bool {
+fn are_ends_alike(plain: &RunEnd, machine: &Outcome) -> bool {
     match (plain, machine) {
         (
-            PlainEnd::Shown { page, kind },
+            RunEnd::Shown { page, kind },
             Outcome::Shown {
                 page: other,
                 kind: another,
                 ..
             },
         ) => *kind == *another && page.as_slice() == other.as_slice(),
-        (PlainEnd::Finished(page), Outcome::Finished(other)) => page.as_slice() == other.as_slice(),
-        (PlainEnd::Ended(page), Outcome::Ended(other)) => page.as_slice() == other.as_slice(),
-        (PlainEnd::Faulted(fault), Outcome::Faulted(other)) => *fault == *other,
-        (PlainEnd::Fuel(cost), Outcome::Fuel(other)) => *cost == *other,
+        (RunEnd::Finished(page), Outcome::Finished(other)) => page.as_slice() == other.as_slice(),
+        (RunEnd::Ended(page), Outcome::Ended(other)) => page.as_slice() == other.as_slice(),
+        (RunEnd::Faulted(fault), Outcome::Faulted(other)) => *fault == *other,
+        (RunEnd::Fuel(cost), Outcome::Fuel(other)) => *cost == *other,
         _ => false,
     }
 }

@@ -7,7 +7,7 @@ use page_names::{Target, parse_target};
 use plain_rerun::rerun;
 use script_nodes::{Script, SendKind, Setup};
 use script_value::{Items, Reply, Str, Value};
-use segments::{Answer, Now, PlainEnd, Reads, Rerun, Tape};
+use segments::{Answer, Now, Reads, RunEnd, RunResult, Tape};
 use std::alloc::{AllocError, Global};
 use std::test::Fail;
 
@@ -95,7 +95,7 @@ impl Again<'_> {
         script: &Script,
         note: &Note,
         cells: &Cells,
-    ) -> Result<Rerun, Fail> {
+    ) -> Result<RunResult, Fail> {
         let past = self.past(alloc, note.behind)?;
         let answer = answer_of(alloc, note.query.as_bytes(), b"".as_slice())?;
         let url = url_of(alloc, note)?;
@@ -132,22 +132,22 @@ impl Again<'_> {
 }
 
 // Whether a run stopped with the page that was told.
-fn is_as_told(end: &PlainEnd, reply: &Reply) -> bool {
+fn is_as_told(end: &RunEnd, reply: &Reply) -> bool {
     match (end, reply) {
         (
-            PlainEnd::Shown {
+            RunEnd::Shown {
                 page,
                 kind: SendKind::Suspend,
             },
             Reply::Page { bytes, url: _ },
         ) => page.as_slice() == bytes.as_slice(),
-        (PlainEnd::Ended(page), Reply::Ended(bytes)) => page.as_slice() == bytes.as_slice(),
+        (RunEnd::Ended(page), Reply::Ended(bytes)) => page.as_slice() == bytes.as_slice(),
         _ => false,
     }
 }
 
 // Commits the effects of a run that was told so, and gives what it read.
-fn settled(alloc: Global, run: &Rerun, note: &Note, cells: &mut Cells) -> Result<Items, Fail> {
+fn settled(alloc: Global, run: &RunResult, note: &Note, cells: &mut Cells) -> Result<Items, Fail> {
     let effects = run.effects.as_slice();
     if !is_as_told(&run.end, &note.reply) || !cells.are_on(effects) {
         return Err(Fail::from("the slow engine shows another page"));

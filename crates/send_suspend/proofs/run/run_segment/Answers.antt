@@ -10,14 +10,14 @@ use Rattle.send_suspend.proofs.Law.{Came, came, is_stop}
 use Rattle.send_suspend.proofs.run.run_segment.Given as given
 use Rattle.send_suspend.proofs.run.run_segment.Goals as goal
 
-came_here : (g : given.Over) (c : goal.After-drop-rerun-2 g)
+came_here : (g : given.Over) (c : goal.After-drop-run-2 g)
     → Came c.args.from c.args.script.now (meaning c.args.answer.now) c.args.number c.args.url.now c.args.cells.now c.args.fuel
-    (record { outcome = c.outcome_with.result; effects = c.into_parts-rerun.result.0.effects; entered = c.in_ok-entered.entered; left = c.into_parts-rerun.result.0.left; cost = c.into_parts-rerun.result.0.cost })
+    (record { outcome = c.outcome_with.result; effects = c.into_parts-run.result.0.effects; entered = c.in_ok-entered.entered; left = c.into_parts-run.result.0.left; cost = c.into_parts-run.result.0.cost })
     c.args.steps.now c.run.new.steps
 came_here g c =
     let m = c.in_ok-machine.machine in
     let new = c.run.new.self in
-    let parts = c.into_parts-rerun in
+    let parts = c.into_parts-run in
     let r : Segment = record { outcome = c.outcome_with.result; effects = parts.result.0.effects; entered = c.in_ok-entered.entered; left = parts.result.0.left; cost = parts.result.0.cost } in
     let ready = c.in_ok-machine.ensures.ready in
     came c.args.from c.args.script.now m.script.now c.in_ok-machine.ensures.script ready.1.0 (meaning c.args.answer.now) c.args.number c.args.url.now c.args.cells.now c.args.fuel
