@@ -1,6 +1,5 @@
 -- The visit that a ticket is for.
-use Rattle.std.specs.Prelude.{◌≡◌, ℕ, List, Option, Some, slice_get, length, option_map, ⊤}
-use Rattle.std.specs.Borrow.{Bor}
+use Rattle.std.specs.Prelude.{◌≡◌, ℕ, List, Option, Some, slice_get, length, ⊤}
 use Rattle.script_nodes.specs.Setup.{Named}
 use Rattle.replay_spec.specs.Tape.{Tape}
 use Rattle.replay_spec.specs.Book as spec
@@ -8,9 +7,8 @@ use Rattle.replay_spec.specs.Admission.{Place, Admission, begins, resumes, refus
 use Rattle.replay_spec.specs.Next.{Visit, url_for, start_visit, page_visit}
 use Rattle.machine_states.specs.Machine.{Suspended}
 use Rattle.machine_states.specs.Laws.{IsStateOf}
-use Rattle.machine_states.specs.Views.{origin_of, suspended_of}
-use Rattle.machine_states.specs.declared.frame.Suspended as stored
-use Rattle.instance_book.specs.KeptStates.Links.{links_at, behind_at}
+use Rattle.machine_states.specs.Views.{origin_of}
+use Rattle.instance_book.specs.KeptStates.Links.{links_at}
 use Rattle.book_visits.specs.declared.ticket.Ticket.{Ticket}
 use Rattle.book_visits.specs.Views.{ticket_of}
 use Rattle.instance_book.specs.Places.{Source, own, given, IsGiven, arena_of}
@@ -83,7 +81,3 @@ pub record IsCopy (copy t : Ticket) : Type 0 where
   pub from : origin_of copy.from ≡ origin_of t.from
   pub links : copy.links ≡ t.links
   pub cells : copy.cells ≡ t.cells
-
--- what is lent is the state that a page of the ticket's segment is written behind, if there is one
-abbrev pub IsWrittenBehind : Ticket → Option (Bor stored.Suspended) → Type 0
-IsWrittenBehind t d = option_map (λ x. suspended_of x.now) d ≡ behind_at t.links (origin_of t.from)

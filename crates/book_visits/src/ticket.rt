@@ -1,8 +1,8 @@
 ghost use Rattle.std.specs.Prelude.{IfOk};
-ghost use Rattle.book_visits.specs.Fits.{IsCopy, IsWrittenBehind};
+ghost use Rattle.book_visits.specs.Fits.{IsCopy};
 
 use instance_cells::Cells;
-use machine_states::{Origin, Suspended};
+use machine_states::Origin;
 use page_names::Target;
 use script_value::{Str, Value};
 use std::alloc::{AllocError, Global};
@@ -29,19 +29,6 @@ pub struct Ticket {
 }
 
 impl Ticket {
-    /// The state that a page of the segment is written behind: that of the page that is answered, where the links ask for it.
-    pub fn behind(&self) -> Option<&Suspended>
-        ensures { IsWrittenBehind self.now result }
-    {
-        if self.links == 0 {
-            return None;
-        }
-        match &self.from {
-            Origin::Start => None,
-            Origin::Page(state) => Some(state),
-        }
-    }
-
     /// A copy, equal to its source.
     pub fn try_clone(&self, alloc: Global) -> Result<Ticket, AllocError>
         ensures { IfOk result (λ copy. IsCopy copy self.now) }

@@ -30,7 +30,7 @@ use Rattle.frame_codec.specs.Deltas.{Delta, Shares, IsDelta, GoesOnFrom, joined,
 use Rattle.frame_codec.proofs.Frames.{both_bytes, BothFit, both_exact, values_exact, frame_exact, shadow_exact, LetFits, IsRead}
 use Rattle.frame_codec.proofs.Walks.{lets_fit, walk_fits, fits_walk}
 use Rattle.frame_codec.proofs.Cells.{cells_fit, fit_cells}
-use Rattle.frame_codec.proofs.Lengths.{kept_order}
+use Rattle.frame_codec.proofs.Order.{kept_order}
 use Rattle.frame_codec.proofs.States.{all_reversed, all_both, all_first, state_again}
 use Rattle.frame_codec.proofs.Fronts as shared
 

@@ -30,7 +30,7 @@ use Rattle.frame_codec.proofs.Frames.{frame_exact, shadow_exact, IsRead}
 use Rattle.frame_codec.proofs.States.{stored_parts}
 use Rattle.frame_codec.proofs.Cells.{fit_cells}
 use Rattle.frame_codec.proofs.Shades.{bound_in_order}
-use Rattle.frame_codec.proofs.Lengths.{kept_order}
+use Rattle.frame_codec.proofs.Order.{kept_order}
 use Rattle.frame_codec.proofs.Differences.{frames_are_read}
 
 -- ---- what is read

@@ -5,7 +5,7 @@ pub mod States
 pub mod Nodes
 pub mod Lets
 pub mod Shades
-pub mod Lengths
+pub mod Order
 pub mod Written
 pub mod Turns
 pub mod Counts

@@ -9,16 +9,12 @@ use Rattle.frame_codec.specs.Stored.{IsStored}
 use Rattle.frame_codec.specs.Deltas.{joined}
 use Rattle.frame_codec.specs.DeltaViews.{delta_of}
 use Rattle.frame_codec.specs.Difference.{read_difference}
-use Rattle.frame_codec.specs.Forms.{form_bytes, read_form}
+use Rattle.frame_codec.specs.Forms.{read_form}
 use Rattle.frame_codec.specs.declared.difference.Delta.{Delta}
 
 -- the state that another one is written behind, if there is one
 abbrev pub before_of : Option (Bor stored.Suspended) → Option Suspended
 before_of before = option_map (λ p. suspended_of p.now) before
-
--- these are the bytes of a state in the form that is due
-abbrev pub IsFormOf : Option (Bor stored.Suspended) → stored.Suspended → List ℕ → Type 0
-IsFormOf before d bytes = bytes ≡ form_bytes (before_of before) (suspended_of d)
 
 -- this is the state that bytes spell in the form that is due
 abbrev pub ReadsForm : Arena → Option (Bor stored.Suspended) → List ℕ → Option stored.Suspended → Type 0

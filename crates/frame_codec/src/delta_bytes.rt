@@ -3,7 +3,7 @@ ghost use Rattle.web_cells.specs.Shadows.{Rise};
 ghost use Rattle.machine_states.specs.Views.{suspended_of};
 ghost use Rattle.value_bytes.specs.Views.{Reads};
 ghost use Rattle.frame_codec.specs.Stored.{IsStored};
-ghost use Rattle.frame_codec.specs.Deltas.{delta_bytes, DeltaHasBytes, IsSpellingOf};
+ghost use Rattle.frame_codec.specs.Deltas.{DeltaHasBytes, IsSpellingOf};
 ghost use Rattle.frame_codec.specs.FormViews.{ReadsDifference};
 ghost use Rattle.frame_codec.specs.Parted.{delta_parts};
 ghost use Rattle.frame_codec.specs.PartedViews.{parted_of};
@@ -56,15 +56,6 @@ pub fn spell_delta(alloc: Global, delta: &Delta) -> Result<Parted, AllocError>
     let mut shadows = Writer::new(alloc);
     write_shadows(&mut shadows, delta.shadows.as_slice())?;
     Parted::of(env.finish(), &frames.finish(), &shadows.finish())
-}
-
-/// The spelling of a difference that has one.
-#[tactic(auto, using(crate::proofs::Parts::delta_whole))]
-pub fn encode_delta(alloc: Global, delta: &Delta) -> Result<Bytes, AllocError>
-    requires { DeltaHasBytes (delta_of delta.now) }
-    ensures { IfOk result (λ bytes. bytes ≡ delta_bytes (delta_of delta.now)) }
-{
-    spell_delta(alloc, delta)?.spelling(alloc)
 }
 
 // What a difference is made of, as it stands at the cursor.

@@ -1,37 +1,17 @@
 ghost use Rattle.std.specs.Prelude.{IfOk};
 ghost use Rattle.machine_states.specs.Views.{suspended_of};
-ghost use Rattle.frame_codec.specs.Spelling.{StateHasBytes};
 ghost use Rattle.frame_codec.specs.Stored.{IsStored};
 ghost use Rattle.frame_codec.specs.Forms.{IsStoredBefore};
-ghost use Rattle.frame_codec.specs.FormViews.{before_of, IsFormOf, ReadsForm, ReadsBehind};
+ghost use Rattle.frame_codec.specs.FormViews.{before_of, ReadsForm, ReadsBehind};
 
-use crate::delta_bytes::{decode_delta, spell_delta};
-use crate::joined::{delta, join};
+use crate::delta_bytes::decode_delta;
+use crate::joined::join;
 use crate::parted::{ALONE, BEHIND};
 use crate::state::decode;
-use crate::write::spell_state;
 use machine_states::Suspended;
 use script_nodes::Script;
 use script_value::Bytes;
 use std::alloc::{AllocError, Global};
-
-/// The bytes of a state that has a spelling: by itself, or behind the state of the page before as what differs from it.
-pub fn encode_form(
-    alloc: Global,
-    before: Option<&Suspended>,
-    state: &Suspended,
-) -> Result<Bytes, AllocError>
-    requires { StateHasBytes (suspended_of state.now) }
-    ensures { IfOk result (λ bytes. IsFormOf before.entry state.now bytes) }
-{
-    match before {
-        None => Ok(spell_state(alloc, state)?.into_bytes()),
-        Some(parent) => {
-            let delta = delta(alloc, parent, state)?;
-            Ok(spell_delta(alloc, &delta)?.into_bytes())
-        }
-    }
-}
 
 // The state that these bytes spell behind another one.
 fn decode_behind(

@@ -114,7 +114,7 @@ pub fn shadows_have_bytes(shadows: &[Shadow]) -> bool
 
 /// Whether a state has a spelling: each value of it has one, no list has 2^32 items, and no frame is the body of a page. It takes
 /// no memory.
-#[tactic(auto, using(crate::proofs::Lengths::kept_order))]
+#[tactic(auto, using(crate::proofs::Order::kept_order))]
 pub fn is_spelled(state: &Suspended) -> bool
     ensures { IsTrue result ↔ StateHasBytes (suspended_of state.now) }
 {

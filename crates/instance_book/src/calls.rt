@@ -1,9 +1,7 @@
 ghost use Rattle.std.specs.Prelude.{◌≡◌, ◌<◌, ◌^◌, List, OnOk, OnErr, option_map, ◌-◌};
 ghost use Rattle.script_nodes.specs.Setup.{Named};
-ghost use Rattle.script_nodes.specs.Views.{library_of};
 ghost use Rattle.journal_records.specs.ReplaySpec.Book as spec;
 ghost use Rattle.instance_book.specs.Makes.{count_of, Makes, StaysSame, HasPlaces, KeepsPlaces, HasItsStates, HasWhatIsGiven, KeepsStates, IsInstanceAt, IsPlacedAmong, IsKeptAmong};
-ghost use Rattle.instance_book.specs.Standing.{named_if, script_at};
 ghost use Rattle.instance_book.specs.Swept.{swept, cells_at, IsEmpty};
 ghost use Rattle.std.specs.Option.{option_copied};
 ghost use Rattle.instance_book.specs.Lists.{thing_at};
@@ -12,9 +10,7 @@ use crate::book::Book;
 use crate::in_order::InOrder;
 use crate::instance::KeptInstance;
 use crate::numbered::Numbered;
-use crate::place::script_of;
 use instance_cells::Cells;
-use script_nodes::{Library, NamedScript};
 use std::alloc::{AllocError, Global};
 
 impl Book {
@@ -87,15 +83,6 @@ impl Book {
     {
         let instance = self.instances.get(instance)?;
         Some(&instance.item.cells)
-    }
-
-    /// The script of an instance, where there is a live one of this number. It takes no memory.
-    pub fn script<'a>(&self, library: &'a Library, instance: u64) -> Option<&'a NamedScript>
-        requires { HasPlaces (library_of library.now).all self.now }
-        ensures { named_if result ≡ script_at (library_of library.now).all instance self.now }
-    {
-        let instance = self.instances.instance(instance)?;
-        script_of(library, instance)
     }
 
     /// Draws the next number, which is out from now on. Where memory runs out, nothing changes.

@@ -5,4 +5,4 @@ mod ends;
 mod tape;
 
 pub use ends::{RunEnd, RunResult};
-pub use tape::{Answer, Now, Reads, Tape, clone_answers};
+pub use tape::{Answer, Now, Reads, Tape};

@@ -75,14 +75,3 @@ impl Answer {
         })
     }
 }
-
-/// Copies of answers with their segments, equal to their sources.
-pub fn clone_answers(alloc: Global, answers: &[Answer]) -> Result<Vec<Answer>, AllocError>
-    ensures { IfOk result (λ copies. copies.items ≡ answers.now) }
-{
-    let mut copies = Vec::new(alloc);
-    for answer in answers {
-        copies.push(answer.try_clone(alloc)?)?;
-    }
-    Ok(copies)
-}

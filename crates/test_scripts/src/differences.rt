@@ -1,7 +1,7 @@
 use crate::runs::{Asked, question_of};
 use crate::states::{are_alike, bytes_of, counted};
 use crate::twins::{Chain, chain_of};
-use frame_codec::{Delta, decode_delta, delta, encode_delta, is_delta_spelled, is_stored, join};
+use frame_codec::{Delta, decode_delta, delta, is_delta_spelled, is_stored, join, spell_delta};
 use machine_states::Suspended;
 use script_nodes::Script;
 use script_value::Bytes;
@@ -15,7 +15,7 @@ fn spelled(
 ) -> Result<Option<Bytes>, AllocError> {
     let difference = delta(alloc, parent, state)?;
     if is_delta_spelled(&difference) {
-        Ok(Some(encode_delta(alloc, &difference)?))
+        Ok(Some(spell_delta(alloc, &difference)?.spelling(alloc)?))
     } else {
         Ok(None)
     }

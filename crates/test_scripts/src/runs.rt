@@ -6,7 +6,7 @@ use instance_cells::{Cells, Effect};
 use plain_rerun::rerun;
 use script_nodes::{Script, SendKind};
 use script_value::{Items, Str, TxName, Value};
-use segments::{Answer, Now, Reads, RunEnd, RunResult, Tape, clone_answers};
+use segments::{Answer, Now, Reads, RunEnd, RunResult, Tape};
 use std::alloc::{AllocError, Global};
 
 /// What a segment of these runs may cost, where a row says nothing of it.
@@ -222,9 +222,18 @@ fn told_behind(alloc: Global, script: &Script, past: &[Answer]) -> Result<String
     with_effects(alloc, &run)
 }
 
+// Copies of segments that ran.
+fn copies_of(alloc: Global, past: &[Answer]) -> Result<Vec<Answer>, AllocError> {
+    let mut copies = Vec::new(alloc);
+    for answer in past {
+        copies.push(answer.try_clone(alloc)?)?;
+    }
+    Ok(copies)
+}
+
 // A copy of a run behind copies of these segments.
 fn told_of_copies(alloc: Global, script: &Script, past: &[Answer]) -> Result<String, AllocError> {
-    let past = clone_answers(alloc, past)?;
+    let past = copies_of(alloc, past)?;
     let run = run_behind(alloc, script, past.as_slice(), &Value::Int(0), FUEL)?;
     let copy = run.try_clone(alloc)?;
     with_effects(alloc, &copy)

@@ -1,7 +1,10 @@
 use crate::syntax::script_of;
 use crate::told::Told;
 use crate::twins::Chain;
-use frame_codec::{decode, decode_form, encode, encode_form, is_spelled, is_stored, length};
+use frame_codec::{
+    decode, decode_form, delta, encode, is_delta_spelled, is_spelled, is_stored, spell_delta,
+    spell_state,
+};
 use kept_states::next_links;
 use machine_states::{Outcome, Suspended};
 use script_nodes::Script;
@@ -37,21 +40,21 @@ pub enum Writing<'a> {
 }
 
 impl Writing<'_> {
-    // The spelling of a state, if it has one, and is as long as it is said to be.
+    // The spelling of a state, if it has one.
     fn spelling(self, alloc: Global, state: &Suspended) -> Result<Option<Bytes>, AllocError> {
         if !is_spelled(state) {
             return Ok(None);
         }
         match self {
-            Writing::Bare => {
-                let bytes = encode(alloc, state)?;
-                Ok(if length(state) == bytes.len() as u64 {
-                    Some(bytes)
-                } else {
-                    None
-                })
+            Writing::Bare => Ok(Some(encode(alloc, state)?)),
+            Writing::Form(None) => Ok(Some(spell_state(alloc, state)?.into_bytes())),
+            Writing::Form(Some(before)) => {
+                let difference = delta(alloc, before, state)?;
+                if !is_delta_spelled(&difference) {
+                    return Ok(None);
+                }
+                Ok(Some(spell_delta(alloc, &difference)?.into_bytes()))
             }
-            Writing::Form(before) => Ok(Some(encode_form(alloc, before, state)?)),
         }
     }
 
@@ -98,7 +101,7 @@ fn kept_at_last(
 }
 
 fn nothing_kept(alloc: Global) -> Result<String, AllocError> {
-    String::from_str(alloc, "no page, no spelling or another length")
+    String::from_str(alloc, "no page or no spelling")
 }
 
 // Bytes as two hexadecimal digits each.

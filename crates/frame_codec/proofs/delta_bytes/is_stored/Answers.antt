@@ -5,7 +5,7 @@ use Rattle.script_value.specs.Views.{meaning}
 use Rattle.web_cells.specs.Views.{pair_of}
 use Rattle.machine_states.specs.declared.frame.Frame.{Frame}
 use Rattle.machine_states.specs.Views.{frame_of, suspended_of}
-use Rattle.frame_codec.proofs.Lengths.{kept_order}
+use Rattle.frame_codec.proofs.Order.{kept_order}
 use Rattle.frame_codec.proofs.Differences.{unfitting, fitting_so}
 use Rattle.frame_codec.proofs.delta_bytes.is_stored.Goals as goal
 

@@ -6,7 +6,7 @@ use Rattle.machine_states.specs.Machine.{Frame}
 use Rattle.machine_states.specs.declared.frame.Frame.{Frame as Stored}
 use Rattle.machine_states.specs.Views.{frame_of, suspended_of}
 use Rattle.frame_codec.specs.Spelling.{frame_bytes, shadow_bytes}
-use Rattle.frame_codec.proofs.Lengths.{kept_order}
+use Rattle.frame_codec.proofs.Order.{kept_order}
 use Rattle.frame_codec.proofs.Parts.{cut_counted}
 use Rattle.frame_codec.proofs.parted.Parted.of_state.Goals as goal
 
