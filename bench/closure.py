@@ -27,6 +27,15 @@ def use_lines(text):
             yield (here or there), (crate, module, there)
 
 
+def passed_on(top):
+    """The lines by which a crate hands on what is below it, whole: who hands it on, under which name, and where it comes from."""
+    found = {}
+    for path in glob.glob(f"{top}/crates/*/specs/Lib.antt"):
+        for below, name, alias in re.findall(r"^pub use Rattle\.(\w+)\.specs(?:\.(\w+)| as (\w+))$", open(path, encoding="utf-8").read(), re.M):
+            found[path.split("/")[-3], name or alias] = below, name
+    return found
+
+
 def read_module(path):
     """A module's definitions with their text, what it imports, and what it hands on."""
     text = re.sub(r"--.*", "", open(path, encoding="utf-8").read())
@@ -69,9 +78,13 @@ def main():
     for path in glob.glob(f"{top}/crates/*/specs/*.antt"):
         crate, module = path.split("/")[-3], os.path.basename(path)[:-5]
         modules[crate, module] = read_module(path)
+    handed = passed_on(top)
 
     def home(crate, module, name, depth=0):
         """Where a name of a module is defined."""
+        if (crate, module.split(".")[0]) in handed:
+            below, again = handed[crate, module.split(".")[0]]
+            return home(below, ".".join(filter(None, [again, *module.split(".")[1:]])), name, depth)
         if (crate, module) not in modules or depth > 9:
             return None
         found, inner, _, passed = modules[crate, module]
