@@ -18,6 +18,7 @@ mod need;
 mod parted;
 mod read;
 mod shared;
+mod size;
 mod spelled;
 mod state;
 mod write;
