@@ -12,7 +12,7 @@ use Rattle.replay_spec.specs.Recovery.{number_in, is_repeated, taken_in, extensi
 use Rattle.replay_spec.specs.Remade.{IsOrderlyMade}
 use Rattle.replay_spec.proofs.Admitted.{came_from}
 use Rattle.replay_spec.proofs.Filed.{taken_parts}
-use Rattle.kept_states.specs.MachineStates.Machine.{Suspended, inside_of}
+use Rattle.machine_states.specs.Machine.{Suspended, inside_of}
 use Rattle.value_bytes.specs.Spelling.{list_bytes}
 use Rattle.value_bytes.specs.Laws.{AreBytes}
 use Rattle.kept_states.specs.FrameCodec.Forms.{form_bytes, BindsBefore}

@@ -11,7 +11,7 @@ use Rattle.script_nodes.specs.Setup.{Named}
 use Rattle.replay_spec.specs.Book.{Change, opens, extends, ends, finishes, sweeps, Book}
 use Rattle.replay_spec.specs.Admission.{when}
 use Rattle.replay_spec.proofs.Admitted.{came_from, when_is}
-use Rattle.kept_states.specs.MachineStates.Machine.{Suspended}
+use Rattle.machine_states.specs.Machine.{Suspended}
 use Rattle.kept_states.specs.FrameCodec.Stored.{IsStored}
 use Rattle.kept_states.specs.FrameCodec.Reading.{read_state}
 use Rattle.kept_states.specs.FrameCodec.Forms.{form_bytes, RisesBefore, BindsBefore}

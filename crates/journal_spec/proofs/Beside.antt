@@ -17,7 +17,7 @@ use Rattle.replay_spec.proofs.Recovered.{Unseen, place_is, new_number, more_seen
 use Rattle.replay_spec.proofs.Living.{lives}
 use Rattle.replay_spec.proofs.Filed.{bare, SeenLess}
 use Rattle.replay_spec.proofs.Compacted.{not_repeated, place_lives}
-use Rattle.kept_states.specs.MachineStates.Machine.{Suspended}
+use Rattle.machine_states.specs.Machine.{Suspended}
 use Rattle.kept_states.specs.Links.{behind_at}
 use Rattle.journal_spec.specs.Before.{States, state_at, Made, plain, links_behind}
 use Rattle.journal_spec.specs.Retaking.{Told, unread, misread, told, told_by, held, landing, with_state, then_told}

@@ -14,7 +14,7 @@ use Rattle.replay_spec.specs.Runs.{doubted, lands}
 use Rattle.replay_spec.specs.Recovery.{of_length}
 use Rattle.replay_spec.proofs.Going.{Goes, stays, draws, spends, publishes, fails, goes_to, fails_at, rewrites, fails_to_rewrite, keeps, keeps_rewritten, loses, goes}
 use Rattle.replay_spec.proofs.Reopened.{reopened_same}
-use Rattle.kept_states.specs.MachineStates.Machine.{Suspended}
+use Rattle.machine_states.specs.Machine.{Suspended}
 use Rattle.journal_records.specs.Records.{changes, body_of, IsInGrammar}
 use Rattle.journal_records.specs.Laws.{AreRecordsExact}
 use Rattle.journal_spec.specs.Before.{Earlier}

@@ -11,7 +11,7 @@ use Rattle.replay_spec.specs.Recovery.{number_in, with_number, taken_in, redo, o
 use Rattle.replay_spec.specs.Remade.{AreTaken, IsOrderlyMade}
 use Rattle.replay_spec.proofs.Filed.{taken_redo, taken_parts}
 use Rattle.replay_spec.proofs.Compacted.{line_orderly, first_orderly}
-use Rattle.kept_states.specs.MachineStates.Machine.{Suspended, inside_of}
+use Rattle.machine_states.specs.Machine.{Suspended, inside_of}
 use Rattle.journal_records.specs.Records.{Record, begins, changes, renews, draws, body_of, begin_of, renewal_of, texts_of, begun_length}
 use Rattle.journal_records.specs.Reading.{read_record}
 use Rattle.journal_records.proofs.Exact.{record_back}

@@ -10,7 +10,7 @@ use Rattle.replay_spec.specs.Book.{Instance, Opening, Change, opens, extends, en
 use Rattle.replay_spec.specs.Rules.{Rules, first_file}
 use Rattle.replay_spec.specs.Change.{mend, root_by, page_by, shown_by, ended_by, fresh, opened_by, instances_by, logged_by, clock_by, longer_by}
 use Rattle.replay_spec.specs.Recovery.{redone, of_length, taken_in, first_of, used_up}
-use Rattle.kept_states.specs.MachineStates.Machine.{inside_of}
+use Rattle.machine_states.specs.Machine.{inside_of}
 use Rattle.replay_spec.specs.Invariant.{Among, Apart}
 use Rattle.replay_spec.specs.Remade.{AreUsed, IsOrderlyMade}
 use Rattle.replay_spec.proofs.Found.{KeepsNumber, keep_found}

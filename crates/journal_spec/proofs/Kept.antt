@@ -24,7 +24,7 @@ use Rattle.replay_spec.proofs.Orderly as orderly
 use Rattle.replay_spec.proofs.Lands.{LandsAs, lands_as}
 use Rattle.replay_spec.proofs.Numbers.{Uses, uses}
 use Rattle.replay_spec.proofs.Events.{settled_setup, took_setup, swept_setup}
-use Rattle.kept_states.specs.MachineStates.Machine.{Suspended, inside_of}
+use Rattle.machine_states.specs.Machine.{Suspended, inside_of}
 use Rattle.server_limits.specs.Limits.{most_fuel}
 use Rattle.journal_records.specs.Records.{Record, changes, IsInGrammar, renewal_of, texts_of}
 use Rattle.journal_records.specs.Reading.{read_record}

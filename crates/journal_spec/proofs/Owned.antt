@@ -22,12 +22,12 @@ use Rattle.replay_spec.specs.Remade.{NamesItsCells}
 use Rattle.replay_spec.proofs.Second.{pages_past}
 use Rattle.replay_spec.proofs.Recorded.{recorded_is}
 use Rattle.replay_spec.proofs.Admitted.{came_from}
-use Rattle.kept_states.specs.MachineStates.Machine.{Suspended, inside_of}
-use Rattle.kept_states.specs.MachineStates.Laws.{started, Stops, segment_of, IsStateOf}
-use Rattle.kept_states.proofs.MachineStates.Halting.{stop_over, script_stop}
-use Rattle.kept_states.proofs.MachineStates.Replay.{stops_as_run}
-use Rattle.kept_states.proofs.MachineStates.Law.{page_is_inside}
-use Rattle.kept_states.proofs.MachineStates.Unbound.{none_is_unbound}
+use Rattle.machine_states.specs.Machine.{Suspended, inside_of}
+use Rattle.machine_states.specs.Laws.{started, Stops, segment_of, IsStateOf}
+use Rattle.machine_states.proofs.Halting.{stop_over, script_stop}
+use Rattle.machine_states.proofs.Replay.{stops_as_run}
+use Rattle.machine_states.proofs.Law.{page_is_inside}
+use Rattle.machine_states.proofs.Unbound.{none_is_unbound}
 use Rattle.kept_states.specs.FrameCodec.Spelling.{StateHasBytes}
 use Rattle.kept_states.specs.FrameCodec.Forms.{form_bytes, read_form, RisesBefore, BindsBefore}
 use Rattle.kept_states.proofs.FrameCodec.Formed.{forms_are_exact}

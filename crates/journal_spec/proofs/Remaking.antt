@@ -27,7 +27,7 @@ use Rattle.replay_spec.proofs.Tests.{holds_is, on_is}
 use Rattle.replay_spec.proofs.Admitted.{came_from, when_is}
 use Rattle.replay_spec.proofs.Again.{passes}
 use Rattle.replay_spec.proofs.Recovered.{if_can, place_is}
-use Rattle.kept_states.specs.MachineStates.Machine.{inside_of}
+use Rattle.machine_states.specs.Machine.{inside_of}
 use Rattle.server_limits.specs.Limits.{most_fuel}
 use Rattle.journal_spec.specs.Retaking.{Told, unread, misread, told, if_held, held}
 use Rattle.journal_spec.specs.Lengths.{state_over, told_own, own_told}

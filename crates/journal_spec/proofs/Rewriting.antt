@@ -11,7 +11,7 @@ use Rattle.replay_spec.specs.Book.{Instance, Change}
 use Rattle.replay_spec.specs.Compaction.{stays_in}
 use Rattle.replay_spec.specs.Invariant.{Among}
 use Rattle.replay_spec.specs.Remade.{IsOrderlyMade}
-use Rattle.kept_states.specs.MachineStates.Machine.{Suspended}
+use Rattle.machine_states.specs.Machine.{Suspended}
 use Rattle.value_bytes.specs.Laws.{AreBytes}
 use Rattle.kept_states.specs.FrameCodec.Forms.{form_bytes}
 use Rattle.journal_records.specs.Records.{Record, changes, renews, body_of}

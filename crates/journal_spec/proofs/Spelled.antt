@@ -14,7 +14,7 @@ use Rattle.replay_spec.specs.Recovery.{remade}
 use Rattle.replay_spec.proofs.Orderly.{recorded_orderly}
 use Rattle.replay_spec.proofs.Again.{recorded_remade}
 use Rattle.replay_spec.proofs.Admitted.{came_from}
-use Rattle.kept_states.specs.MachineStates.Machine.{Suspended}
+use Rattle.machine_states.specs.Machine.{Suspended}
 use Rattle.kept_states.specs.FrameCodec.Spelling.{StateHasBytes}
 use Rattle.kept_states.specs.FrameCodec.Forms.{form_bytes}
 use Rattle.journal_spec.specs.Lengths.{state_by, own_before, is_shallow_state, told_bytes, state_told}

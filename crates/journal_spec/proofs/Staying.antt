@@ -15,7 +15,7 @@ use Rattle.replay_spec.proofs.Landed.{never}
 use Rattle.replay_spec.proofs.Living.{there_some}
 use Rattle.replay_spec.proofs.Numbered.{number_of, put_found}
 use Rattle.replay_spec.proofs.Recovered.{place_is}
-use Rattle.kept_states.specs.MachineStates.Machine.{Suspended}
+use Rattle.machine_states.specs.Machine.{Suspended}
 use Rattle.kept_states.specs.FrameCodec.Stored.{IsStored}
 use Rattle.kept_states.specs.FrameCodec.Forms.{RisesBefore}
 use Rattle.kept_states.specs.Links.{behind_at}

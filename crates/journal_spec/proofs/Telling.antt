@@ -25,7 +25,7 @@ use Rattle.replay_spec.proofs.Differ.{put_from, mend_from}
 use Rattle.replay_spec.proofs.Admitted.{came_from}
 use Rattle.replay_spec.proofs.Recovered.{new_number, more_seen}
 use Rattle.replay_spec.proofs.Compacted.{line_orderly, first_orderly}
-use Rattle.kept_states.specs.MachineStates.Machine.{Suspended, inside_of}
+use Rattle.machine_states.specs.Machine.{Suspended, inside_of}
 use Rattle.kept_states.specs.FrameCodec.Forms.{read_form}
 use Rattle.kept_states.specs.Links.{behind_at}
 use Rattle.page_journal.specs.Records.{frames}

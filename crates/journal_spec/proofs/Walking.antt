@@ -13,7 +13,7 @@ use Rattle.replay_spec.proofs.Stand.{Since, since_same, since_then}
 use Rattle.replay_spec.proofs.Landed.{none_by, never, land_well}
 use Rattle.replay_spec.proofs.Recovered.{Unseen, new_number, more_seen}
 use Rattle.replay_spec.proofs.Compacted.{more_among, line_orderly}
-use Rattle.kept_states.specs.MachineStates.Machine.{Suspended, inside_of}
+use Rattle.machine_states.specs.Machine.{Suspended, inside_of}
 use Rattle.value_bytes.specs.Laws.{AreBytes}
 use Rattle.journal_records.specs.Records.{Record, begins, changes, renews, draws}
 use Rattle.journal_records.specs.Old.{read_record_in}

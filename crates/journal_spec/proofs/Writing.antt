@@ -12,7 +12,7 @@ use Rattle.replay_spec.specs.Remade.{IsTakenLine, AreTaken, IsLike, IsOrderlyMad
 use Rattle.replay_spec.proofs.Filed.{bare, bare_like}
 use Rattle.replay_spec.proofs.Living.{lives, none_there}
 use Rattle.replay_spec.proofs.Compacted.{Follows, Alike, Both, both_lines, gone_stays, more_among, line_orderly, first_orderly, drop_dead, alike_line, sweep_skips, join_sweeps, place_lives}
-use Rattle.kept_states.specs.MachineStates.Machine.{Suspended}
+use Rattle.machine_states.specs.Machine.{Suspended}
 use Rattle.kept_states.specs.Links.{behind_at}
 use Rattle.journal_records.specs.Records.{changes, body_of, IsInGrammar}
 use Rattle.journal_spec.specs.Before.{links_behind}

@@ -4,7 +4,7 @@ use Rattle.replay_spec.specs.Book.{Change, extends, Book, chain, reopened}
 use Rattle.replay_spec.specs.Admission.{◌>>=◌, Place}
 use Rattle.replay_spec.specs.Recovery as recovery
 use Rattle.replay_spec.specs.Recovery.{page_of_numbers}
-use Rattle.kept_states.specs.MachineStates.Machine.{Suspended}
+use Rattle.machine_states.specs.Machine.{Suspended}
 use Rattle.kept_states.specs.Links.{links_at, behind_at}
 
 -- the states of the pages that records showed, by the pages' numbers, the newest first

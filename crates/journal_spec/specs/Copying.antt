@@ -6,7 +6,7 @@ use Rattle.script_nodes.specs.Setup.{Named}
 use Rattle.replay_spec.specs.Book.{Page, Instance, Change, Line, changed, renewed, instance_at, page_at}
 use Rattle.replay_spec.specs.Compaction.{stays_in, is_sweep, compaction, file_length}
 use Rattle.replay_spec.specs.Recovery.{resettled}
-use Rattle.kept_states.specs.MachineStates.Machine.{Suspended, inside_of}
+use Rattle.machine_states.specs.Machine.{Suspended, inside_of}
 use Rattle.kept_states.specs.FrameCodec.Stored.{IsStored}
 use Rattle.kept_states.specs.FrameCodec.Forms.{form_bytes}
 use Rattle.page_journal.specs.Records.{is_format, at_rest}

@@ -10,7 +10,7 @@ use Rattle.replay_spec.specs.Recovery.{of_length, number_in}
 use Rattle.replay_spec.specs.Invariant.{IsOrderly}
 use Rattle.replay_spec.specs.Laws.{Moment, then_book}
 use Rattle.replay_spec.specs.Remade.{AreUsed}
-use Rattle.kept_states.specs.MachineStates.Machine.{inside_of}
+use Rattle.machine_states.specs.Machine.{inside_of}
 use Rattle.journal_records.specs.Records.{changes, body_of, record_length}
 use Rattle.journal_spec.specs.Before.{Earlier, made_of}
 use Rattle.journal_spec.specs.Retaking.{Told, unread, misread, told, told_in, held}

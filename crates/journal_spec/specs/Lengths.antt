@@ -11,9 +11,9 @@ use Rattle.replay_spec.specs.Rules.{Journal}
 use Rattle.replay_spec.specs.Admission.{◌>>=◌, Place}
 use Rattle.replay_spec.specs.Next.{Home, home, past, answered, tape_for}
 use Rattle.replay_spec.specs.Recovery.{page_of_numbers, opening_visit, extension_visit}
-use Rattle.kept_states.specs.MachineStates.Machine.{Frame, in_binding, in_operand, in_turn, in_call, in_task, Suspended}
-use Rattle.kept_states.specs.MachineStates.Laws.{started, Stops}
-use Rattle.kept_states.proofs.MachineStates.Halting.{stop_over}
+use Rattle.machine_states.specs.Machine.{Frame, in_binding, in_operand, in_turn, in_call, in_task, Suspended}
+use Rattle.machine_states.specs.Laws.{started, Stops}
+use Rattle.machine_states.proofs.Halting.{stop_over}
 use Rattle.kept_states.specs.FrameCodec.Forms.{form_bytes}
 use Rattle.journal_records.specs.Fields.{is_shallow}
 use Rattle.journal_records.specs.Records.{changes, body_of, record_length, begun_length, renewed_length}

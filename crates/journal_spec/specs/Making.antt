@@ -5,7 +5,7 @@ use Rattle.replay_spec.specs.Book.{Change, opens}
 use Rattle.replay_spec.specs.Rules.{first_file}
 use Rattle.replay_spec.specs.Recovery as recovery
 use Rattle.replay_spec.specs.Recovery.{first_of, resettled}
-use Rattle.kept_states.specs.MachineStates.Machine.{inside_of}
+use Rattle.machine_states.specs.Machine.{inside_of}
 use Rattle.journal_records.specs.Records.{Record, begins, changes, renews, draws}
 use Rattle.journal_records.specs.Reading.{read_record}
 use Rattle.journal_spec.specs.Before.{Earlier, nothing_told, Made, plain}

@@ -10,7 +10,7 @@ use Rattle.replay_spec.specs.Admission.{◌>>=◌, when}
 use Rattle.replay_spec.specs.Recovery.{taken_in}
 use Rattle.script_nodes.specs.Arena.{Arena}
 use Rattle.script_nodes.specs.Setup.{Named}
-use Rattle.kept_states.specs.MachineStates.Machine.{Suspended, inside_of}
+use Rattle.machine_states.specs.Machine.{Suspended, inside_of}
 use Rattle.kept_states.specs.FrameCodec.Reading.{read_state}
 use Rattle.journal_records.specs.Records.{Record, begins, changes, renews, draws}
 use Rattle.journal_records.specs.Reading.{read_record}

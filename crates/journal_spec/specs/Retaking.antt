@@ -8,7 +8,7 @@ use Rattle.script_nodes.specs.Setup.{Named}
 use Rattle.replay_spec.specs.Book.{Change, opens, extends, ends, finishes, sweeps, Book, reopened}
 use Rattle.replay_spec.specs.Admission.{◌>>=◌, when}
 use Rattle.replay_spec.specs.Recovery.{are_on, hold_over, if_can_go, of_length, page_of_numbers, number_in, is_repeated, with_number, redone}
-use Rattle.kept_states.specs.MachineStates.Machine.{Suspended, inside_of}
+use Rattle.machine_states.specs.Machine.{Suspended, inside_of}
 use Rattle.kept_states.specs.FrameCodec.Forms.{read_form}
 use Rattle.journal_spec.specs.Before.{States, Earlier, Made, before_told}
 

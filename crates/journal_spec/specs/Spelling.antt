@@ -8,7 +8,7 @@ use Rattle.replay_spec.specs.Next.{Ticket}
 use Rattle.replay_spec.specs.Step.{Event, sweep, Fate, Reply, records, publish_comes, step}
 use Rattle.replay_spec.specs.Invariant.{IsOrderly}
 use Rattle.replay_spec.specs.Remade.{NameTheirCells}
-use Rattle.kept_states.specs.MachineStates.Machine.{Suspended}
+use Rattle.machine_states.specs.Machine.{Suspended}
 use Rattle.kept_states.specs.FrameCodec.Spelling.{StateHasBytes}
 use Rattle.kept_states.specs.FrameCodec.Forms.{form_bytes}
 use Rattle.journal_spec.specs.Lengths.{state_by, own_before, is_shallow_state, journal_rules}

@@ -6,7 +6,7 @@ use Rattle.script_nodes.specs.Core.{lit, send, no_cores}
 use Rattle.script_nodes.specs.Setup.{Named}
 use Rattle.wire_bytes.specs.Spelling.{byte_string, u64_bytes}
 use Rattle.replay_spec.specs.Book.{Page, Instance, Change, opens, extends, changed, Book}
-use Rattle.kept_states.specs.MachineStates.Machine.{Suspended}
+use Rattle.machine_states.specs.Machine.{Suspended}
 use Rattle.kept_states.specs.FrameCodec.Spelling.{state_bytes}
 use Rattle.kept_states.specs.FrameCodec.Forms.{form_bytes}
 use Rattle.value_bytes.specs.Reading.{read_within}

@@ -3,7 +3,7 @@ use Rattle.std.specs.Prelude.{◌≡◌, ℕ, List, Option, Some, None, slice_ge
 use Rattle.script_nodes.specs.Arena.{IsScript, script_of}
 use Rattle.script_nodes.specs.Setup.{Named}
 use Rattle.replay_spec.specs.Book.{Page, Instance, Change, Book, instance_at, page_at}
-use Rattle.kept_states.specs.MachineStates.Machine.{Suspended}
+use Rattle.machine_states.specs.Machine.{Suspended}
 use Rattle.kept_states.specs.FrameCodec.Spelling.{StateHasBytes}
 use Rattle.journal_records.specs.Records.{changes, IsInGrammar}
 use Rattle.journal_spec.specs.Before.{Earlier, state_at}

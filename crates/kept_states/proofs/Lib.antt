@@ -4,4 +4,3 @@ pub mod Told
 pub mod Written
 pub mod Forms
 pub use Rattle.frame_codec.proofs as FrameCodec
-pub use Rattle.frame_codec.proofs.MachineStates
