@@ -1,3 +1,3 @@
 pub mod Copied
 pub mod Sized
-pub use Rattle.file_notes.proofs as FileNotes
+pub use Rattle.file_notes.proofs as OfFileNotes

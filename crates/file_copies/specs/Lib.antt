@@ -1,3 +1,3 @@
 pub mod Copies
 pub mod Sizing
-pub use Rattle.file_notes.specs as FileNotes
+pub use Rattle.file_notes.specs as OfFileNotes

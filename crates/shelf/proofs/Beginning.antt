@@ -34,7 +34,7 @@ use Rattle.instance_book.specs.Views.{Beside}
 use Rattle.instance_book.specs.Swept.{IsEmpty}
 use Rattle.instance_book.specs.Makes.{HasPlaces, HasItsStates, HasWhatIsGiven}
 use Rattle.book_recovery.specs.Found.{IsBookInOrder, beside_file}
-use Rattle.file_copies.specs.FileNotes.declared.notes.FileNotes.{FileNotes}
+use Rattle.file_copies.specs.OfFileNotes.declared.notes.FileNotes.{FileNotes}
 use Rattle.book_recovery.specs.Noting.{marks_of}
 use Rattle.journal_spec.specs.Reading.{AreAllBytes}
 use Rattle.shelf.specs.Files.{file_in, read_file, KnowsRead, NotesBegun}

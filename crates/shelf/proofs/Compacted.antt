@@ -10,7 +10,7 @@ use Rattle.replay_spec.specs.Compaction.{compaction, file_length}
 use Rattle.replay_spec.specs.Runs.{drawn_by}
 use Rattle.replay_spec.specs.Step as step
 use Rattle.instance_book.specs.declared.book.Book as kept
-use Rattle.file_copies.specs.FileNotes.declared.notes.FileNotes.{FileNotes}
+use Rattle.file_copies.specs.OfFileNotes.declared.notes.FileNotes.{FileNotes}
 use Rattle.shelf.specs.declared.doubt.Doubt as doubt_type
 use Rattle.shelf.specs.declared.shelf.Shelf.{Shelf}
 use Rattle.shelf.specs.declared.compaction.CompactFault.TheVariants as fault

@@ -38,8 +38,8 @@ use Rattle.journal_spec.specs.Laws.{MeasuresDoubt, CompactionsStandBetween, comp
 use Rattle.journal_spec.proofs.Between.{stand_alike}
 use Rattle.journal_spec.proofs.Fitting.{no_doubt}
 use Rattle.journal_spec.proofs.Standings.{any_less, carried, stands_then, settled_stands, left_standing}
-use Rattle.file_copies.specs.FileNotes.declared.notes.FileNotes.{FileNotes}
-use Rattle.file_copies.specs.FileNotes.Files.{file_in, marks_in, IsPlanned, IsPicked}
+use Rattle.file_copies.specs.OfFileNotes.declared.notes.FileNotes.{FileNotes}
+use Rattle.file_copies.specs.OfFileNotes.Files.{file_in, marks_in, IsPlanned, IsPicked}
 use Rattle.file_copies.specs.Copies.{copied}
 use Rattle.book_recovery.specs.Found.{HasToldStates}
 use Rattle.book_recovery.specs.Noting.{marks_of}

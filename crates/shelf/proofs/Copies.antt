@@ -20,11 +20,11 @@ use Rattle.journal_spec.specs.Copying.{Entry, tells, settles, body_in, line_of, 
 use Rattle.journal_spec.proofs.Walking.{Step, turns, lands, passes, moved}
 use Rattle.journal_spec.proofs.Copying.{first_is}
 use Rattle.journal_spec.proofs.Joining.{lines_joined}
-use Rattle.file_copies.specs.FileNotes.declared.note.Note.{Note}
-use Rattle.file_copies.specs.FileNotes.declared.notes.FileNotes.{FileNotes}
-use Rattle.file_copies.specs.FileNotes.Files.{file_in, marks_in, IsNoted, IsPicked}
-use Rattle.file_copies.specs.FileNotes.Notes.{note_of, is_told, is_time, stays_note, time_next, plan_in, picked}
-use Rattle.file_copies.proofs.FileNotes.Plans.{note_stays, note_time, untold_goes, plan_picks}
+use Rattle.file_copies.specs.OfFileNotes.declared.note.Note.{Note}
+use Rattle.file_copies.specs.OfFileNotes.declared.notes.FileNotes.{FileNotes}
+use Rattle.file_copies.specs.OfFileNotes.Files.{file_in, marks_in, IsNoted, IsPicked}
+use Rattle.file_copies.specs.OfFileNotes.Notes.{note_of, is_told, is_time, stays_note, time_next, plan_in, picked}
+use Rattle.file_copies.proofs.OfFileNotes.Plans.{note_stays, note_time, untold_goes, plan_picks}
 use Rattle.file_copies.specs.Copies.{others_of, copied}
 use Rattle.book_recovery.specs.Anew.{IsOfLanding, IsAnewBy, AreAnew}
 use Rattle.book_recovery.specs.Noting.{mark_by, marks_of}

@@ -28,8 +28,8 @@ use Rattle.instance_book.proofs.Seen.{length_seen}
 use Rattle.shelf.specs.declared.doubt.Doubt as doubt_type
 use Rattle.shelf.specs.declared.doubt.Work.TheVariants as doubted
 use Rattle.shelf.specs.declared.shelf.Shelf.{Shelf}
-use Rattle.file_copies.specs.FileNotes.declared.notes.FileNotes.{FileNotes}
-use Rattle.file_copies.specs.FileNotes.Files.{file_in, marks_in, IsNoted, StaysAsTold}
+use Rattle.file_copies.specs.OfFileNotes.declared.notes.FileNotes.{FileNotes}
+use Rattle.file_copies.specs.OfFileNotes.Files.{file_in, marks_in, IsNoted, StaysAsTold}
 use Rattle.shelf.specs.Files.{KnowsFile}
 use Rattle.shelf.proofs.Known.{known_added, marked_tick}
 use Rattle.shelf.specs.Views.{rules_of, doubt_of, library_in, book_in, fate_by, IsInOrder, IsOwnShelf, IsEvent}

@@ -24,9 +24,9 @@ use Rattle.journal_spec.specs.Keeping.{IsTakenAs, IsTaken, Keeps, body_by}
 use Rattle.journal_spec.proofs.Taking.{IsNew, moved_in, there}
 use Rattle.journal_spec.specs.Reading.{AreAllBytes}
 use Rattle.journal_spec.proofs.Between.{closed_format, may_format}
-use Rattle.file_copies.specs.FileNotes.declared.notes.FileNotes.{FileNotes}
-use Rattle.file_copies.specs.FileNotes.Files.{marks_in, IsNoted, StaysAsTold}
-use Rattle.file_copies.specs.FileNotes.Notes.{is_told}
+use Rattle.file_copies.specs.OfFileNotes.declared.notes.FileNotes.{FileNotes}
+use Rattle.file_copies.specs.OfFileNotes.Files.{marks_in, IsNoted, StaysAsTold}
+use Rattle.file_copies.specs.OfFileNotes.Notes.{is_told}
 use Rattle.book_recovery.specs.Noting.{mark_by, mark_in, marks_of}
 use Rattle.shelf.specs.Files.{KnowsFile, LeavesNewest}
 use Rattle.shelf.proofs.Newest.{newest_images}

@@ -38,7 +38,7 @@ use Rattle.book_recovery.specs.Found.{HasToldStates}
 use Rattle.shelf.specs.Events.{HasMoments}
 use Rattle.shelf.proofs.Standing.{OnlyNow, CountsNow, IsQuietCall, throughout_alike}
 use Rattle.value_bytes.specs.Laws.{AreBytes}
-use Rattle.file_copies.specs.FileNotes.Files.{marks_in, IsNoted}
+use Rattle.file_copies.specs.OfFileNotes.Files.{marks_in, IsNoted}
 use Rattle.shelf.proofs.Newest.{newest_images, makes_so}
 use Rattle.shelf.proofs.Known.{known_added, known_doubted, may_newest, marked}
 use Rattle.shelf.proofs.Order.{order_of}

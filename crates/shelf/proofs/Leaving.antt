@@ -42,8 +42,8 @@ use Rattle.book_visits.specs.Fits.{FitsAs}
 use Rattle.book_visits.specs.Prepares.{HasItsScript}
 use Rattle.shelf.specs.declared.doubt.Doubt as doubt_type
 use Rattle.shelf.specs.declared.shelf.Shelf.{Shelf}
-use Rattle.file_copies.specs.FileNotes.declared.notes.FileNotes.{FileNotes}
-use Rattle.file_copies.specs.FileNotes.Files.{file_in, marks_in, IsNoted, StaysAsTold}
+use Rattle.file_copies.specs.OfFileNotes.declared.notes.FileNotes.{FileNotes}
+use Rattle.file_copies.specs.OfFileNotes.Files.{file_in, marks_in, IsNoted, StaysAsTold}
 use Rattle.shelf.specs.Views.{rules_of, doubt_of, doubt_by, library_in, beside_of, book_in, fate_by, IsInOrder, IsOwnShelf, IsOwnVisit}
 use Rattle.shelf.specs.Events.{IsPublish, SpendsNumber, SpendsOnly, HasMoments, HasOwnMoments, CarriesOut, ShowsItsState}
 use Rattle.shelf.specs.Holding.{IsWholeIn}

@@ -25,9 +25,9 @@ use Rattle.journal_spec.specs.Standing.{puts, Held}
 use Rattle.journal_spec.proofs.Standings.{any_less, carried}
 use Rattle.journal_spec.specs.OwnCopies.{CopiesAreOwn}
 use Rattle.journal_spec.specs.Owning.{AreOwn, AreOwnIn}
-use Rattle.file_copies.specs.FileNotes.declared.notes.FileNotes.{FileNotes}
-use Rattle.file_copies.specs.FileNotes.Files.{file_in, IsNoted}
-use Rattle.file_copies.specs.FileNotes.Notes.{plan_in}
+use Rattle.file_copies.specs.OfFileNotes.declared.notes.FileNotes.{FileNotes}
+use Rattle.file_copies.specs.OfFileNotes.Files.{file_in, IsNoted}
+use Rattle.file_copies.specs.OfFileNotes.Notes.{plan_in}
 use Rattle.file_copies.specs.Copies.{copied}
 use Rattle.book_recovery.specs.declared.found.Found.{Found}
 use Rattle.book_recovery.specs.declared.found.Found.TheVariants as found

@@ -29,7 +29,7 @@ use Rattle.shelf.specs.declared.begin.BeginFault.{BeginFault}
 use Rattle.shelf.specs.declared.begin.BeginFault.TheVariants as fault
 use Rattle.shelf.specs.declared.shelf.Shelf.{Shelf}
 use Rattle.shelf.specs.Faults.{IsReadFaultOf, IsTooLong, begin_fault}
-use Rattle.file_copies.specs.FileNotes.Files.{file_in, IsNoted}
+use Rattle.file_copies.specs.OfFileNotes.Files.{file_in, IsNoted}
 use Rattle.shelf.specs.Files.{KnowsRead}
 use Rattle.shelf.specs.Views.{doubt_of, library_in, book_in, IsInOrder, IsOwnShelf}
 use Rattle.shelf.specs.Ranges.{AreInRange}

@@ -4,10 +4,10 @@ use Rattle.std.specs.List.{AllByRecursion}
 use Rattle.replay_spec.specs.Book.{Change, opens, extends, ends, finishes, sweeps, Line, changed, renewed}
 use Rattle.replay_spec.specs.Compaction as spec
 use Rattle.replay_spec.specs.Compaction.{line_length, lines_length, file_length}
-use Rattle.file_copies.specs.FileNotes.declared.notes.FileNotes.{FileNotes}
-use Rattle.file_copies.specs.FileNotes.Files.{file_in, drawn_length, total_in, IsNoted}
-use Rattle.file_copies.specs.FileNotes.Notes.{note_by, note_of, length_in, all_lengths, is_told}
-use Rattle.file_copies.proofs.FileNotes.Plans.{told_stay}
+use Rattle.file_copies.specs.OfFileNotes.declared.notes.FileNotes.{FileNotes}
+use Rattle.file_copies.specs.OfFileNotes.Files.{file_in, drawn_length, total_in, IsNoted}
+use Rattle.file_copies.specs.OfFileNotes.Notes.{note_by, note_of, length_in, all_lengths, is_told}
+use Rattle.file_copies.proofs.OfFileNotes.Plans.{told_stay}
 
 change_long : (c : Change) (n : ℕ) → length_in (note_by c n) ≡ n
 change_long (opens o) n = refl

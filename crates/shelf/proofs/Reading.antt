@@ -14,8 +14,8 @@ use Rattle.journal_spec.specs.Before.{Made}
 use Rattle.journal_spec.specs.Reading.{AreAllBytes}
 use Rattle.journal_spec.specs.Old.{book_of_format, format_of_now}
 use Rattle.journal_spec.specs.Making.{Making, nothing, begun, made, damaged, other, made_in, book_of}
-use Rattle.file_copies.specs.FileNotes.declared.notes.FileNotes.{FileNotes}
-use Rattle.file_copies.specs.FileNotes.Files as noted
+use Rattle.file_copies.specs.OfFileNotes.declared.notes.FileNotes.{FileNotes}
+use Rattle.file_copies.specs.OfFileNotes.Files as noted
 use Rattle.book_recovery.specs.Noting.{marks_of, IsFileOf, NotesFile}
 use Rattle.shelf.specs.Files.{file_in, KnowsRead}
 use Rattle.journal_spec.specs.Opening.{opened_on}

@@ -45,7 +45,7 @@ use Rattle.value_bytes.specs.Laws.{AreBytes}
 use Rattle.journal_records.specs.Old.{read_record_in}
 use Rattle.journal_spec.specs.Old.{book_of_format, format_of_now}
 use Rattle.journal_spec.specs.Reading.{AreAllBytes}
-use Rattle.file_copies.specs.FileNotes.declared.notes.FileNotes.{FileNotes}
+use Rattle.file_copies.specs.OfFileNotes.declared.notes.FileNotes.{FileNotes}
 use Rattle.book_recovery.specs.Noting.{mark_by, marks_of}
 use Rattle.shelf.proofs.Known.{bodies_more, mark_made, bytes_more}
 use Rattle.shelf.specs.Files.{file_in, read_file, KnowsRead, NotesRenewed}

@@ -38,8 +38,8 @@ use Rattle.shelf.specs.declared.rules.Rules as limits_of
 use Rattle.shelf.specs.declared.shelf.Shelf.{Shelf}
 use Rattle.shelf.specs.Ranges.{AreInRange}
 use Rattle.shelf.specs.declared.doubt.Doubt as doubt_type
-use Rattle.file_copies.specs.FileNotes.declared.notes.FileNotes.{FileNotes}
-use Rattle.file_copies.specs.FileNotes.Files.{file_in, IsNoted, StaysAsTold}
+use Rattle.file_copies.specs.OfFileNotes.declared.notes.FileNotes.{FileNotes}
+use Rattle.file_copies.specs.OfFileNotes.Files.{file_in, IsNoted, StaysAsTold}
 use Rattle.shelf.specs.Files.{KnowsFile}
 use Rattle.shelf.proofs.Known.{known_quiet, known_doubted, may_newest}
 use Rattle.shelf.specs.Views.{rules_of, doubt_of, library_in, book_in, TellsStates, IsInOrder, IsOwnShelf}

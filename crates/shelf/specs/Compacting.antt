@@ -12,8 +12,8 @@ use Rattle.page_journal.specs.declared.journal.Journal.{Journal}
 use Rattle.replay_spec.specs.Compaction.{file_length}
 use Rattle.journal_records.specs.Records.{draws, body_of}
 use Rattle.instance_book.specs.declared.book.Book.{Book}
-use Rattle.file_copies.specs.FileNotes.declared.notes.FileNotes.{FileNotes}
-use Rattle.file_copies.specs.FileNotes.Files.{file_in, total_in, compacted_of, IsNoted, IsPlanned, IsPicked, IsLonger}
+use Rattle.file_copies.specs.OfFileNotes.declared.notes.FileNotes.{FileNotes}
+use Rattle.file_copies.specs.OfFileNotes.Files.{file_in, total_in, compacted_of, IsNoted, IsPlanned, IsPicked, IsLonger}
 use Rattle.file_copies.specs.Copies.{copied, IsCopyOf}
 use Rattle.file_copies.specs.declared.copying.CopyFault.{CopyFault}
 use Rattle.file_copies.specs.declared.copying.CopyFault.TheVariants as copy

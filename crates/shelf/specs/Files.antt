@@ -10,9 +10,9 @@ use Rattle.journal_spec.specs.Before.{Made}
 use Rattle.journal_spec.specs.Making.{nothing, made_in, book_of}
 use Rattle.journal_spec.specs.Reading.{AreAllBytes}
 use Rattle.setup_reader.specs.Texts.{setup_of_texts}
-use Rattle.file_copies.specs.FileNotes.declared.notes.FileNotes.{FileNotes}
-use Rattle.file_copies.specs.FileNotes.Files as noted
-use Rattle.file_copies.specs.FileNotes.Files.{IsNoted, marks_in}
+use Rattle.file_copies.specs.OfFileNotes.declared.notes.FileNotes.{FileNotes}
+use Rattle.file_copies.specs.OfFileNotes.Files as noted
+use Rattle.file_copies.specs.OfFileNotes.Files.{IsNoted, marks_in}
 use Rattle.script_nodes.specs.Setup.{Named}
 use Rattle.replay_spec.specs.Book.{renewed}
 use Rattle.replay_spec.specs.Change.{with_line}

@@ -17,4 +17,4 @@ pub mod Runs
 pub mod Visits
 pub use Rattle.journal_spec.specs as JournalSpec
 pub use Rattle.instance_book.specs as InstanceBook
-pub use Rattle.file_copies.specs.FileNotes
+pub use Rattle.file_copies.specs.OfFileNotes

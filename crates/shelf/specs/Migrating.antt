@@ -16,8 +16,8 @@ use Rattle.journal_spec.specs.Copying.{copies, IsMigrated}
 use Rattle.journal_spec.specs.Standing.{Between, Held}
 use Rattle.journal_spec.specs.Owning.{AreOwn, AreOwnIn}
 use Rattle.shelf.specs.Owning.{StaysOwnThroughout}
-use Rattle.file_copies.specs.FileNotes.declared.notes.FileNotes.{FileNotes}
-use Rattle.file_copies.specs.FileNotes.Files.{IsPlanned}
+use Rattle.file_copies.specs.OfFileNotes.declared.notes.FileNotes.{FileNotes}
+use Rattle.file_copies.specs.OfFileNotes.Files.{IsPlanned}
 use Rattle.file_copies.specs.Copies.{copied}
 use Rattle.book_recovery.specs.declared.found.Found.{Found}
 use Rattle.book_recovery.specs.declared.found.Found.TheVariants as found

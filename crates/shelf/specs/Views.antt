@@ -53,7 +53,7 @@ use Rattle.shelf.specs.declared.doubt.Work.{Work}
 use Rattle.shelf.specs.declared.doubt.Work.TheVariants.{Visits, Sweeps, Compacts}
 use Rattle.shelf.specs.declared.rules.Rules.{Rules}
 use Rattle.shelf.specs.declared.shelf.Shelf.{Shelf}
-use Rattle.file_copies.specs.FileNotes.Files as noted
+use Rattle.file_copies.specs.OfFileNotes.Files as noted
 use Rattle.shelf.specs.Files.{KnowsFile}
 use Rattle.shelf.specs.Ranges.{AreInRange}
 use Rattle.shelf.specs.Owning.{StandsOwn}

@@ -12,7 +12,7 @@ ghost use Rattle.instance_book.specs.Makes.{HasItsStates};
 ghost use Rattle.book_recovery.specs.Found.{IsBookInOrder};
 ghost use Rattle.shelf.specs.Faults.{begin_fault};
 ghost use Rattle.shelf.specs.Opening.{HasOwnRecords, OpensOwn, Opens, TellsSetup, TellsFull, IsLibraryOf, with_book, WasFound};
-ghost use Rattle.file_copies.specs.FileNotes.Files.{IsNoted};
+ghost use Rattle.file_copies.specs.OfFileNotes.Files.{IsNoted};
 ghost use Rattle.shelf.specs.Files.{KnowsRead, NotesBegun, NotesRenewed};
 ghost use Rattle.shelf.specs.Ranges.{AreInRange};
 

@@ -5,7 +5,7 @@ ghost use Rattle.page_journal.specs.Replacing.{IsWholeFile};
 ghost use Rattle.page_journal.specs.Scanned.{IsQuiet};
 ghost use Rattle.page_journal.specs.Settled.{HasFailed, IsSettled, IsSound, view_of, bodies_in, length_of, is_broken};
 ghost use Rattle.journal_records.specs.Fields.{numbers_end};
-ghost use Rattle.file_copies.specs.FileNotes.Files.{IsNoted};
+ghost use Rattle.file_copies.specs.OfFileNotes.Files.{IsNoted};
 ghost use Rattle.file_copies.specs.declared.copying.CopyFault.TheVariants as copy_fault;
 ghost use Rattle.shelf.specs.Compacting.{IsPlanOf, IsPlannedFor, IsTooLongFor, IsWholeCopy, IsCopyFor, Replaces, Rewrites};
 

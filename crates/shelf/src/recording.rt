@@ -12,7 +12,7 @@ ghost use Rattle.instance_book.specs.Changes.{change_of};
 ghost use Rattle.book_visits.specs.Changes.{IsSpelledIn};
 ghost use Rattle.instance_book.specs.KeptStates.Kept.{kept_of};
 ghost use Rattle.machine_states.specs.Views.{suspended_of};
-ghost use Rattle.file_copies.specs.FileNotes.Files.{IsNoted, HasRoom, StaysAsTold};
+ghost use Rattle.file_copies.specs.OfFileNotes.Files.{IsNoted, HasRoom, StaysAsTold};
 ghost use Rattle.shelf.specs.Recording.{refusal_of_size, CanBeWritten, IsWritten, IsStateFor, IsLentAs, IsKeptIn, WhereTold, BindsIn, told_in, lent};
 
 use crate::nesting::nests_shallow;

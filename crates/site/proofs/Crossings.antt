@@ -30,9 +30,9 @@ use Rattle.shelf.specs.contracts.doubt.Work as Work
 use Rattle.shelf.specs.contracts.doubt.Doubt as Doubt
 use Rattle.disk_trio.specs.contracts.trio.Disks as Disks
 use Rattle.disk_trio.proofs.side.Side.TheSendSync as sides
-use Rattle.shelf.specs.FileNotes.contracts.note.Note as Note
-use Rattle.shelf.specs.FileNotes.contracts.past.FilePast as FilePast
-use Rattle.shelf.specs.FileNotes.contracts.notes.FileNotes as FileNotes
+use Rattle.shelf.specs.OfFileNotes.contracts.note.Note as Note
+use Rattle.shelf.specs.OfFileNotes.contracts.past.FilePast as FilePast
+use Rattle.shelf.specs.OfFileNotes.contracts.notes.FileNotes as FileNotes
 use Rattle.shelf_lock.proofs.pass.Pass.TheSendSync as passes
 use Rattle.shelf_lock.proofs.lock.ShelfLock.TheSendSync as locks
 use Rattle.shelf_lock.specs.declared.kept.Kept.{Ghosts}

@@ -3,9 +3,9 @@ use Rattle.script_nodes.specs.Views.{scripts_of}
 use Rattle.replay_spec.specs.Book.{renewed}
 use Rattle.replay_spec.specs.Change.{with_line}
 use Rattle.journal_spec.specs.Opening.{renewal_body}
-use Rattle.file_copies.specs.FileNotes.declared.note.Note.{Note}
-use Rattle.file_copies.specs.FileNotes.Files.{file_in}
-use Rattle.file_copies.specs.FileNotes.Notes.{is_told}
+use Rattle.file_copies.specs.OfFileNotes.declared.note.Note.{Note}
+use Rattle.file_copies.specs.OfFileNotes.Files.{file_in}
+use Rattle.file_copies.specs.OfFileNotes.Notes.{is_told}
 use Rattle.shelf.proofs.Setups.{renewal_short}
 use Rattle.shelf.proofs.begin.renew.Goals as goal
 

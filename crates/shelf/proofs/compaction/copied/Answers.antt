@@ -5,9 +5,9 @@ use Rattle.disk_trio.specs.Laws.{only_left}
 use Rattle.page_journal.specs.Replacing.{IsWholeFile}
 use Rattle.web_disk.proofs.Moments.{started}
 use Rattle.journal_records.specs.Records.{draws, body_of}
-use Rattle.file_copies.specs.FileNotes.declared.note.Note.{Note}
-use Rattle.file_copies.specs.FileNotes.Files.{IsLonger}
-use Rattle.file_copies.specs.FileNotes.Notes.{picked}
+use Rattle.file_copies.specs.OfFileNotes.declared.note.Note.{Note}
+use Rattle.file_copies.specs.OfFileNotes.Files.{IsLonger}
+use Rattle.file_copies.specs.OfFileNotes.Notes.{picked}
 use Rattle.file_copies.specs.declared.copying.CopyFault.{CopyFault}
 use Rattle.shelf.specs.declared.compaction.Planned.{Planned}
 use Rattle.shelf.specs.Compacting.{IsWholeCopy}

@@ -3,8 +3,8 @@ use Rattle.replay_spec.specs.Book.{File}
 use Rattle.replay_spec.specs.Compaction.{file_length}
 use Rattle.script_nodes.specs.Views.{library_of}
 use Rattle.instance_book.specs.Views.{instances_of}
-use Rattle.file_copies.specs.FileNotes.Files.{IsPicked}
-use Rattle.file_copies.proofs.FileNotes.Plans.{plan_length}
+use Rattle.file_copies.specs.OfFileNotes.Files.{IsPicked}
+use Rattle.file_copies.proofs.OfFileNotes.Plans.{plan_length}
 use Rattle.shelf.specs.Compacting.{length_for}
 use Rattle.shelf.proofs.Planned.{total_is}
 use Rattle.shelf.proofs.compaction.plan_file.Goals as goal

@@ -13,9 +13,9 @@ use Rattle.replay_spec.specs.Book.{changed, File}
 use Rattle.replay_spec.specs.Change.{with_line}
 use Rattle.page_journal.specs.Records.{newest}
 use Rattle.value_bytes.specs.Laws.{AreBytes}
-use Rattle.file_copies.specs.FileNotes.declared.note.Note.{Note}
-use Rattle.file_copies.specs.FileNotes.Files.{file_in, marks_in}
-use Rattle.file_copies.specs.FileNotes.Notes.{is_told}
+use Rattle.file_copies.specs.OfFileNotes.declared.note.Note.{Note}
+use Rattle.file_copies.specs.OfFileNotes.Files.{file_in, marks_in}
+use Rattle.file_copies.specs.OfFileNotes.Notes.{is_told}
 use Rattle.shelf.proofs.Known.{told_still}
 use Rattle.shelf.specs.Views.{library_in, book_in, fate_by}
 use Rattle.shelf.specs.Events.{decision_of, TellsReply}

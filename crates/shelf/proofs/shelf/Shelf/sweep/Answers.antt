@@ -11,9 +11,9 @@ use Rattle.shelf.specs.declared.doubt.Doubt as doubt_type
 use Rattle.shelf.specs.declared.doubt.Work.TheVariants.{Sweeps as DoubtedSweeps}
 use Rattle.page_journal.specs.Records.{newest}
 use Rattle.value_bytes.specs.Laws.{AreBytes}
-use Rattle.file_copies.specs.FileNotes.declared.note.Note.{Note}
-use Rattle.file_copies.specs.FileNotes.Files.{file_in, marks_in}
-use Rattle.file_copies.specs.FileNotes.Notes.{is_told}
+use Rattle.file_copies.specs.OfFileNotes.declared.note.Note.{Note}
+use Rattle.file_copies.specs.OfFileNotes.Files.{file_in, marks_in}
+use Rattle.file_copies.specs.OfFileNotes.Notes.{is_told}
 use Rattle.shelf.proofs.Known.{told_still}
 use Rattle.shelf.specs.Views.{book_in, doubt_of}
 use Rattle.shelf.proofs.Steps.{early, down_sweep}
