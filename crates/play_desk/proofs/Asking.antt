@@ -14,10 +14,6 @@ asked_none rack = sym (append-nil rack.asked)
 pub asked_all : (shelf : ℕ) (old new : RackView) → AsksForOne shelf old new → AsksForSome shelf old new
 asked_all shelf old new one = (three_numbers shelf, (inr (inr refl), one))
 
--- and none behind them
-pub asked_still : (shelf : ℕ) (old mid new : RackView) → AsksForSome shelf old mid → AsksForNone mid new → AsksForSome shelf old new
-asked_still shelf old mid new some none = (some.0, (some.1.0, none ∙ some.1.1))
-
 -- behind the disks of so many those of the next
 pub asked_more : (count : ℕ) (first old new : RackView) → AsksForFirst count first old → AsksForOne count old new → AsksForFirst (suc count) first new
 asked_more count first old new before one =

@@ -18,6 +18,7 @@ use Rattle.server_limits.specs.Limits.{most_shelves}
 use Rattle.trio_rack.specs.Numbers.{IsOneOfThree}
 use Rattle.trio_rack.specs.Trios.{shelves_of, MayBeBare}
 use Rattle.trio_rack.proofs.Bare.{bare_among, of_another, some_among}
+use Rattle.trio_rack.proofs.Homes.{below_or_not}
 use Rattle.play_desk.specs.Desk.{Desk, first_desk, first_shelves}
 use Rattle.play_steps.specs.Rules.{StaysUp}
 use Rattle.play_desk.specs.Opening.{AreOpened, AllKept, AllStayKept, AreHome, CountStays, FailedFor, GivesOne, HoldImages, IsClosedBy, IsKept, IsRefusedBy, LeaveOthers, OpensNext, numbered, rules_at}
@@ -25,7 +26,7 @@ use Rattle.play_desk.specs.Staff.{AreFit, HaveOwnNumbers, IsHome, desk_with, fau
 use Rattle.play_desk.specs.declared.opening.OpenCause.{OpenCause}
 use Rattle.play_desk.specs.declared.opening.OpenCause.TheVariants as cause
 use Rattle.play_desk.proofs.Asking.{asked_more, asked_none}
-use Rattle.play_desk.proofs.Places.{in_push, none_there, same_Some}
+use Rattle.play_desk.proofs.Places.{in_push, none_there, same_Some, some_at}
 use Rattle.play_desk.proofs.Closing.{at_last, in_front}
 use Rattle.play_desk.proofs.Fitting.{number_at, own_numbers}
 use Rattle.play_desk.proofs.Keeping.{all_kept_in}
@@ -59,18 +60,6 @@ last_place [] x zero u e other = absurd (other refl)
 last_place [] x (suc k) u e other = absurd (let no : None ≡ Some u = e in cc)
 last_place (y ∷ xs) x zero u e other = e
 last_place (y ∷ xs) x (suc k) u e other = last_place xs x k u e (λ is. other (ap suc is))
-
--- what stands below the length
-there : {A : Type 0} (xs : List A) (n : ℕ) → n < length xs → (x : A) × (slice_get xs n ≡ Some x)
-there [] n low = absurd (omega (arith, low))
-there (x ∷ xs) zero low = (x, refl)
-there (x ∷ xs) (suc n) low = there xs n (omega (arith, low))
-
-below_or_not : (k n : ℕ) → (k < n) ⊎ (n ≤ k)
-below_or_not zero zero = inr (omega arith)
-below_or_not zero (suc n) = inl (omega arith)
-below_or_not (suc k) zero = inr (omega arith)
-below_or_not (suc k) (suc n) = elim (below_or_not k n) [ inl h ↦ inl (omega arith) | inr h ↦ inr (omega arith) ]
 
 module _ {D : Type 0} (view : D → View) (rack_tells tells : Bool) (scripts : List Named) (rules : Rules) (first : RackView) (count : ℕ)
     (xs : List (Shelf D Counting)) (now : RackView) where
@@ -123,7 +112,7 @@ module _ {D : Type 0} (view : D → View) (rack_tells tells : Bool) (scripts : L
   kept_all mid next why o rack_told told given kept images others = record {
     kept = λ n but left is.
         elim (below_or_not n (length xs)) [
-          | inl low ↦ opened n left is (there xs n low)
+          | inl low ↦ opened n left is (some_at xs n low)
           | inr high ↦ beyond n but left is (omega (arith, o.size, high))
         ];
     behind = λ n above left is.

@@ -23,7 +23,7 @@ use Rattle.web_disk.specs.View.{View}
 use Rattle.play_desk.specs.Opening.{BeginsEmpty, reopen_of}
 use Rattle.play_desk.proofs.Now.{never_anew}
 
-texts_fit : (scripts : List Named) → AreShort scripts → AllByRecursion ScriptFits (texts_of scripts)
+pub texts_fit : (scripts : List Named) → AreShort scripts → AllByRecursion ScriptFits (texts_of scripts)
 texts_fit [] short = tt
 texts_fit (s ∷ scripts) short = ((omega (arith, short.0), omega (arith, short.1)), texts_fit scripts short.2)
 

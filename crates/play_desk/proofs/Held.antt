@@ -35,7 +35,7 @@ nothing_out rules scripts (suc n) k s e =
       | inr is ↦ ap (λ (x : Shelf). x.book.out) (sym is)
     ]
 
-count_first : (rules : ℕ → Rules) (scripts : List Named) (n : ℕ) → length (first_shelves rules scripts n) ≡ n
+pub count_first : (rules : ℕ → Rules) (scripts : List Named) (n : ℕ) → length (first_shelves rules scripts n) ≡ n
 count_first rules scripts zero = refl
 count_first rules scripts (suc n) =
     let was = count_first rules scripts n in

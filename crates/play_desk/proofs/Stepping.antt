@@ -47,16 +47,6 @@ takes d worker target at k s names place here =
     ∙ ap (λ i. take_on d i worker at answer (slice_get d.shelves i)) place
     ∙ ap (take_on d k worker at answer) here
 
-pub takes_nothing : (d : Desk) (worker : ℕ) (target : List ℕ) → destination_of (path_and_query target).0 ≡ None
-    → desk_take d worker target ≡ answered (Err (Refused Unknown))
-takes_nothing d worker target names = ap (take_at d worker (answer_to (path_and_query target).1)) names
-
-pub takes_nowhere : (d : Desk) (worker : ℕ) (target : List ℕ) (at : Destination) → destination_of (path_and_query target).0 ≡ Some at
-    → slice_get d.shelves (shelf_for (length d.shelves) worker at) ≡ None → desk_take d worker target ≡ answered (Err (Refused Unknown))
-takes_nowhere d worker target at names none =
-    let answer = answer_to (path_and_query target).1 in
-    ap (take_at d worker answer) names ∙ ap (take_on d (shelf_for (length d.shelves) worker at) worker at answer) none
-
 pub publishes : (d : Desk) (worker : ℕ) (t : next.Ticket) (k : ℕ) (s : Shelf) → slice_get d.held worker ≡ Some (Some t)
     → shelf_for (length d.shelves) worker t.target ≡ k → slice_get d.shelves k ≡ Some s
     → desk_publish d worker ≡ event (λ fate. published_by d k worker (happening s (publish t) fate))
@@ -100,10 +90,6 @@ comes_over fails rose told (event by) old a new so h = (h.0, h.1, λ e. so (h.2 
 pub shelf_there : {D : Type 0} (view : D → View) (scripts : List Named) (xs : List (code.Shelf D Counting)) (ts : List (Option Ticket)) (k : ℕ) (x : code.Shelf D Counting)
     → slice_get xs k ≡ Some x → slice_get (desk_with view scripts xs ts).shelves k ≡ Some (shelf_at view x)
 shelf_there view scripts xs ts k x here = slice_get-map (shelf_at view) xs k ∙ ap (option_map (shelf_at view)) here
-
-pub no_shelf_there : {D : Type 0} (view : D → View) (scripts : List Named) (xs : List (code.Shelf D Counting)) (ts : List (Option Ticket)) (k : ℕ)
-    → slice_get xs k ≡ None → slice_get (desk_with view scripts xs ts).shelves k ≡ None
-no_shelf_there view scripts xs ts k here = slice_get-map (shelf_at view) xs k ∙ ap (option_map (shelf_at view)) here
 
 pub count_is : {D : Type 0} (view : D → View) (scripts : List Named) (xs : List (code.Shelf D Counting)) (ts : List (Option Ticket))
     → length (desk_with view scripts xs ts).shelves ≡ length xs

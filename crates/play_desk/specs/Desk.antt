@@ -59,6 +59,7 @@ abbrev pub first_desk : (rules : ℕ → Rules) → List Named → (count : ℕ)
 first_desk rules scripts count =
     record { scripts = scripts; shelves = first_shelves rules scripts count; held = replicate 16 None }
 
+-- The ticket that a worker holds, if it holds one.
 abbrev pub ticket_of : Desk → (worker : ℕ) → Option Ticket
 ticket_of d worker = option_and_then (λ t. t) (slice_get d.held worker)
 
@@ -93,13 +94,16 @@ abbrev pub desk_take : Desk → (worker : ℕ) → (target : List ℕ) → Call 
 desk_take d worker target =
     let parts = path_and_query target in take_at d worker (answer_to parts.1) (destination_of parts.0)
 
+-- What a publish tells and leaves, where it left the shelf so.
 abbrev pub published_by : Desk → ℕ → ℕ → spec.Reply × Shelf → Reply × Desk
 published_by d k worker (r, s) = (told r, behind d k s worker None)
 
+-- A publish of this ticket on a shelf, if there is one.
 abbrev pub publish_on : Desk → ℕ → ℕ → Ticket → Option Shelf → Call Desk Fate Reply
 publish_on d k worker t None = answered (reply.Refused Unknown)
 publish_on d k worker t (Some s) = event (λ fate. published_by d k worker (happening s (publish t) fate))
 
+-- A publish of the ticket that a worker holds, if it holds one.
 abbrev pub publish_held : Desk → ℕ → Option Ticket → Call Desk Fate Reply
 publish_held d worker None = answered (reply.Refused Unknown)
 publish_held d worker (Some t) =
@@ -114,10 +118,12 @@ abbrev pub swept_by : Desk → ℕ → spec.Reply × Shelf → Result ℕ Reply 
 swept_by d k (spec.swept count, s) = (Ok count, with_shelf d k s)
 swept_by d k (r, s) = (Err (told r), with_shelf d k s)
 
+-- A sweep of a shelf, if there is one.
 abbrev pub sweep_on : Desk → ℕ → ℕ → Option Shelf → Call Desk Fate (Result ℕ Reply)
 sweep_on d k tick None = answered (Err (reply.Refused Unknown))
 sweep_on d k tick (Some s) = event (λ fate. swept_by d k (happening s (sweep tick) fate))
 
+-- A sweep of the shelf of this number.
 abbrev pub desk_sweep : Desk → (shelf tick : ℕ) → Call Desk Fate (Result ℕ Reply)
 desk_sweep d k tick = sweep_on d k tick (slice_get d.shelves k)
 
@@ -126,10 +132,12 @@ abbrev pub compacted_by : Desk → ℕ → spec.Reply × Shelf → Result ℕ Re
 compacted_by d k (spec.compacted length, s) = (Ok length, with_shelf d k s)
 compacted_by d k (r, s) = (Err (told r), with_shelf d k s)
 
+-- A compaction of a shelf, if there is one.
 abbrev pub compact_on : Desk → ℕ → Option Shelf → Call Desk Fate (Result ℕ Reply)
 compact_on d k None = answered (Err (reply.Refused Unknown))
 compact_on d k (Some s) = event (λ fate. compacted_by d k (happening s compact fate))
 
+-- A compaction of the shelf of this number.
 abbrev pub desk_compact : Desk → (shelf : ℕ) → Call Desk Fate (Result ℕ Reply)
 desk_compact d k = compact_on d k (slice_get d.shelves k)
 
@@ -153,6 +161,7 @@ crashed_by d k (spec.live count, s) =
     (count, record d { shelves = slice_set d.shelves k s; held = without_shelf (length d.shelves) k 0 d.held })
 crashed_by d k (r, s) = (0, with_shelf d k s)
 
+-- A crash of a shelf, if there is one.
 abbrev pub crash_on : Desk → (shelf : ℕ) → Option Shelf → Call Desk Fate ℕ
 crash_on d k None = answered 0
 crash_on d k (Some s) = event (λ fate. crashed_by d k (happening s (crash d.scripts) fate))

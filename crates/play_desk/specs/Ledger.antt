@@ -74,6 +74,7 @@ abbrev pub take_at : Ledger → (worker : ℕ) → Val → Option Destination �
 take_at l worker answer None = answered (Err (Refused Unknown))
 take_at l worker answer (Some target) = take_on l (shelf_for l.count worker target) worker target answer
 
+-- A take of a target by a worker, as far as a ledger tells it.
 abbrev pub ledger_take : Ledger → (worker : ℕ) → (target : List ℕ) → Call Ledger Fate (Result ℕ outcome.Reply)
 ledger_take l worker target =
     let parts = path_and_query target in take_at l worker (answer_to parts.1) (destination_of parts.0)
@@ -85,30 +86,37 @@ publish_on l k worker t =
     then event (λ fate. (told (first_reply l.replies), holding (entered l k (publish t) fate) worker None))
     else answered (Refused Unknown)
 
+-- A publish of the ticket that a worker holds, as far as a ledger tells it.
 abbrev pub publish_held : Ledger → (worker : ℕ) → Option Ticket → Call Ledger Fate outcome.Reply
 publish_held l worker None = answered (Refused Unknown)
 publish_held l worker (Some t) = publish_on l (shelf_for l.count worker t.target) worker t
 
+-- The ticket that a worker holds by a ledger, if it holds one.
 abbrev pub ticket_in : Ledger → (worker : ℕ) → Option Ticket
 ticket_in l worker = option_and_then (λ t. t) (slice_get l.held worker)
 
+-- A worker's publish, as far as a ledger tells it.
 abbrev pub ledger_publish : Ledger → (worker : ℕ) → Call Ledger Fate outcome.Reply
 ledger_publish l worker = publish_held l worker (ticket_in l worker)
 
+-- What a sweep with this reply tells and leaves of a ledger.
 abbrev pub swept_in : Ledger → Reply → Result ℕ outcome.Reply × Ledger
 swept_in l (swept count) = (Ok count, l)
 swept_in l r = (Err (told r), l)
 
+-- A sweep of the shelf of this number, as far as a ledger tells it.
 abbrev pub ledger_sweep : Ledger → (shelf tick : ℕ) → Call Ledger Fate (Result ℕ outcome.Reply)
 ledger_sweep l k tick =
     if nat_lt k l.count
     then event (λ fate. swept_in (entered l k (sweep tick) fate) (first_reply l.replies))
     else answered (Err (Refused Unknown))
 
+-- What a compaction with this reply tells and leaves of a ledger.
 abbrev pub compacted_in : Ledger → Reply → Result ℕ outcome.Reply × Ledger
 compacted_in l (compacted length) = (Ok length, l)
 compacted_in l r = (Err (told r), l)
 
+-- A compaction of the shelf of this number, as far as a ledger tells it.
 abbrev pub ledger_compact : Ledger → (shelf : ℕ) → Call Ledger Fate (Result ℕ outcome.Reply)
 ledger_compact l k =
     if nat_lt k l.count
@@ -120,6 +128,7 @@ abbrev pub crashed_in : Ledger → (shelf : ℕ) → Reply → ℕ × Ledger
 crashed_in l k (live count) = (count, record l { held = without_shelf l.count k 0 l.held })
 crashed_in l k r = (0, l)
 
+-- A crash of the shelf of this number, as far as a ledger tells it.
 abbrev pub ledger_crash : Ledger → (shelf : ℕ) → Call Ledger Fate ℕ
 ledger_crash l k =
     if nat_lt k l.count

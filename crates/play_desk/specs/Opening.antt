@@ -91,6 +91,7 @@ pub record TakesNone (number : ℕ) (old new : RackView) : Type 0 where
   pub home : (shelves_of old).out number ≡ false → (shelves_of new).out number ≡ false
   pub leaves : LeavesOthers number old new
 
+-- The disks of this shelf were taken from the rack, or none of them was.
 abbrev pub TakesOrLeaves : {T E : Type 0} → (number : ℕ) → Result T E → (old new : RackView) → Type 0
 TakesOrLeaves number (Ok disk) old new = TakesOne number old new
 TakesOrLeaves number (Err why) old new = TakesNone number old new

@@ -36,6 +36,7 @@ desk_with view scripts shelves tickets = record {
   held = map (option_map ticket_of) tickets;
 }
 
+-- The desk that shelves on their disks and the tickets of their workers stand for.
 abbrev pub desk_of : {D : Type 0} → (D → View) → List Named → Staff D → Desk
 desk_of view scripts s = desk_with view scripts s.shelves.items s.tickets
 
@@ -117,6 +118,7 @@ pub record AreFit {D : Type 0} (view : D → View) (tells : Bool) (shelves : Lis
   pub apart : (v w : ℕ) (t u : Ticket) → slice_get tickets v ≡ Some (Some t) → slice_get tickets w ≡ Some (Some u)
       → place_of (length shelves) v t ≡ place_of (length shelves) w u → t.number ≡ u.number → v ≡ w
 
+-- Each shelf of a staff is in order, and the tickets of its workers can be published.
 abbrev pub IsFit : {D : Type 0} → (D → View) → Bool → Staff D → Type 0
 IsFit view tells s = AreFit view tells s.shelves.items s.tickets
 
@@ -131,6 +133,7 @@ pub record AreOwn {D : Type 0} (view : D → View) (tells : Bool) (shelves : Lis
   pub own : (k : ℕ) (x : Shelf D Counting) → slice_get shelves k ≡ Some x → IsOwnShelf view tells x
   pub are_open : OfEachTicket (IsOpen view) shelves tickets
 
+-- The shelves of a staff are this program's own, and the tickets of its workers are open on them.
 abbrev pub IsOwn : {D : Type 0} → (D → View) → Bool → Staff D → Type 0
 IsOwn view tells s = AreOwn view tells s.shelves.items s.tickets
 
