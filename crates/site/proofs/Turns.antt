@@ -15,6 +15,7 @@ use Rattle.script_value.specs.Val.{Val}
 use Rattle.script_value.specs.declared.outcome.Reply as answers
 use Rattle.script_value.specs.declared.outcome.Reply.TheVariants.{Worn}
 use Rattle.page_names.specs.Names.{Destination}
+use Rattle.script_nodes.proofs.Places.{map_joined}
 use Rattle.replay_spec.specs.Step as step
 use Rattle.replay_spec.specs.Step.{Event}
 use Rattle.shelf.specs.Visits.{Ticket, ticket_of, reply_of}
@@ -51,20 +52,12 @@ own_map c [] = refl
 own_map c (e ∷ l) =
     (λ i. cond (caller_done e.caller e.did i == c) (entry_of e ∷ own_map c l i) (own_map c l i)) ∙ map_cond (e.caller == c) e (made_by (λ (x : KeptEntry). x.caller) c l)
 
-pub map_append : {A B : Type 0} (f : A → B) (xs ys : List A) → map f (xs ++ ys) ≡ map f xs ++ map f ys
-map_append f [] ys = refl
-map_append f (x ∷ xs) ys = ap (λ l. f x ∷ l) (map_append f xs ys)
-
 pub prefix_map : (xs ys : List KeptEntry) → IsPrefix xs ys → IsPrefix (entries_of xs) (entries_of ys)
-prefix_map xs ys p = (entries_of p.0, sym (map_append entry_of xs p.0) ∙ ap entries_of p.1)
+prefix_map xs ys p = (entries_of p.0, sym (map_joined entry_of xs p.0) ∙ ap entries_of p.1)
 
 -- what a caller has seen of a history, and all its entries
 pub seen_so : (c : ℕ) (xs ys : List KeptEntry) → IsPrefix xs ys → made_by (λ (e : KeptEntry). e.caller) c ys ≡ made_by (λ (e : KeptEntry). e.caller) c xs → IsSeenBy c (entries_of xs) (entries_of ys)
 seen_so c xs ys p own = record { front = prefix_map xs ys p; own = own_map c ys ∙ (ap entries_of own ∙ sym (own_map c xs)) }
-
-pub ok_of : {A B : Type 0} (r : Result A B) (a : A) (P : A → Type 0) → IfOk r P → r ≡ Ok a → P a
-ok_of (Ok x) a P h is = subst P (let z : x ≡ a = cc is in z) h
-ok_of (Err e) a P h is = absurd (let no : ⊥ = cc is in no)
 
 -- one entry more at most, of this caller
 pub adds_one : (by who : ℕ) (event : Event) (r : step.Reply) (old new : List KeptEntry) → who ≡ by → Comes by event r old new → Adds (λ (e : KeptEntry). e.caller) who old new

@@ -12,6 +12,7 @@ pub record Kept : Type 0 where
   pub histories : List (List KeptEntry)
   pub tallies : List Tally
 
+-- What a past was given: these histories and tallies.
 abbrev pub kept_of : List (List KeptEntry) → List Tally → Kept
 kept_of histories tallies = record { histories = histories; tallies = tallies }
 
@@ -19,6 +20,7 @@ kept_of histories tallies = record { histories = histories; tallies = tallies }
 abbrev pub kept_in : Vec (List KeptEntry) → Vec Tally → Kept
 kept_in histories tallies = kept_of histories.items tallies.items
 
+-- What was kept of a serving.
 abbrev pub serving_of : KeptServing → Kept
 serving_of s = kept_in s.histories.value s.tallies.value
 

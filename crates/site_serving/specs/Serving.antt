@@ -45,6 +45,7 @@ pub record Views (D P L N : Type 0) : Type 1 where
 abbrev pub most_requests : ℕ
 most_requests = 1000
 
+-- How contracts see the things that a serving meets.
 abbrev pub views : {D P L N : Type 0} → (disk : D → View) → (told : Bool) → (link : L → LinkView) → (porch : P → PorchView L)
     → (nonce : N → ℕ → ℕ) → (shown : Option ℕ) → Views D P L N
 views disk told link porch nonce shown =
@@ -55,6 +56,7 @@ pub record Pasts : Type 0 where
   pub before : Option (List Kept)
   pub after : Option (List Kept)
 
+-- What a past told before a serving and after it.
 abbrev pub pasts_of : (before after : Option (List Kept)) → Pasts
 pasts_of before after = record { before = before; after = after }
 

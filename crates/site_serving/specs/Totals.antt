@@ -5,16 +5,18 @@ use Rattle.request_workers.specs.Tallies.{count_of}
 use Rattle.request_workers.specs.declared.tally.Tally.{Tally}
 use Rattle.request_workers.specs.declared.tally.WorkEnd.{WorkEnd}
 use Rattle.request_workers.specs.declared.tally.WorkEnd.TheVariants as ends
+use Rattle.site.specs.Beginnings.{most_passes}
 
 -- how many workers work at once, at most
 abbrev pub most_workers : ℕ
-most_workers = 16
+most_workers = most_passes
 
+-- What workers counted together.
 abbrev pub total : List Tally → Count
 total [] = nothing
 total (t ∷ tallies) = both (count_of t) (total tallies)
 
--- of two ends a failure is told
+-- How two workers ended together: with a failure, where the first failed, and else as the second did.
 abbrev pub end_with : WorkEnd → WorkEnd → WorkEnd
 end_with ends.Done later = later
 end_with ends.Failed later = ends.Failed

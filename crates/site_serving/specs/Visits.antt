@@ -28,6 +28,7 @@ pub record Seen : Type 0 where
 abbrev pub most_entries : ℕ
 most_entries = 2 ^ 62
 
+-- A caller has seen no entry and no tick.
 abbrev pub nothing_seen : Seen
 nothing_seen = record { front = []; tick = 0 }
 
