@@ -1,4 +1,4 @@
-//! The audit of a shelf's journal: whether each record is one that a shelf writes there.
+//! The audit of a shelf's journal, on three disks: for the command.
 #![tactic(auto)]
 
 mod answer;

@@ -1,5 +1,4 @@
-//! Tests of shelves whose file is compacted: what stays, and what a compaction leaves that is stopped or fails at a call of a disk; and the
-//! files and visits of these tests, for other crates of tests.
+//! Tests of compactions: what stays, and what one leaves that is stopped or fails; and their files and visits, for other crates of tests.
 #![tactic(auto)]
 
 #[cfg(test)]

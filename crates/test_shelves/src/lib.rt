@@ -1,5 +1,4 @@
-//! Tests of shelves on disks in memory that stop, fail or are full, of other setups and limits, of copies, and of the last number of a visit;
-//! and what opens and visits such shelves, for other crates of tests.
+//! Tests of shelves on disks in memory that stop, fail or are full; and what opens and visits such shelves, for other crates of tests.
 #![tactic(auto)]
 
 #[cfg(test)]
