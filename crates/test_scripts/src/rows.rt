@@ -47,6 +47,7 @@ fn told_of_text(alloc: Global, word: &str, asked: &str) -> Result<String, AllocE
         "alike" => read::alike_told(alloc, asked),
         "expand" => syntax::fault_told(alloc, asked),
         "nodes" => syntax::nodes_of(alloc, asked),
+        "defaults" => syntax::defaults_told(alloc, asked),
         "run" | "cost" | "effects" | "names" => runs::run_told(alloc, word, asked),
         "recorded" => runs::recorded(alloc, asked),
         "value" => runs::value_told(alloc, asked),

@@ -30,6 +30,42 @@ pub fn fault_told(alloc: Global, text: &str) -> Result<String, AllocError> {
     }
 }
 
+// What a cell begins with, where that is a number.
+fn default_told(alloc: Global, value: &Value) -> Result<String, AllocError> {
+    match value {
+        Value::Int(number) => format!(in alloc; " {number}"),
+        _ => String::from_str(alloc, " other"),
+    }
+}
+
+// What each cell of a script begins with.
+fn tell_defaults(alloc: Global, told: &mut Told, script: &Script) {
+    told.add("web");
+    for cell in 0..u8::MAX {
+        if (cell as usize) < script.web_defaults().as_slice().len() {
+            told.put(default_told(alloc, script.web_default(cell)));
+        }
+    }
+    told.add(", instance");
+    for cell in 0..u8::MAX {
+        if (cell as usize) < script.instance_defaults().as_slice().len() {
+            told.put(default_told(alloc, script.instance_default(cell)));
+        }
+    }
+}
+
+/// What the web cells and the instance cells of a script begin with, or its first fault.
+pub fn defaults_told(alloc: Global, text: &str) -> Result<String, AllocError> {
+    match script_of(alloc, text)? {
+        Ok(script) => {
+            let mut told = Told::new(alloc);
+            tell_defaults(alloc, &mut told, &script);
+            told.all()
+        }
+        Err(fault) => Ok(fault),
+    }
+}
+
 fn kind_told(kind: SendKind) -> &'static str {
     match kind {
         SendKind::Suspend => "suspend",
