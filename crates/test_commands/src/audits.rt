@@ -1,15 +1,9 @@
 //! Audits of journals in files.
 
-use crate::outside::{FAIR, FULL, Machine, Outside, comes_to, ran};
+use crate::outside::{FAIR, FULL, Machine, UNREAD, comes_to, emptied, ran};
 use crate::transcripts::{first_sums, sums_of_two};
 use std::fs;
 use std::test::Fail;
-
-// Its first read would fail.
-const UNREAD: Outside<'static> = Outside {
-    reads: &[0],
-    ..FAIR
-};
 
 // Whether an audit of so many shelves of a folder, which reads nothing, comes to this.
 fn is_audited<R: Machine>(
@@ -27,14 +21,6 @@ fn is_audited<R: Machine>(
         shelves,
     ];
     comes_to(rt, words, b"", &UNREAD, told)
-}
-
-// Empties a folder.
-fn emptied<R: Machine>(rt: &R, folder: &str) -> Result<(), Fail> {
-    if fs::exists(rt, folder)? {
-        fs::remove_dir_all(rt, folder)?;
-    }
-    Ok(())
 }
 
 // The status of playing an input over an empty folder.
@@ -165,7 +151,7 @@ fn a_journal_of_an_older_format_is_audited(rt: HostRuntime) -> Result<(), Fail> 
 }
 
 #[test]
-fn a_line_that_cannot_be_written_ends_with_6(rt: HostRuntime) -> Result<(), Fail> {
+fn an_audit_whose_line_cannot_be_written_ends_with_6(rt: HostRuntime) -> Result<(), Fail> {
     let words = &["hovgyelit", "audit"];
     assert!(rt; comes_to(&rt, words, b"", &FULL, (6, ""))?);
     Ok(())

@@ -1,6 +1,7 @@
 //! How a run ends: by its words, by its input and by its output.
 
 use crate::outside::{CHECK, FAIR, FULL, Machine, Outside, PLAY, STUCK, comes_to, ran};
+use crate::servings::SERVE;
 use crate::texts::input_of;
 use crate::transcripts::{SUMS_PRINTED, sums};
 use std::test::Fail;
@@ -114,10 +115,10 @@ fn a_failing_flush_ends_with_6(rt: HostRuntime) -> Result<(), Fail> {
 }
 
 // Words, an input, and the status that it ends with.
-type Ending = (&'static [&'static str], &'static str, u8);
+type Run = (&'static [&'static str], &'static str, u8);
 
 // What ends with an error's line.
-const ERRORS: &[Ending] = &[
+const ERRORS: &[Run] = &[
     (&["hovgyelit"], "", 2),
     (PLAY, "steps\n", 3),
     (CHECK, "", 3),
@@ -146,7 +147,7 @@ fn a_line_of_an_error_that_is_not_written_changes_no_status(rt: HostRuntime) -> 
 }
 
 // What has replies to write, or else nothing but a flush.
-const REPLIES: &[Ending] = &[
+const REPLIES: &[Run] = &[
     (CHECK, "script a 2\n'a\n", 6),
     (PLAY, "script a 2\n'a\nsteps\nget 0 /x\n", 6),
     (PLAY, "script a 2\n'a\nsteps\nget 0 /x\npublish 0\n", 6),
@@ -179,8 +180,6 @@ fn a_failing_read_ends_with_5_where_nothing_can_be_written(rt: HostRuntime) -> R
     assert!(rt; comes_to(&rt, PLAY, b"steps\n", &NOTHING, (5, ""))?);
     Ok(())
 }
-
-const SERVE: &[&str] = &["hovgyelit", "serve", "--port", "0"];
 
 // An input that is read in long pieces, and the same with an output that takes no byte.
 const LONG: Outside<'static> = Outside {

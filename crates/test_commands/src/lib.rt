@@ -1,6 +1,8 @@
-//! Tests of the command where streams fail, texts are long, runs are measured or journals are audited, and an outside in memory: for other crates of tests.
+//! Tests of the command over an outside in memory: where streams fail, texts are long, runs are measured or journals are audited; and of `serve`, with its gate and its clock, a journal in files, audits before it, and two workers beside one another.
 #![tactic(auto)]
 
+#[cfg(test)]
+mod audited_first;
 #[cfg(test)]
 mod audits;
 #[cfg(test)]
@@ -8,13 +10,24 @@ mod endings;
 #[cfg(test)]
 mod full;
 #[cfg(test)]
+mod gates_and_clocks;
+#[cfg(test)]
+mod kept_in_files;
+#[cfg(test)]
 mod loading;
+#[cfg(test)]
 mod outside;
 #[cfg(test)]
+mod servings;
+#[cfg(test)]
 mod setups;
+#[cfg(test)]
+mod streets;
+#[cfg(test)]
 mod texts;
 #[cfg(test)]
 mod transcripts;
-
-pub use outside::{CHECK, FAIR, FULL, Machine, Outcome, Outside, PLAY, STUCK, comes_to, ran};
-pub use texts::{input_of, repeated, setup_of};
+#[cfg(test)]
+mod two_workers;
+#[cfg(test)]
+mod without_memory;

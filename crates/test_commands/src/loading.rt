@@ -1,6 +1,6 @@
 //! Measured runs: their lines, and what they end with.
 
-use crate::outside::{FAIR, FULL, Outside, comes_to};
+use crate::outside::{FAIR, FULL, UNREAD, comes_to};
 use std::test::Fail;
 
 const FIRST: &[&str] = &["hovgyelit", "load", "1"];
@@ -33,12 +33,6 @@ fn each_run_prints_its_line(rt: HostRuntime) -> Result<(), Fail> {
     Ok(())
 }
 
-// Its first read would fail.
-const UNREAD: Outside<'static> = Outside {
-    reads: &[0],
-    ..FAIR
-};
-
 #[test]
 fn a_run_reads_nothing_and_prints_the_same_again(rt: HostRuntime) -> Result<(), Fail> {
     assert!(rt; comes_to(&rt, FIRST, b"", &UNREAD, (0, LINE))?);
@@ -46,7 +40,7 @@ fn a_run_reads_nothing_and_prints_the_same_again(rt: HostRuntime) -> Result<(), 
 }
 
 #[test]
-fn a_line_that_cannot_be_written_ends_with_6(rt: HostRuntime) -> Result<(), Fail> {
+fn a_run_whose_line_cannot_be_written_ends_with_6(rt: HostRuntime) -> Result<(), Fail> {
     assert!(rt; comes_to(&rt, FIRST, b"", &FULL, (6, ""))?);
     Ok(())
 }

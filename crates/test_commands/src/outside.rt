@@ -3,7 +3,7 @@
 use file_disk::ServedRack;
 use server_command::{NoPast, command};
 use std::alloc::Global;
-use std::fs::{File, Files};
+use std::fs::{self, File, Files};
 use std::sync::Wait;
 use std::test::Fail;
 use std::thread::Threads;
@@ -33,6 +33,12 @@ pub const FAIR: Outside<'static> = Outside {
     writes: &[],
     room: 2_000_000,
     stuck: false,
+};
+
+/// An input whose first read fails.
+pub const UNREAD: Outside<'static> = Outside {
+    reads: &[0],
+    ..FAIR
 };
 
 /// An output that takes no byte.
@@ -123,4 +129,12 @@ pub fn comes_to<R: Machine>(
     let outcome = ran(rt, words, input, outside)?;
     let is_handed = outcome.handed || outcome.status != 0;
     Ok((outcome.status, outcome.text.as_str()) == told && is_handed)
+}
+
+/// Empties a folder.
+pub fn emptied<R: Machine>(rt: &R, folder: &str) -> Result<(), Fail> {
+    if fs::exists(rt, folder)? {
+        fs::remove_dir_all(rt, folder)?;
+    }
+    Ok(())
 }

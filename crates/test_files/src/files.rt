@@ -1,7 +1,8 @@
 ghost use Rattle.std.specs.Prelude.{◌≡◌, false, IfOk};
 ghost use Rattle.page_journal.specs.Settled.{IsSound, is_broken};
 
-use file_disk::{FileDisk, FileRack};
+use crate::racks::{clear, rack_of};
+use file_disk::FileDisk;
 use page_journal::{Journal, Take};
 use std::alloc::Global;
 use std::fs;
@@ -10,20 +11,6 @@ use std::os::unix::fs::MetadataExt;
 use std::test::Fail;
 use web_disk::{Disk, Rack, RackFault};
 use web_outside::Failed;
-
-type Files<'r> = FileRack<'r, HostRuntime>;
-
-// Lets no file of an earlier run stand there.
-fn clear(rt: &HostRuntime, folder: &str) -> Result<(), Fail> {
-    if fs::exists(rt, folder)? {
-        fs::remove_dir_all(rt, folder)?;
-    }
-    Ok(())
-}
-
-fn rack_of(rt: &HostRuntime) -> Files<'_> {
-    FileRack::new(rt, rt.alloc())
-}
 
 #[test]
 fn a_file_holds_what_was_written(rt: HostRuntime) -> Result<(), Fail> {

@@ -1,4 +1,5 @@
 use crate::machine::Machine;
+use crate::racks::{clear, rack_of};
 use file_disk::{FileRack, Refusal};
 use std::fs::{Permissions, TryLockError};
 use std::io::ErrorKind;
@@ -30,10 +31,8 @@ fn a_folder_that_cannot_be_synced_is_refused(rt: HostRuntime) -> Result<(), Fail
 #[test]
 fn what_is_made_is_its_owners_alone(rt: HostRuntime) -> Result<(), Fail> {
     let alloc = rt.alloc();
-    if fs::exists(&rt, "owners")? {
-        fs::remove_dir_all(&rt, "owners")?;
-    }
-    let mut rack = FileRack::new(&rt, alloc);
+    clear(&rt, "owners")?;
+    let mut rack = rack_of(&rt);
     let disk = rack.take(alloc, "owners/of/shelves", 0)?;
     rack.give(0, disk);
     for (path, mode) in [
@@ -51,8 +50,7 @@ fn what_is_made_is_its_owners_alone(rt: HostRuntime) -> Result<(), Fail> {
     let disk = rack.take(alloc, "owners/of/shelves", 0)?;
     rack.give(0, disk);
     assert_eq!(rt; rack.faults(), 0);
-    fs::remove_dir_all(&rt, "owners")?;
-    Ok(())
+    clear(&rt, "owners")
 }
 
 #[test]

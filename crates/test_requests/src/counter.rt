@@ -1,5 +1,5 @@
 ghost use Rattle.std.specs.Prelude.{◌<◌};
-ghost use Rattle.test_workers.specs.Any.{any_rules};
+ghost use Rattle.test_requests.specs.Any.{any_rules};
 
 use http_forms::Answering;
 use page_names::Target;

@@ -1,20 +1,10 @@
 //! A server that audits its journals first.
 
+use crate::outside::{Machine, emptied};
 use crate::servings::{ALL, Ending, served, told_on};
-use crate::streets::{QUIET, Street};
+use crate::streets::{A_START, AN_ANSWER, Street};
 use std::fs;
 use std::test::Fail;
-use test_commands::Machine;
-
-const A_START: Street = Street {
-    links: &["GET /servlets/all HTTP/1.0\r\n\r\n"],
-    ..QUIET
-};
-
-const AN_ANSWER: Street = Street {
-    links: &["GET /servlets/all;0*0*0*0000000000000000?n=1 HTTP/1.0\r\n\r\n"],
-    ..QUIET
-};
 
 // What serving over the journals of a folder comes to, which are audited first.
 fn audited<R: Machine>(rt: &R, folder: &str, street: &Street) -> Result<Ending, Fail> {
@@ -30,14 +20,6 @@ fn audited<R: Machine>(rt: &R, folder: &str, street: &Street) -> Result<Ending, 
         folder,
     ];
     served(rt, words, ALL, street)
-}
-
-// Empties a folder.
-fn emptied<R: Machine>(rt: &R, folder: &str) -> Result<(), Fail> {
-    if fs::exists(rt, folder)? {
-        fs::remove_dir_all(rt, folder)?;
-    }
-    Ok(())
 }
 
 #[test]

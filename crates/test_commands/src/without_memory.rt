@@ -1,12 +1,13 @@
 //! A server that finds no memory before it serves.
 
+use crate::outside::Machine;
 use crate::servings::{SERVE, TEN};
 use crate::streets::{QUIET, Street, door_of};
+use crate::texts::setup_of;
 use file_disk::ServedRack;
 use server_command::{NoPast, command};
 use std::alloc::Global;
 use std::test::Fail;
-use test_commands::{Machine, setup_of};
 use web_outside::{
     Counting, Door, DoorFault, ListDoor, ListPorch, ListSeeds, OpenGate, SeedFault, Seeds,
     SetClock, TextSink, TextSource,
@@ -72,7 +73,7 @@ impl Door for CrampedDoor {
 }
 
 // A link that asks for a page.
-const A_START: Street = Street {
+const A_START_OF_TEN: Street = Street {
     links: &["GET /servlets/ten HTTP/1.0\r\n\r\n"],
     ..QUIET
 };
@@ -107,7 +108,7 @@ fn ends_for_memory<R: Machine, D: Door<Porch = ListPorch>, S: Seeds<Counting>>(
 
 #[test]
 fn seeds_without_memory_end_with_10(rt: HostRuntime) -> Result<(), Fail> {
-    let mut door = door_of(rt.alloc(), &A_START)?;
+    let mut door = door_of(rt.alloc(), &A_START_OF_TEN)?;
     assert!(rt; ends_for_memory(&rt, &mut door, &mut CrampedSeeds)?);
     Ok(())
 }
@@ -116,7 +117,7 @@ fn seeds_without_memory_end_with_10(rt: HostRuntime) -> Result<(), Fail> {
 fn a_door_without_memory_ends_with_10(rt: HostRuntime) -> Result<(), Fail> {
     let alloc = rt.alloc();
     let mut door = CrampedDoor {
-        door: door_of(alloc, &A_START)?,
+        door: door_of(alloc, &A_START_OF_TEN)?,
     };
     let mut seeds = ListSeeds::new(Vec::new(alloc));
     assert!(rt; ends_for_memory(&rt, &mut door, &mut seeds)?);

@@ -20,6 +20,18 @@ pub const QUIET: Street = Street {
     nexts: &[],
 };
 
+/// A start of the script `all`.
+pub const A_START: Street = Street {
+    links: &["GET /servlets/all HTTP/1.0\r\n\r\n"],
+    ..QUIET
+};
+
+/// An answer to the page that the first start of it shows.
+pub const AN_ANSWER: Street = Street {
+    links: &["GET /servlets/all;0*0*0*0000000000000000?n=1 HTTP/1.0\r\n\r\n"],
+    ..QUIET
+};
+
 // A link that sends this.
 fn link_of(alloc: Global, sends: &str) -> Result<TextLink, Fail> {
     let sends = sends.as_bytes().to_vec(alloc)?;

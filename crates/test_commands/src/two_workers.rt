@@ -2,9 +2,9 @@
 
 use crate::servings::{Ending, TEN, served, served_at};
 use crate::streets::{QUIET, Street};
+use crate::texts::setup_of;
 use std::sync::atomic::{AtomicU64, Ordering};
 use std::test::Fail;
-use test_commands::setup_of;
 use web_outside::{Gate, SetClock};
 
 // A gate that holds visits between their take and their publish: 0 up to the take of 1, so that each worker has begun, 1 up to

@@ -1,13 +1,12 @@
 use crate::journals::{EARLIER, LATER, NEXT, add, opened, read, replaced};
+use crate::racks::{Files, clear, rack_of};
 use disk_trio::Disks;
-use file_disk::{FileDisk, FileRack};
+use file_disk::FileDisk;
 use std::alloc::Global;
 use std::fs;
 use std::fs::File;
 use std::test::Fail;
 use web_disk::Rack;
-
-type Files<'r> = FileRack<'r, HostRuntime>;
 
 const FOLDER: &str = "three-files";
 
@@ -30,10 +29,8 @@ fn give(rack: &mut Files<'_>, disks: Disks<FileDisk<File>>) {
 #[test]
 fn a_journal_in_three_files_is_replaced(rt: HostRuntime) -> Result<(), Fail> {
     let alloc = rt.alloc();
-    if fs::exists(&rt, FOLDER)? {
-        fs::remove_dir_all(&rt, FOLDER)?;
-    }
-    let mut rack = FileRack::new(&rt, alloc);
+    clear(&rt, FOLDER)?;
+    let mut rack = rack_of(&rt);
     let disks = taken(alloc, &mut rack)?;
     let mut journal = opened(alloc, disks)?;
     add(&mut journal, b"abc")?;
@@ -55,6 +52,5 @@ fn a_journal_in_three_files_is_replaced(rt: HostRuntime) -> Result<(), Fail> {
     assert_eq!(rt; read(alloc, &mut journal)?.as_slice(), LATER);
     assert_eq!(rt; journal.faults(), 0);
     give(&mut rack, journal.close());
-    fs::remove_dir_all(&rt, FOLDER)?;
-    Ok(())
+    clear(&rt, FOLDER)
 }

@@ -2,8 +2,8 @@
 
 use crate::servings::{ALL, SERVE, TEN, served, served_at, told_on};
 use crate::streets::{QUIET, Street};
+use crate::texts::setup_of;
 use std::test::Fail;
-use test_commands::setup_of;
 use web_outside::{NotingGate, OpenGate, SetClock, TickingClock};
 
 const TWO_STARTS_AND_A_STRANGER: Street = Street {

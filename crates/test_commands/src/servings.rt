@@ -1,11 +1,12 @@
 //! Setups that are served over links in memory, and what that comes to.
 
+use crate::outside::Machine;
 use crate::streets::{Street, door_of};
+use crate::texts::setup_of;
 use file_disk::ServedRack;
 use server_command::{KeptPast, command};
 use std::alloc::Global;
 use std::test::Fail;
-use test_commands::{Machine, setup_of};
 use web_outside::{Clock, Gate, ListDoor, ListSeeds, OpenGate, SetClock, TextSink, TextSource};
 
 /// Words with one worker.
@@ -33,7 +34,7 @@ pub struct Ending {
 
 // What a serving runs on.
 #[derive(Drop)]
-struct Outside {
+struct Serving {
     source: TextSource,
     sink: TextSink,
     door: ListDoor,
@@ -41,9 +42,9 @@ struct Outside {
     past: KeptPast,
 }
 
-impl Outside {
-    fn new(alloc: Global, input: &str, street: &Street) -> Result<Outside, Fail> {
-        Ok(Outside {
+impl Serving {
+    fn new(alloc: Global, input: &str, street: &Street) -> Result<Serving, Fail> {
+        Ok(Serving {
             source: TextSource::new(input.as_bytes().to_vec(alloc)?, Vec::new(alloc), 4096),
             sink: TextSink::new(alloc, 1_000, Vec::new(alloc))?,
             seeds: ListSeeds::new(Vec::new(alloc)),
@@ -112,13 +113,13 @@ fn entries_of(alloc: Global, past: &KeptPast) -> Result<Vec<u64>, Fail> {
 }
 
 // What a serving came to that ended with this status.
-fn ending_of(alloc: Global, status: u8, outside: &Outside) -> Result<Ending, Fail> {
+fn ending_of(alloc: Global, status: u8, serving: &Serving) -> Result<Ending, Fail> {
     Ok(Ending {
         status,
-        text: String::from_str(alloc, str::from_utf8(outside.sink.bytes())?)?,
-        links: links_of(alloc, &outside.door)?,
-        pages: pages_of(alloc, &outside.past)?,
-        entries: entries_of(alloc, &outside.past)?,
+        text: String::from_str(alloc, str::from_utf8(serving.sink.bytes())?)?,
+        links: links_of(alloc, &serving.door)?,
+        pages: pages_of(alloc, &serving.past)?,
+        entries: entries_of(alloc, &serving.past)?,
     })
 }
 
@@ -132,9 +133,9 @@ pub fn served_at<R: Machine, C: Clock + Sync, G: Gate + Sync>(
     gate: &G,
 ) -> Result<Ending, Fail> {
     let alloc = rt.alloc();
-    let mut outside = Outside::new(alloc, input, street)?;
-    let status = outside.serve(rt, words, clock, gate);
-    ending_of(alloc, status, &outside)
+    let mut serving = Serving::new(alloc, input, street)?;
+    let status = serving.serve(rt, words, clock, gate);
+    ending_of(alloc, status, &serving)
 }
 
 /// What serving a script comes to.
