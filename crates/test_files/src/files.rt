@@ -1,9 +1,10 @@
 ghost use Rattle.std.specs.Prelude.{◌≡◌, false, IfOk};
 ghost use Rattle.page_journal.specs.Settled.{IsSound, is_broken};
 
+use crate::journals::{add, read};
 use crate::racks::{clear, rack_of};
 use file_disk::FileDisk;
-use page_journal::{Journal, Take};
+use page_journal::Journal;
 use std::alloc::Global;
 use std::fs;
 use std::fs::File;
@@ -94,8 +95,12 @@ fn what_is_no_file_of_a_folder_is_refused(rt: HostRuntime) -> Result<(), Fail> {
     clear(&rt, "no-files")
 }
 
-// The bodies of some records.
-const BODIES: &[&[u8]] = &[b"abc", b"", b"defghij"];
+// Records, each with what is read of a journal before it is added and behind it.
+const ADDED: &[(&[u8], &[u8], &[u8])] = &[
+    (b"", b"abc", b",abc"),
+    (b",abc", b"", b",abc,"),
+    (b",abc,", b"defghij", b",abc,,defghij"),
+];
 
 // A journal of these.
 const THREE: &[u8] = &[
@@ -103,48 +108,9 @@ const THREE: &[u8] = &[
     b'd', b'e', b'f', b'g', b'h', b'i', b'j', 0,
 ];
 
-// Counts records, as long as they are the first of these.
-#[derive(Drop)]
-struct Counter {
-    count: usize,
-    same: bool,
-}
-
-impl Take for Counter {
-    ghost takes = { λ old place body new. Unit {0} };
-
-    ghost ready = { λ old place. Unit {0} };
-
-    fn body(&mut self, _place: u64, body: &[u8]) {
-        let same = match BODIES.get(self.count) {
-            Some(wanted) => *wanted == body,
-            None => false,
-        };
-        self.same = self.same && same;
-        self.count = self.count.saturating_add(1);
-    }
-}
-
 type FileJournal = Journal<FileDisk<File>>;
 
-// How many records a journal has, if they are the first of these.
-fn count_in(journal: &mut FileJournal) -> Result<usize, Fail>
-    requires { IsSound journal.old }
-    ensures sound { IsSound journal.new }
-    ensures whole { is_broken journal.new ≡ is_broken journal.old }
-{
-    let mut counter = Counter {
-        count: 0,
-        same: true,
-    };
-    journal.for_each(&mut counter)?;
-    if !counter.same {
-        return Err(Fail::from("other records"));
-    }
-    Ok(counter.count)
-}
-
-fn opened(alloc: Global, disk: FileDisk<File>) -> Result<FileJournal, Fail>
+fn begun(alloc: Global, disk: FileDisk<File>) -> Result<FileJournal, Fail>
     ensures sound { IfOk result (λ journal. IsSound journal) }
     ensures whole { IfOk result (λ journal. is_broken journal ≡ false) }
 {
@@ -154,22 +120,18 @@ fn opened(alloc: Global, disk: FileDisk<File>) -> Result<FileJournal, Fail>
     }
 }
 
-// Opens the journal of a disk and adds a record; tells how many it had and has, and the disk's count of faults.
-fn add(
+// Opens the journal of a disk and adds a record; tells what is read of it before and behind that, and the disk's count of faults.
+fn added(
     alloc: Global,
     disk: FileDisk<File>,
     body: &[u8],
-) -> Result<(FileDisk<File>, usize, usize, u64), Fail> {
-    let mut journal = opened(alloc, disk)?;
-    let had = count_in(&mut journal)?;
-    let Ok(size) = u32::try_from(body.len()) else {
-        return Err(Fail::from("a long body"));
-    };
-    journal.room(size)?;
-    journal.append(body)?;
-    let has = count_in(&mut journal)?;
+) -> Result<(FileDisk<File>, Vec<u8>, Vec<u8>, u64), Fail> {
+    let mut journal = begun(alloc, disk)?;
+    let before = read(alloc, &mut journal)?;
+    add(&mut journal, body)?;
+    let behind = read(alloc, &mut journal)?;
     let faults = journal.faults();
-    Ok((journal.close(), had, has, faults))
+    Ok((journal.close(), before, behind, faults))
 }
 
 #[test]
@@ -177,11 +139,14 @@ fn a_journal_in_a_file_has_its_records_again(rt: HostRuntime) -> Result<(), Fail
     clear(&rt, "a-journal")?;
     let alloc = rt.alloc();
     let mut rack = rack_of(&rt);
-    for (round, body) in BODIES.iter().enumerate() {
+    for (had, body, has) in ADDED {
         let disk = rack.take(alloc, "a-journal", 0)?;
-        let (disk, had, has, faults) = add(alloc, disk, body)?;
-        assert_eq!(rt; (had, has, faults), (round, round.saturating_add(1), 0));
+        let (disk, before, behind, faults) = added(alloc, disk, body)?;
         rack.give(0, disk);
+        assert_eq!(rt;
+            (before.as_slice(), behind.as_slice(), faults),
+            (*had, *has, 0)
+        );
     }
     let bytes = fs::read(&rt, "a-journal/shelf-0")?;
     assert_eq!(rt; bytes.as_slice(), THREE);

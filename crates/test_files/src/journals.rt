@@ -1,4 +1,4 @@
-ghost use Rattle.std.specs.Prelude.{◌≡◌, ◌<◌, ◌^◌, false, length, IsTrue, IfOk, OnOk};
+ghost use Rattle.std.specs.Prelude.{◌≡◌, false, IsTrue, IfOk, OnOk};
 ghost use Rattle.disk_trio.specs.Trio.{trio_view};
 ghost use Rattle.page_journal.specs.Settled.{IsSettled, IsSound, is_broken};
 
@@ -67,11 +67,11 @@ impl Take for Reader {
 }
 
 /// The records of a journal, each behind a comma.
-pub fn read<D: Disk>(alloc: Global, journal: &mut Journal<Disks<D>>) -> Result<Vec<u8>, Fail>
+pub fn read<D: Disk>(alloc: Global, journal: &mut Journal<D>) -> Result<Vec<u8>, Fail>
     requires sound { IsSound journal.old }
-    requires settled { IsTrue D.tells → IsSettled trio_view journal.old }
+    requires settled { IsTrue D.tells → IsSettled D.view journal.old }
     ensures sound { OnOk result (IsSound journal.new) }
-    ensures settled { IsTrue D.tells → OnOk result (IsSettled trio_view journal.new) }
+    ensures settled { IsTrue D.tells → OnOk result (IsSettled D.view journal.new) }
     ensures whole { is_broken journal.new ≡ is_broken journal.old }
 {
     let mut reader = Reader::new(alloc);
@@ -95,16 +95,18 @@ pub fn opened<D: Disk + Drop>(alloc: Global, disks: Disks<D>) -> Result<Journal<
 }
 
 /// Adds a record.
-pub fn add<D: Disk>(journal: &mut Journal<Disks<D>>, body: &[u8]) -> Result<(), Fail>
+pub fn add<D: Disk>(journal: &mut Journal<D>, body: &[u8]) -> Result<(), Fail>
     requires sound { IsSound journal.old }
-    requires settled { IsTrue D.tells → IsSettled trio_view journal.old }
+    requires settled { IsTrue D.tells → IsSettled D.view journal.old }
     requires whole { is_broken journal.old ≡ false }
-    requires short { length body.now < 2 ^ 32 }
     ensures sound { OnOk result (IsSound journal.new) }
-    ensures settled { IsTrue D.tells → OnOk result (IsSettled trio_view journal.new) }
+    ensures settled { IsTrue D.tells → OnOk result (IsSettled D.view journal.new) }
     ensures whole { OnOk result (is_broken journal.new ≡ false) }
 {
-    journal.room(body.len() as u32)?;
+    let Ok(size) = u32::try_from(body.len()) else {
+        return Err(Fail::from("a long body"));
+    };
+    journal.room(size)?;
     journal.append(body)?;
     Ok(())
 }

@@ -1,6 +1,7 @@
+use crate::journals::{Reader, read};
 use crate::machine::Machine;
 use file_disk::{ServedDisk, ServedRack};
-use page_journal::{Journal, Take, find_records};
+use page_journal::{Journal, find_records};
 use std::alloc::Global;
 use std::fs;
 use std::test::Fail;
@@ -15,24 +16,13 @@ const JOURNAL: &[u8] = &[
     0,
 ];
 
-// Takes records and looks at none.
-#[derive(Drop)]
-struct Passing;
-
-impl Take for Passing {
-    ghost takes = { λ old place body new. Unit {0} };
-
-    ghost ready = { λ old place. Unit {0} };
-
-    fn body(&mut self, _place: u64, _body: &[u8]) {}
-}
-
 type Served<'m, 'r> = ServedDisk<'m, Machine<'r>>;
 
 // Reads the records as an audit does.
 fn audit(alloc: Global, disk: &mut Served<'_, '_>) -> Result<(), Fail> {
     if let Some(mut records) = find_records(alloc, disk)? {
-        records.for_each(disk, &mut Passing)?;
+        let mut reader = Reader::new(alloc);
+        records.for_each(disk, &mut reader)?;
     }
     Ok(())
 }
@@ -41,7 +31,7 @@ fn audit(alloc: Global, disk: &mut Served<'_, '_>) -> Result<(), Fail> {
 fn open<'m, 'r>(alloc: Global, disk: Served<'m, 'r>) -> Result<Served<'m, 'r>, Fail> {
     match Journal::begin(alloc, disk) {
         Ok(mut journal) => {
-            journal.for_each(&mut Passing)?;
+            let _ = read(alloc, &mut journal)?;
             Ok(journal.close())
         }
         Err((fault, _)) => Err(Fail::from(fault)),
