@@ -59,6 +59,8 @@ fn told_of_text(alloc: Global, word: &str, asked: &str) -> Result<String, AllocE
         "measure" => values::measures_told(alloc, asked),
         "number" => values::number_told(alloc, asked),
         "path" => values::path_told(alloc, asked),
+        "child" => values::child_told(alloc, asked),
+        "expired" => values::expired_told(alloc, asked),
         _ => of_pages(alloc, word, asked),
     }
 }

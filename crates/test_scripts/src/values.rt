@@ -1,7 +1,9 @@
 use crate::read::data;
+use expiry::all_expired;
 use page_names::{Target, parse_target, write_url};
-use script_value::{depth, read_number, size};
+use script_value::{Value, depth, equal, read_number, size};
 use std::alloc::{AllocError, Global};
+use web_cells::Shades;
 use xexpr_page::{RenderFault, render};
 
 /// The page that the last datum of a text is.
@@ -55,4 +57,60 @@ pub fn path_told(alloc: Global, path: &str) -> Result<String, AllocError> {
             String::from_str(alloc, str::from_utf8(url.as_slice()).unwrap_or("no text"))
         }
     }
+}
+
+// Whether a frame below one that binds a cell to this value looks the cell up as it does.
+fn is_seen_below(alloc: Global, value: &Value) -> Result<bool, AllocError> {
+    let mut shades = Shades::root(alloc);
+    shades.shadow(3, value.try_clone(alloc)?)?;
+    let child = shades.child(alloc)?;
+    Ok(match child.lookup(3) {
+        Some(seen) => equal(seen, value),
+        None => false,
+    })
+}
+
+/// Whether the last datum of a text, bound in a frame of web cells, is seen in a frame below it.
+pub fn child_told(alloc: Global, text: &str) -> Result<String, AllocError> {
+    let values = match data(alloc, text.as_bytes())? {
+        Ok(values) => values,
+        Err(fault) => return Ok(fault),
+    };
+    let Some(value) = values.last() else {
+        return String::from_str(alloc, "no datum");
+    };
+    String::from_str(
+        alloc,
+        if is_seen_below(alloc, value)? {
+            "seen"
+        } else {
+            "unseen"
+        },
+    )
+}
+
+// Whether a clock is at or past each of these deadlines, of which it is the first.
+fn are_over(numbers: &[u64]) -> &'static str {
+    match numbers {
+        [clock, deadlines @ ..] => {
+            if all_expired(*clock, deadlines) {
+                "over"
+            } else {
+                "open"
+            }
+        }
+        [] => "no clock",
+    }
+}
+
+/// Whether the first number of a row, as a clock, is at or past each of the others.
+pub fn expired_told(alloc: Global, row: &str) -> Result<String, AllocError> {
+    let mut numbers = Vec::new(alloc);
+    for word in row.split(' ') {
+        match word.parse::<u64>() {
+            Ok(number) => numbers.push(number)?,
+            Err(_) => return String::from_str(alloc, "no number"),
+        }
+    }
+    String::from_str(alloc, are_over(numbers.as_slice()))
 }
