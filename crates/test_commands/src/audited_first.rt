@@ -1,6 +1,6 @@
 //! A server that audits its journals first.
 
-use crate::outside::{Machine, emptied};
+use crate::outside::{Machine, emptied, overwrite};
 use crate::servings::{ALL, Ending, served, told_on};
 use crate::streets::{A_START, AN_ANSWER, Street};
 use std::fs;
@@ -40,18 +40,9 @@ fn what_passes_is_served(rt: HostRuntime) -> Result<(), Fail> {
     emptied(&rt, folder)
 }
 
-// The journal of one page, whose deadline is made the past.
+// The journal of one page, whose deadline, second 3,600, is made the past.
 fn make_late<R: Machine>(rt: &R, path: &str) -> Result<(), Fail> {
-    let mut bytes = fs::read(rt, path)?;
-    let late = 3600_u64.to_le_bytes();
-    for place in 0..bytes.len() {
-        if bytes[place..].starts_with(late.as_slice()) {
-            bytes[place] = 0;
-            bytes[place + 1] = 0;
-        }
-    }
-    fs::write(rt, path, bytes.as_slice())?;
-    Ok(())
+    overwrite(rt, path, &[16, 14, 0, 0, 0, 0, 0, 0], &[0; 8])
 }
 
 #[test]

@@ -1,6 +1,6 @@
 //! Audits of journals in files.
 
-use crate::outside::{FAIR, FULL, Machine, UNREAD, comes_to, emptied, ran};
+use crate::outside::{FAIR, FULL, Machine, UNREAD, comes_to, emptied, overwrite, ran};
 use crate::transcripts::{first_sums, sums_of_two};
 use std::fs;
 use std::test::Fail;
@@ -41,16 +41,12 @@ fn played<R: Machine>(rt: &R, folder: &str, shelves: &str, input: &str) -> Resul
 // What stands in a Let frame that has done the number 3: its part, how many are done, and that.
 const DONE: &[u8] = &[1, 0, 0, 0, 1, 0, 0, 0, 0, 3, 0, 0, 0, 0, 0, 0, 0];
 
+// The same with the number 4.
+const OTHER: &[u8] = &[1, 0, 0, 0, 1, 0, 0, 0, 0, 4, 0, 0, 0, 0, 0, 0, 0];
+
 // Makes the number 3 of the second page of a journal 4.
 fn tampered<R: Machine>(rt: &R, path: &str) -> Result<(), Fail> {
-    let mut bytes = fs::read(rt, path)?;
-    for place in 0..bytes.len() {
-        if bytes[place..].starts_with(DONE) {
-            bytes[place + 9] = 4;
-        }
-    }
-    fs::write(rt, path, bytes.as_slice())?;
-    Ok(())
+    overwrite(rt, path, DONE, OTHER)
 }
 
 #[test]

@@ -1,4 +1,5 @@
 //! An outside in memory, which fails where it is told to, and what a command comes to over it.
+ghost use Rattle.std.specs.Prelude.{◌≡◌, length};
 
 use file_disk::ServedRack;
 use server_command::{NoPast, command};
@@ -136,5 +137,19 @@ pub fn emptied<R: Machine>(rt: &R, folder: &str) -> Result<(), Fail> {
     if fs::exists(rt, folder)? {
         fs::remove_dir_all(rt, folder)?;
     }
+    Ok(())
+}
+
+/// Puts as many other bytes in the place of these, wherever they stand in a file.
+pub fn overwrite<R: Machine>(rt: &R, path: &str, old: &[u8], new: &[u8]) -> Result<(), Fail>
+    requires { length new.now ≡ length old.now }
+{
+    let mut bytes = fs::read(rt, path)?;
+    for place in 0..bytes.len() {
+        if bytes[place..].starts_with(old) {
+            bytes[place..place + old.len()].copy_from_slice(new);
+        }
+    }
+    fs::write(rt, path, bytes.as_slice())?;
     Ok(())
 }
