@@ -7,6 +7,7 @@ use Rattle.web_outside.specs.Limits.{most_of_input}
 use Rattle.web_outside.proofs.Writes.{appends_none}
 use Rattle.web_disk.specs.View.{RackView}
 use Rattle.script_nodes.specs.Setup.{Named}
+use Rattle.disk_trio.proofs.Views.{rose_later}
 use Rattle.command_words.specs.declared.Command.{Command}
 use Rattle.command_words.specs.declared.Command.TheVariants.{Audit, Check, Load, Play, Serve}
 use Rattle.command_words.specs.declared.AuditOptions.{AuditOptions}
@@ -33,7 +34,6 @@ use Rattle.server_command.specs.Telling.{TellsOutcome}
 use Rattle.server_command.proofs.Audits.{hold_yes, stopped_leaves}
 use Rattle.server_command.proofs.Causes.{plain_asks, read_to_end, served_came}
 use Rattle.server_command.proofs.Endings.{no_chances, whole_input}
-use Rattle.server_command.proofs.Openings.{rose_since}
 use Rattle.server_command.proofs.Orders.{outcome_order}
 use Rattle.server_command.proofs.Servings.{input_served, told_left}
 use Rattle.server_command.proofs.Whole.{causes, completes, ends}
@@ -245,7 +245,7 @@ has_cause view a result how code (behind s asked on began passed so) =
       usage = later.usage;
       read = later.read;
       write = later.write;
-      disk = λ e. rose_since a.rack.before.faults (view began).faults a.rack.after.faults passed.1.later (later.disk e);
+      disk = λ e. rose_later a.rack.before.faults (view began).faults a.rack.after.faults passed.1.later (later.disk e);
       door = later.door;
       key = later.key;
     }

@@ -2,7 +2,6 @@
 use Rattle.std.proofs.Common.{◌≡◌, ◌≢◌, ◌<◌, ◌≤◌, ◌+◌, ◌-◌, ◌^◌, ◌++◌, ◌∷◌, ◌∙◌, inl, inr, ℕ, zero, suc, List, [], length, Bool, IsTrue, Option, Some, None, Result, Ok, Err, refl, sym, ap, subst, arith, append-nil, append_assoc}
 use Rattle.std.specs.Prelude.{slice_get, min, OnOk}
 use Rattle.std.specs.Io.KnownBytes.{Appends, Keeps}
-use Rattle.std.proofs.lemmas.List.{length-append}
 use Rattle.std.proofs.lemmas.Option.{same_Some}
 use Rattle.web_outside.specs.Causes.{Rose}
 use Rattle.web_outside.specs.Pieces.{IsCutShort}
@@ -11,6 +10,7 @@ use Rattle.web_disk.specs.View.{RackView}
 use Rattle.web_disk.specs.Takes.{failed_after}
 use Rattle.web_disk.specs.declared.rack.RackFault.{RackFault}
 use Rattle.web_disk.specs.declared.rack.RackFault.TheVariants as rack_fault
+use Rattle.disk_trio.proofs.Views.{rose_later}
 use Rattle.trio_rack.specs.Trios.{shelves_of}
 use Rattle.trio_rack.proofs.Each.{each_more}
 use Rattle.trio_rack.proofs.Homes.{disks_home, shelves_home}
@@ -33,7 +33,7 @@ use Rattle.server_command.specs.declared.program.Status.TheVariants as status
 use Rattle.server_command.specs.Output.{Sinks, Tells, memory_line, sinks}
 use Rattle.server_command.specs.Racks.{Racks, AreBack, ShelfFailed, racks_of}
 use Rattle.server_command.proofs.Endings.{since, tells as tells_line, tells_nothing}
-use Rattle.server_command.proofs.Openings.{failed_since, rose_since, same_or_not}
+use Rattle.server_command.proofs.Openings.{failed_since, same_or_not, one_longer}
 use Rattle.server_command.proofs.Racks.{held_more}
 
 -- ---- one shelf
@@ -117,9 +117,6 @@ passed_none tells rack = (
 yes_more : (images : List (List ℕ)) (image : List ℕ) → AreYes images → IsYes image → AreYes (images ++ image ∷ [])
 yes_more [] image all one = (one, tt)
 yes_more (i ∷ images) image all one = (all.0, yes_more images image all.1 one)
-
-one_longer : (images : List (List ℕ)) (image : List ℕ) (n : ℕ) → length images ≡ n → length (images ++ image ∷ []) ≡ n + 1
-one_longer images image n many = omega (arith, many, length-append images (image ∷ []))
 
 module _ (tells : Bool) (before now after : RackView) where
   -- one more passed, of which this was read
@@ -257,7 +254,7 @@ untold_leaves tells before now after count n records status.Write old mid new fi
   p.images ++ q.answers.image ∷ [],
   passed_more tells before now after p.images n records p.passed p.many q leaves,
   omega (arith, one_longer p.images q.answers.image n p.many, low),
-  rose_since first between last le line.0,
+  rose_later first between last le line.0,
   λ t. inl (subst (IsCutShort old new) (sym (ok_more 0 n records p.images q.answers.image (omega (arith, p.many)) (p.passed.fine t) (q.answers.answered t)))
       (cut_more old mid new (ok_text 0 p.images) (ok_line n records) (p.text t) line.1)),
 )
@@ -284,7 +281,7 @@ whole_leaves rack count how old mid new first between last p kept le (inr is) =
       p.images,
       p.passed,
       omega (arith, p.many),
-      rose_since first between last le is.1,
+      rose_later first between last le is.1,
       λ t. inr (refl, appends_kept old mid new (ok_text 0 p.images) (p.text t) kept),
     )
 

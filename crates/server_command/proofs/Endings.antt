@@ -16,11 +16,11 @@ use Rattle.setup_reader.specs.Faults.{fault_line}
 use Rattle.server_command.specs.declared.program.Status.{Status}
 use Rattle.server_command.specs.declared.program.Status.TheVariants as status
 use Rattle.web_disk.specs.View.{RackView}
+use Rattle.disk_trio.proofs.Views.{rose_later}
 use Rattle.play_desk.specs.declared.opening.OpenCause.TheVariants as cause
 use Rattle.server_command.specs.Racks.{Racks, AtRest, racks_of}
 use Rattle.server_command.specs.Remains.{IsAny, Remains, RemainsUnwritten, unopened}
 use Rattle.server_command.specs.Output.{Chances, Sinks, output_of, counted, told_scripts, ending_of, faulty, sinks, Tells, Answers, BreaksOff, nothing}
-use Rattle.server_command.proofs.Openings.{rose_since}
 use Rattle.server_command.specs.Command.{Counts, Known, Outputs, ReadsInput, StandFor, TakesDisks, TellsFaultLine, with_setup}
 
 -- what was read to its end is the input
@@ -34,7 +34,7 @@ whole_input (Some xs) (Some ys) bytes P read end p =
 pub since : (old new : Option (List ℕ)) (line : List ℕ) (before mid after : ℕ)
     → before ≤ mid → AppendsUnlessFault old new line mid after → AppendsUnlessFault old new line before after
 since old new line before mid after le (inl p) = inl p
-since old new line before mid after le (inr p) = inr (rose_since before mid after le p.0, p.1)
+since old new line before mid after le (inr p) = inr (rose_later before mid after le p.0, p.1)
 
 -- a line that was written behind a text as far as it went
 pub tells : (old mid new : Option (List ℕ)) (text line : List ℕ) (before after : ℕ)
@@ -118,7 +118,7 @@ whole_text rack asked bytes chances s old new before mid after whole le (inl e) 
     )
 whole_text rack asked bytes chances s old new before mid after whole le (inr e) =
     subst (λ x. Outputs rack asked bytes x (sinks old new before after)) (sym e.0)
-    (chances, (rose_since before mid after le e.1, λ settles. (let w = whole settles in (inr (w.status, w.text), w.unwritten))))
+    (chances, (rose_later before mid after le e.1, λ settles. (let w = whole settles in (inr (w.status, w.text), w.unwritten))))
 
 -- a setup that has a fault is all that is told
 pub faulty_output : (asked : Command) → ReadsInput (Some asked) → (bytes : List ℕ) (chances : Chances) (e : Fault) → setup_of (ending_of asked) bytes ≡ Err e
@@ -182,4 +182,4 @@ counts_told scripts text s old mid new before between after is p kept le (inl e)
     subst (λ x. Counts scripts x (sinks old new before after)) (sym e) (refl, tells_nothing old new _ before after grown)
 counts_told scripts text s old mid new before between after is p kept le (inr e) =
     let grown = subst (Appends old new) is (appends_kept old mid new text p kept) in
-    subst (λ x. Counts scripts x (sinks old new before after)) (sym e.0) (rose_since before between after le e.1, inr (refl, grown))
+    subst (λ x. Counts scripts x (sinks old new before after)) (sym e.0) (rose_later before between after le e.1, inr (refl, grown))

@@ -4,10 +4,11 @@ use Rattle.std.specs.Prelude.{min, ◌&&◌}
 use Rattle.std.specs.List.{AllByRecursion}
 use Rattle.std.proofs.lemmas.Bool.{and_parts}
 use Rattle.std.proofs.lemmas.List.{length-append}
-use Rattle.web_outside.specs.Causes.{Rose}
 use Rattle.web_disk.specs.View.{View, RackView, AreAmong}
 use Rattle.trio_rack.specs.Trios.{LeavesAllDisks, shelves_of}
 use Rattle.script_nodes.specs.Setup.{Named}
+use Rattle.disk_trio.proofs.Views.{rose_later}
+use Rattle.trio_rack.proofs.Homes.{below_or_not}
 use Rattle.play_steps.specs.Rules.{StaysUp}
 use Rattle.play_desk.specs.Asking.{AsksForFirst, AsksForNone, AsksForOne, AsksUntil}
 use Rattle.play_desk.specs.Opening.{FailedFor}
@@ -97,15 +98,11 @@ gives_down before after count p = record {
 
 -- ---- what was refused
 
--- the count had not fallen before it rose
-pub rose_since : (before mid after : ℕ) → before ≤ mid → Rose mid after → Rose before after
-rose_since before mid after le rose = omega (arith, le, rose)
-
 -- nor had those of a number, before the calls failed that were made for it
 pub failed_since : (number : ℕ) (before mid after : RackView) → before.faults ≤ mid.faults → StaysUp (shelves_of before).failed (shelves_of mid).failed → FailedFor number mid after
     → FailedFor number before after
 failed_since number before mid after le up failed =
-    let here = up number in let rose = failed.here in record { all = rose_since before.faults mid.faults after.faults le failed.all; here = omega (arith, here, rose) }
+    let here = up number in let rose = failed.here in record { all = rose_later before.faults mid.faults after.faults le failed.all; here = omega (arith, here, rose) }
 
 -- no disk that holds something was looked at
 pub untaken_refused : (told : Type 0) (risen : ℕ → Type 0) (scripts : List Named) (images : List (List ℕ)) (shelf : ℕ) (why : OpenCause)
@@ -116,12 +113,6 @@ untaken_refused told risen scripts images shelf (cause.Damaged place) h = absurd
 untaken_refused told risen scripts images shelf (cause.Other place) h = absurd h
 untaken_refused told risen scripts images shelf (cause.Full length) h = absurd h
 untaken_refused told risen scripts images shelf cause.Memory h = tt
-
-below_or_not : (k n : ℕ) → (k < n) ⊎ (n ≤ k)
-below_or_not zero zero = inr (omega arith)
-below_or_not zero (suc n) = inl (omega arith)
-below_or_not (suc k) zero = inr (omega arith)
-below_or_not (suc k) (suc n) = elim (below_or_not k n) [ inl h ↦ inl (omega arith) | inr h ↦ inr (omega arith) ]
 
 -- disks that were taken came home
 pub all_home : (told : Type 0) (before mid after : RackView) (count : ℕ) (images : List (List ℕ)) → HasTaken told before mid count images → TakesBack mid after 0 count
@@ -150,7 +141,7 @@ pub record TakesUpTo (told : Type 0) (before now : RackView) (number : ℕ) (ima
   pub above : (n : ℕ) → number ≤ n → AreAmong ((shelves_of now).holds n) ((shelves_of before).holds n)
   pub home : (n : ℕ) → number ≤ n → (shelves_of now).out n ≡ (shelves_of before).out n
 
-one_longer : (xs : List (List ℕ)) (image : List ℕ) (n : ℕ) → length xs ≡ n → length (xs ++ image ∷ []) ≡ n + 1
+pub one_longer : (xs : List (List ℕ)) (image : List ℕ) (n : ℕ) → length xs ≡ n → length (xs ++ image ∷ []) ≡ n + 1
 one_longer xs image n e = omega (arith, e, length-append xs (image ∷ []))
 
 pub takes_none : (told : Type 0) (before : RackView) → TakesUpTo told before before 0 []
@@ -206,15 +197,6 @@ seen_size view (d ∷ front) = ap suc (seen_size view front)
 pub all_more : {A : Type 0} (K : A → Type 0) (xs : List A) (x : A) → AllByRecursion K xs → K x → AllByRecursion K (xs ++ x ∷ [])
 all_more K [] x all new = (new, tt)
 all_more K (y ∷ xs) x all new = (all.0, all_more K xs x all.1 new)
-
--- disks that were taken came home, where one of them was not taken
-pub some_home : (told : Type 0) (before mid after last : RackView) (count : ℕ) (images : List (List ℕ)) → TakesUpTo told before mid count images
-    → KeepsHome mid after → TakesBack after last 0 count → KeepsHome before last
-some_home told before mid after last count images p same back k home =
-    elim (below_or_not k count) [
-      | inl below ↦ back.back k (omega arith) (omega (arith, below))
-      | inr above ↦ back.home k (same k (p.home k above ∙ home))
-    ]
 
 -- both the rack and its disks tell
 pub both_tell : (a b : Bool) → IsTrue (a && b) → IsTrue a × IsTrue b

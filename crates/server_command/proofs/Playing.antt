@@ -538,9 +538,6 @@ pub record HoldsSome (rack : Racks) (o : Options) (shelf : ℕ) : Type 0 where
   pub bytes : List ℕ
   pub held : held_anew rack.before shelf (byte ∷ bytes)
 
-some_chances : (rack : Racks) (o : Options) (shelf : ℕ) → HoldsSome rack o shelf → Chances
-some_chances rack o shelf p = record { disks = replicate shelf [] ++ (p.byte ∷ p.bytes) ∷ []; fates = [] }
-
 pub some_unfit : (n k : ℕ) (b : ℕ) (bs : List ℕ) (m : ℕ) → k + n ≡ m → first_unfit unfit_new k (replicate n [] ++ (b ∷ bs) ∷ []) ≡ Some (m, not_empty)
 some_unfit zero k b bs m is = let same : k ≡ m = omega (arith, is) in ap (λ j. Some (j, not_empty)) same
 some_unfit (suc n) k b bs m is = some_unfit n (k + 1) b bs m (omega (arith, is))

@@ -2,7 +2,7 @@
 use Rattle.std.proofs.Common.{◌≡◌, ◌≤◌, ◌<◌, ◌^◌, ◌∙◌, ◌+◌, ◌%◌, ◌==◌, ◌++◌, ◌∷◌, ℕ, zero, suc, List, [], length, map, Bool, true, false, Option, Some, None, Result, Ok, Err, refl, sym, ap, subst, ⊎_elim, arith, slice_get}
 use Rattle.std.specs.Prelude.{⊤, slice_set, nat_lt, nat_le, if◌then◌else◌}
 use Rattle.std.proofs.lemmas.Bool.{ltb-false}
-use Rattle.std.proofs.lemmas.List.{length-append, length-set}
+use Rattle.std.proofs.lemmas.List.{length-set}
 use Rattle.page_names.specs.Names.{Destination, destination_of}
 use Rattle.script_nodes.specs.Setup.{Named}
 use Rattle.replay_spec.specs.Admission.{Admission, begins, resumes, refused, admit, or_else, when}
@@ -37,6 +37,7 @@ use Rattle.play_desk.specs.Desk.{Desk, counting, crash_on, crashed_by, desk_cras
 use Rattle.play_desk.specs.Opening.{IsLeft}
 use Rattle.play_desk.specs.Target.{answer_to, path_and_query, shelf_for}
 use Rattle.trio_rack.proofs.Each.{each_more}
+use Rattle.play_desk.proofs.Held.{count_first}
 
 -- the record of what is decided has room in the journal
 abbrev Fits : Rules → Book → Decision → Type 0
@@ -522,17 +523,11 @@ first_are rules scripts (suc n) k s e =
     each_more (λ j (x : Shelf). (x.book.scripts ≡ scripts) × (x.book.down ≡ None)) (first_shelves rules scripts n) (empty_shelf (rules n) scripts n)
     (λ j x f. first_are rules scripts n j x f) (refl, refl) k s e
 
-so_many : (rules : ℕ → Rules) (scripts : List Named) (n : ℕ) → length (first_shelves rules scripts n) ≡ n
-so_many rules scripts zero = refl
-so_many rules scripts (suc n) =
-    let rest = so_many rules scripts n in
-    omega (arith, rest, length-append (first_shelves rules scripts n) (empty_shelf (rules n) scripts n ∷ []))
-
 -- the desk that a run begins with has room, where no journal is too long
 pub first_roomy : (rules : ℕ → Rules) (scripts : List Named) (count : ℕ) (d : Desk) → d ≡ first_desk rules scripts count
     → ((k : ℕ) (s : Shelf) → slice_get d.shelves k ≡ Some s → s.book.length ≤ 2 ^ 30) → IsRoomy scripts count d
 first_roomy rules scripts count d is short = record {
-  many = ap (λ (x : Desk). length x.shelves) is ∙ so_many rules scripts count;
+  many = ap (λ (x : Desk). length x.shelves) is ∙ count_first rules scripts count;
   setup = ap (λ (x : Desk). x.scripts) is;
   shelves = λ k s e.
       let are = first_are rules scripts count k s (ap (λ (x : Desk). slice_get x.shelves k) (sym is) ∙ e) in

@@ -1,12 +1,11 @@
 -- What a serving came to, by what its calls say.
-use Rattle.std.proofs.Common.{◌≡◌, ◌≢◌, ◌∙◌, [], inl, inr, ap, subst, sym, ℕ, List, length, Option, Some, None, IfSome, IsTrue, Result, Ok, refl, arith, codes}
+use Rattle.std.proofs.Common.{◌≡◌, ◌≢◌, ◌∙◌, [], inl, inr, ap, subst, sym, ℕ, List, length, Some, None, IfSome, IsTrue, Result, Ok, refl, arith, codes}
 use Rattle.std.specs.Prelude.{Err, IsErrOf, slice_get, sum_by}
 use Rattle.std.proofs.lemmas.Option.{same_Some, slice_get_within}
 use Rattle.trio_rack.specs.Trios.{shelves_of}
 use Rattle.lock_row.proofs.Places.{get_there}
 use Rattle.play_steps.specs.Played.{RoseBy}
 use Rattle.web_disk.specs.View.{RackView, AreAmong}
-use Rattle.web_outside.specs.Pieces.{AppendsUnlessFault}
 use Rattle.web_outside.proofs.Writes.{appends_none}
 use Rattle.script_nodes.specs.Setup.{Named}
 use Rattle.command_words.specs.declared.Service.{Service}
@@ -33,7 +32,7 @@ use Rattle.play_desk.specs.declared.opening.OpenCause.TheVariants as cause
 use Rattle.play_desk.specs.declared.opening.OpenFault.{OpenFault}
 use Rattle.server_command.specs.Command.{TellsFaultLine, TellsNoSetup}
 use Rattle.server_command.specs.Opening.{FailsAt, IsRefused, LeavesFrom, OpensOn, RefusesInOrder, RefusesOn}
-use Rattle.server_command.specs.Output.{Answers, Chances, PrintsTo, Sinks, rules_for, served, sinks}
+use Rattle.server_command.specs.Output.{Answers, Chances, PrintsTo, Sinks, rules_for, served}
 use Rattle.server_command.specs.Telling.{TellsOutcome, TellsUnopened, told, untold}
 use Rattle.play_desk.specs.Asking.{AsksForFirst}
 use Rattle.play_desk.specs.Opening.{IsKept}
@@ -186,11 +185,6 @@ refuses_of o s scripts f none p = (none, by_why f.why p.refused p.in_order p.kep
     by_why (cause.Other place) h order kept = shuts (cause.Other place) (other place) h order kept (λ e. let no : ⊥ = cc e in no)
     by_why (cause.Full length) h order kept = shuts (cause.Full length) (full length) h order kept (λ e. let no : ⊥ = cc e in no)
     by_why cause.Memory h order kept = λ t. all_kept cause.Memory t kept (λ e. let no : ⊥ = cc e in no)
-
--- the line of a setup's fault
-pub tells_fault_line : (line : List ℕ) (e : Fault) (old new : Option (List ℕ)) (before after : ℕ) → line ≡ fault_line e → AppendsUnlessFault old new line before after
-    → TellsFaultLine e status.Setup (sinks old new before after)
-tells_fault_line line e old new before after same p = subst (λ l. AppendsUnlessFault old new l before after) same p
 
 -- a fault of a setup is all that is told
 pub fault_left : (serves : Serves) (v : Service) (bytes : List ℕ) (fault : Fault) (s : Status) (out : Sinks) (door seeds : Faults) → setup_of Input bytes ≡ Err fault

@@ -1,16 +1,11 @@
 -- The scripts of a setup are such as the first record of a journal tells.
 use Rattle.std.proofs.Common.{◌≤◌, List, [], ◌∷◌, ℕ, length, arith}
-use Rattle.std.specs.List.{AllByRecursion}
 use Rattle.script_nodes.specs.Setup.{Named}
-use Rattle.journal_records.specs.Fields.{ScriptFits}
 use Rattle.journal_records.specs.Records.{texts_of}
 use Rattle.server_limits.specs.Limits.{most_shelves}
 use Rattle.setup_reader.specs.Limits.{AreShort, most_scripts}
+use Rattle.play_desk.proofs.Firsts.{texts_fit}
 use Rattle.server_command.specs.Opening.{CanBegin}
-
-texts_fit : (scripts : List Named) → AreShort scripts → AllByRecursion ScriptFits (texts_of scripts)
-texts_fit [] short = tt
-texts_fit (s ∷ scripts) short = ((omega (arith, short.0), omega (arith, short.1)), texts_fit scripts short.2)
 
 as_many : (scripts : List Named) → length (texts_of scripts) ≤ length scripts
 as_many [] = omega arith

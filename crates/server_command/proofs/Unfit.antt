@@ -7,7 +7,7 @@ use Rattle.std.proofs.lemmas.List.{length-append, length-drop, length-take}
 use Rattle.setup_reader.specs.Texts.{setup_of_texts}
 use Rattle.script_nodes.specs.Setup.{Named}
 use Rattle.page_journal.specs.Records as log
-use Rattle.page_journal.specs.Records.{Log, at_rest, behind, bodies_of, format_of, framed, frames, is_format, magic, newest, records, records_behind, records_from, stored, with_first}
+use Rattle.page_journal.specs.Records.{Log, at_rest, bodies_of, format_of, framed, frames, newest, records, records_from, stored, with_first}
 use Rattle.page_journal.proofs.Frames.{length-at_rest, length-framed}
 use Rattle.replay_spec.specs.Book.{Book}
 use Rattle.page_audit.specs.JournalSpec.Before.{Made}
@@ -18,6 +18,7 @@ use Rattle.page_audit.specs.JournalSpec.Opening.{opened_on}
 use Rattle.page_audit.specs.JournalSpec.Standing.{IsMadeBook}
 use Rattle.site_serving.specs.Shelves.{IsTooLongAnew, bodies_by, making_by}
 use Rattle.site_serving.specs.Shelves.{IsTooLongBehind, bodies_after, now_by_log, now_in_bytes}
+use Rattle.play_desk.proofs.Short.{stored_short}
 use Rattle.server_command.specs.Racks.{Unfit, full, unfit_file, unfit_left, unfit_length, unfit_made, unfit_read}
 
 -- ---- lengths
@@ -88,23 +89,6 @@ ends (suc fuel) place (gate ∷ rest) bodies low is =
     by_gate go_on false is = let same : [] ≡ bodies = ap bodies_of is in subst (λ (bs : List (List ℕ)). place + length (frames bs) + 1 ≤ 2 ^ 30) same (omega (arith, low))
     by_gate go_on true is = by_room go_on fits refl is
 
-intact_ends : (o : Option (List ℕ)) (bodies : List (List ℕ)) → records_behind o ≡ log.Intact bodies → length (at_rest bodies) ≤ 2 ^ 30
-intact_ends None bodies is = absurd (let no : ⊥ = cc is in no)
-intact_ends (Some []) bodies is = absurd (let no : ⊥ = cc is in no)
-intact_ends (Some (f ∷ rest)) bodies is = by_format (is_format f) is
-  where
-    by_format : (t : Bool) → (if t then records_from (suc (length rest)) 8 rest else log.Damaged 0) ≡ log.Intact bodies → length (at_rest bodies) ≤ 2 ^ 30
-    by_format false is = absurd (let no : ⊥ = cc is in no)
-    by_format true is = let low = ends (suc (length rest)) 8 rest bodies (omega arith) is in omega (arith, low, length-at_rest bodies)
-
--- the records that stand in bytes are no longer than a journal may be
-stored_ends : (bytes : List ℕ) → length (at_rest (stored bytes)) ≤ 2 ^ 30
-stored_ends bytes = by_log_of (records bytes) refl
-  where
-    by_log_of : (l : Log) → records bytes ≡ l → length (at_rest (bodies_of l)) ≤ 2 ^ 30
-    by_log_of (log.Damaged place) is = omega (arith, length-at_rest [])
-    by_log_of (log.Intact bodies) is = intact_ends (behind magic bytes) bodies is
-
 -- ---- what is read, and what an opening goes on with
 
 -- where what is read makes no book, an opening goes on with nothing else
@@ -150,8 +134,8 @@ read_bodies shelf (b ∷ bytes) x none is = by_newest (f == newest)
     ]
 
     by_newest : (t : Bool) → length (at_rest (if t then kept else bodies_by f shelf kept (made_in (book_of_format f setup_of_texts shelf kept)))) ≤ 2 ^ 30
-    by_newest true = stored_ends (b ∷ bytes)
-    by_newest false = subst (λ (bs : List (List ℕ)). length (at_rest bs) ≤ 2 ^ 30) (sym older) (stored_ends (b ∷ bytes))
+    by_newest true = stored_short (b ∷ bytes)
+    by_newest false = subst (λ (bs : List (List ℕ)). length (at_rest bs) ≤ 2 ^ 30) (sym older) (stored_short (b ∷ bytes))
 
 -- ---- why a shelf is not opened, if so
 

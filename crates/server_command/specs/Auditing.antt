@@ -51,6 +51,7 @@ abbrev pub ok_text_by : (shelf : ℕ) → Answer → (later : List ℕ) → List
 ok_text_by shelf (yes n) later = ok_line shelf n ++ later
 ok_text_by shelf _ later = []
 
+-- The lines of the shelves from this number on, up to the first of them to which an audit does not say yes.
 abbrev pub ok_text : (shelf : ℕ) → List (List ℕ) → List ℕ
 ok_text shelf [] = []
 ok_text shelf (image ∷ images) = ok_text_by shelf (audit_of image) (ok_text (shelf + 1) images)

@@ -60,6 +60,7 @@ abbrev pub asked_unless : List ErrorKind → Option Command → Option Command
 asked_unless [] asked = asked
 asked_unless (fault ∷ faults) asked = None
 
+-- The command that these words ask for, if they ask for one.
 abbrev pub asked_in : List (List ℕ) → Option Command
 asked_in words = asked_unless (fault_of app words) (asked_from (subcommand_of app words))
 
@@ -117,6 +118,7 @@ pub record Around (D P L N : Type 0) : Type 1 where
   pub seeds : Both (SeedsView N)
   pub past : Pasts
 
+-- What a call of the command met, by what it was lent before and after.
 abbrev pub around : {D P L N : Type 0} → (words : List (List ℕ)) → Views D P L N → (input : Both SourceView) → (output : Both SinkView) → Racks
     → (door : Both (DoorView P L)) → (seeds : Both (SeedsView N)) → Pasts → Around D P L N
 around words views input output rack door seeds past = record {
@@ -184,6 +186,7 @@ abbrev pub with_setup : Command → Result Parsed Fault → Option (Command × P
 with_setup asked (Err e) = None
 with_setup asked (Ok setup) = Some (asked, setup)
 
+-- What these words ask for, with the setup of this input; none where either has a fault, or the input is too long.
 abbrev pub reached_by : Option Command → List ℕ → Option (Command × Parsed)
 reached_by None bytes = None
 reached_by (Some asked) bytes =
@@ -318,6 +321,7 @@ abbrev pub due_to : Option Command → List ℕ → Chances → ℕ
 due_to None bytes chances = 2
 due_to (Some asked) bytes chances = if nat_le (length bytes) most_of_input then (output_of asked bytes chances).status else 11
 
+-- The status that is due to these words and this input under these chances.
 abbrev pub due : (words : List (List ℕ)) → List ℕ → Chances → ℕ
 due words bytes chances = due_to (asked_in words) bytes chances
 
@@ -395,6 +399,7 @@ pub record IsLawful (asked : Command) (bytes : List ℕ) : Type 0 where
 abbrev pub AreFit : (ℕ → List ℕ → Option Unfit) → (ℕ → List ℕ → Type 0) → Type 0
 AreFit unfit holds = (shelf : ℕ) (image : List ℕ) → holds shelf image → unfit shelf image ≡ None
 
+-- The journals on the rack are such that the command opens each of its shelves with these scripts; of an audit this is never said.
 abbrev pub JournalsOpen : Command → List Named → Racks → Type 0
 JournalsOpen Check scripts rack = ⊤
 JournalsOpen (Play o) scripts rack = IsTrue rack.tells × AreFit unfit_new (held_anew rack.before)

@@ -20,6 +20,7 @@ pub record Both (T : Type 0) : Type 0 where
   pub before : T
   pub after : T
 
+-- What a thing was before a call and is after it.
 abbrev pub both : {T : Type 0} → (before after : T) → Both T
 both before after = record { before = before; after = after }
 
@@ -36,6 +37,7 @@ pub record Asks : Type 1 where
   pub drawn : (count : ℕ) → Type 0
   pub shut : Type 0
 
+-- What was asked of this door and of these seeds, and kept in this past.
 abbrev pub asks_of : {P L N : Type 0} → Both (DoorView P L) → Both (SeedsView N) → Pasts → Asks
 asks_of door seeds past = record {
   undrawn = seeds.after ≡ seeds.before;

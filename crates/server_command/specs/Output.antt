@@ -51,6 +51,7 @@ faulty e = record { text = []; error = fault_line e; status = 3 }
 abbrev pub told_scripts : List Named → Output
 told_scripts scripts = record { text = codes "ok " ++ (decimal (length scripts) ++ 10 ∷ []); error = []; status = 0 }
 
+-- What `check` writes: how many scripts the setup has, or its fault.
 abbrev pub counted : Result Parsed Fault → Output
 counted (Err e) = faulty e
 counted (Ok setup) = told_scripts setup.scripts
@@ -80,17 +81,21 @@ pub record Chances : Type 0 where
 abbrev pub shut : (shelf : ℕ) → Unfit → Output
 shut shelf why = record { text = []; error = unfit_line shelf why; status = 8 }
 
+-- This output; or, where a shelf can't be opened, what is written of that shelf.
 abbrev pub unless_shut : Option (ℕ × Unfit) → Output → Output
 unless_shut None output = output
 unless_shut (Some found) output = shut found.0 found.1
 
+-- What `play` writes for this text and this end of its run.
 abbrev pub ended : List ℕ → End → Output
 ended text done = record { text = text; error = []; status = 0 }
 ended text (bad_line n) = record { text = text; error = step_line n; status = 4 }
 
+-- What `play` writes for this run.
 abbrev pub finished : Run desk_rules → Output
 finished run = ended (text_of run) run.end
 
+-- What `play` writes for this setup and these chances.
 abbrev pub played : Options → Result Parsed Fault → Chances → Output
 played o (Err e) chances = faulty e
 played o (Ok setup) chances =
@@ -120,6 +125,7 @@ ending_of (Serve s) = Input
 ending_of (Load l) = Input
 ending_of (Audit o) = Input
 
+-- What a command writes for this setup and these chances.
 abbrev pub written : Command → Result Parsed Fault → Chances → Output
 written Check setup chances = counted setup
 written (Play o) setup chances = played o setup chances
@@ -138,6 +144,7 @@ pub record Sinks : Type 0 where
   pub before : ℕ
   pub after : ℕ
 
+-- A sink that held this and holds that, with its counts of faults.
 abbrev pub sinks : (held holds : Option (List ℕ)) (before after : ℕ) → Sinks
 sinks held holds before after = record { held = held; holds = holds; before = before; after = after }
 
@@ -145,7 +152,7 @@ sinks held holds before after = record { held = held; holds = holds; before = be
 abbrev pub sinks_of : (old new : SinkView) → Sinks
 sinks_of old new = sinks old.written new.written old.faults new.faults
 
--- where all was done, all that was written was handed on
+-- Where a command did all, all that it wrote was handed on.
 abbrev pub HandsOnIfDone : Status → SinkView → Type 0
 HandsOnIfDone s sink = s ≡ status.Done → HandsOn sink.written sink.handed
 

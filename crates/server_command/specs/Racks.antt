@@ -25,6 +25,7 @@ pub record Racks : Type 1 where
   pub before : RackView
   pub after : RackView
 
+-- A rack as it was before a call and as it is after it.
 abbrev pub racks_of : (tells : Bool) → (before after : RackView) → Racks
 racks_of tells before after = record { tells = tells; before = before; after = after }
 
@@ -153,6 +154,7 @@ FailsInOrder scripts before after count images shelf =
 
 -- ---- the lines
 
+-- The words of an error line that say why a shelf can't be opened.
 abbrev pub unfit_word : Unfit → List ℕ
 unfit_word not_empty = codes "0 not-empty\n"
 unfit_word (damaged place) = decimal place ++ codes " damaged\n"

@@ -47,6 +47,7 @@ count_line c =
     if c.dropped == 0 then codes "pages " ++ (decimal c.pages ++ (codes " refused " ++ (decimal c.refused ++ 10 ∷ [])))
     else codes "pages " ++ (decimal c.pages ++ (codes " refused " ++ (decimal c.refused ++ (codes " dropped " ++ (decimal c.dropped ++ 10 ∷ [])))))
 
+-- What `serve` writes of what its workers counted.
 abbrev pub told_count : Count → Output
 told_count c = record { text = count_line c; error = []; status = 0 }
 
@@ -72,6 +73,7 @@ pub record Outside (D P L N : Type 0) : Type 1 where
   pub seeds : SeedsView N
   pub past : Pasts
 
+-- What a serving met outside, by these views.
 abbrev pub outside : {D P L N : Type 0} → Views D P L N → Racks → (before after : DoorView P L) → (seeds : SeedsView N) → Pasts → Outside D P L N
 outside views rack before after seeds past =
     record { views = views; rack = rack; before = before; after = after; seeds = seeds; past = past }
@@ -156,6 +158,7 @@ pub record Serves : Type 1 where
   pub fails : Service → List Named → List (List ℕ) → Count → Type 0
   pub unopened : Type 0
 
+-- What a serving may come to over this outside.
 abbrev pub serves_over : {D P L N : Type 0} → Outside D P L N → Serves
 serves_over o = record {
   rack = o.rack;
@@ -195,9 +198,11 @@ pub record Faults : Type 0 where
   pub before : ℕ
   pub after : ℕ
 
+-- A count of faults before a call and after it.
 abbrev pub faults_of : (before after : ℕ) → Faults
 faults_of before after = record { before = before; after = after }
 
+-- The count of faults rose.
 abbrev pub HaveRisen : Faults → Type 0
 HaveRisen f = Rose f.before f.after
 
