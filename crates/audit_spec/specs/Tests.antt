@@ -81,7 +81,7 @@ abbrev pub last_visit : Book → (number : ℕ) → (answer : Val) → Place →
 last_visit b number answer at =
     page_visit b (record { target = start at.instance.script.name; answer = answer; number = number; nonce = 0 }) at
 
--- what the segment of such a record comes to over the present cells, with the most fuel that a shelf may have
+-- what the segment of a last page's record comes to over the present cells, with the most fuel that a shelf may have
 abbrev pub last_segment : Book → (number : ℕ) → (answer : Val) → Place → Segment
 last_segment b number answer at = comes_to (last_visit b number answer at) (present at.instance.cells most_fuel)
 

@@ -20,6 +20,7 @@ use Rattle.journal_spec.specs.Making.{Texts}
 use Rattle.audit_spec.specs.declared.word.Word.TheVariants as word
 use Rattle.audit_spec.specs.Findings.{yes, no, is_damaged, audited}
 
+-- an expression that shows a page of these words and waits
 abbrev shows_page : List ℕ → Core
 shows_page words = send Suspend (lit (text words))
 
@@ -31,7 +32,7 @@ asking = record {
   script = record { web = []; cells = []; tasks = no_cores; body = seq (cores_of (shows_page (codes "one") ∷ shows_page (codes "two") ∷ [])) };
 }
 
--- in these rows all names and texts are read as that script
+-- in these rows all names and texts are read as the script that asks twice
 abbrev pub texts : Texts
 texts named = Some (asking ∷ [])
 
@@ -39,6 +40,7 @@ texts named = Some (asking ∷ [])
 abbrev pub begin_asking : List ℕ
 begin_asking = body_of (begin_of 3 (asking ∷ []))
 
+-- the body of a tick's record
 abbrev sweep_to : ℕ → List ℕ
 sweep_to tick = body_of (changes (sweeps tick) None)
 
@@ -48,6 +50,7 @@ sweep_to tick = body_of (changes (sweeps tick) None)
 nothing_there : audited 6 texts [] ≡ yes 0
 nothing_there = refl
 
+-- the first record alone, of the shelf that it names, is counted as one
 begun_alone : audited 6 texts (begin_asking ∷ []) ≡ yes 1
 unfolding read_record_in
 begun_alone = refl
@@ -57,24 +60,27 @@ a_sweep : audited 6 texts (begin_asking ∷ body_of (draws 3) ∷ sweep_to 50 �
 unfolding read_record_in
 a_sweep = refl
 
+-- a sweep to the clock is found at fault
 sweep_at_the_clock : audited 6 texts (begin_asking ∷ sweep_to 50 ∷ sweep_to 50 ∷ []) ≡ no (record { place = 125; word = word.Sweep })
 unfolding read_record_in
 sweep_at_the_clock = refl
 
+-- a sweep to a time before the clock is found at fault
 sweep_below_the_clock : audited 6 texts (begin_asking ∷ sweep_to 50 ∷ sweep_to 49 ∷ []) ≡ no (record { place = 125; word = word.Sweep })
 unfolding read_record_in
 sweep_below_the_clock = refl
 
--- the first finding is told
+-- of two findings in a journal the first is told
 first_of_two : audited 6 texts (begin_asking ∷ sweep_to 0 ∷ sweep_to 0 ∷ []) ≡ no (record { place = 111; word = word.Sweep })
 unfolding read_record_in
 first_of_two = refl
 
--- damage anywhere comes before it
+-- damage anywhere in a journal is told before any other finding
 damage_behind : audited 6 texts (begin_asking ∷ sweep_to 0 ∷ (6 ∷ []) ∷ []) ≡ is_damaged 125
 unfolding read_record_in
 damage_behind = refl
 
+-- a file whose first record is a tick's is damaged there
 no_begin : audited 6 texts (sweep_to 50 ∷ []) ≡ is_damaged 8
 unfolding read_record_in
 no_begin = refl
@@ -85,10 +91,11 @@ no_begin = refl
 abbrev pub first : Opening
 first = record { number = 0; nonce = 5; script = 0; effects = []; left = []; kind = Suspend; deadline = 3600; evicted = [] }
 
--- the states of the two pages
+-- the state of the first page
 abbrev pub first_state : Suspended
 first_state = record { env = []; frames = in_seq 0 0 ∷ []; shadows = [] }
 
+-- the state of the second page
 abbrev pub second_state : Suspended
 second_state = record { env = []; frames = in_seq 0 1 ∷ []; shadows = [] }
 
@@ -96,34 +103,35 @@ second_state = record { env = []; frames = in_seq 0 1 ∷ []; shadows = [] }
 abbrev pub start_with : Opening → Suspended → List ℕ
 start_with o d = body_of (changes (opens o) (Some (form_bytes None d)))
 
--- it forwards
+-- a start that was forwarded, where the script suspends, was not written by its visit
 another_kind : audited 6 texts (begin_asking ∷ start_with (record first { kind = Forward }) first_state ∷ []) ≡ no (record { place = 111; word = word.Run })
 unfolding read_record_in read_within is_utf8 chars encode
 another_kind = refl
 
--- it leaves a transaction
+-- a start that left a transaction, where the script enters none, was not written by its visit
 something_left :
     audited 6 texts (begin_asking ∷ start_with (record first { left = record { ticket = 0; entry = 0 } ∷ [] }) first_state ∷ [])
     ≡ no (record { place = 111; word = word.Run })
 unfolding read_record_in read_within is_utf8 chars encode name_bytes
 something_left = refl
 
--- no page is there that could go for it
+-- a start for which a page went, where none stands, was not written by its visit
 one_goes : audited 6 texts (begin_asking ∷ start_with (record first { evicted = 0 ∷ [] }) first_state ∷ []) ≡ no (record { place = 111; word = word.Evicted })
 unfolding read_record_in read_within is_utf8 chars encode
 one_goes = refl
 
--- its deadline is at the clock, or one second farther above it than a life reaches
+-- the deadline of a page is no life of a page away, where it is at the clock or farther above it than a life reaches
 no_life : audited 6 texts (begin_asking ∷ sweep_to 3600 ∷ start_with first first_state ∷ []) ≡ no (record { place = 125; word = word.Deadline })
 unfolding read_record_in read_within is_utf8 chars encode
 no_life = refl
 
+-- the deadline of a page is farther away than a life may be
 too_long_a_life :
     audited 6 texts (begin_asking ∷ start_with (record first { deadline = 2147483649 }) first_state ∷ []) ≡ no (record { place = 111; word = word.Deadline })
 unfolding read_record_in read_within is_utf8 chars encode
 too_long_a_life = refl
 
--- of several words the first is told
+-- where a record has several faults, the first word in the order of the tests is told
 several : audited 6 texts (begin_asking ∷ start_with (record first { kind = Forward; deadline = 0; evicted = 7 ∷ [] }) second_state ∷ []) ≡ no (record { place = 111; word = word.Run })
 unfolding read_record_in read_within is_utf8 chars encode
 several = refl
@@ -142,9 +150,11 @@ abbrev page_of_1 : (number : ℕ) → Origin → SendKind → (deadline : ℕ) �
 page_of_1 n origin kind deadline =
     2 ∷ (u64_bytes n ++ (u64_bytes 5 ++ (origin_bytes origin ++ (effects_bytes [] ++ (names_bytes [] ++ (send_byte kind ∷ [] ++ u64_bytes deadline))))))
 
+-- the body of a start in format 1, with this deadline
 abbrev start_of_1 : (deadline : ℕ) → List ℕ
 start_of_1 deadline = page_of_1 0 (start 0) Suspend deadline
 
+-- the body of an answer to a page in format 1
 abbrev answer_of_1 : (number page : ℕ) → List ℕ
 answer_of_1 n page = page_of_1 n (answered 0 page (list no_vals)) Suspend 3600
 
@@ -153,12 +163,12 @@ abbrev ending : (number page : ℕ) → (answer : Val) → List Effect → List 
 ending n page answer effects =
     body_of (changes (ends (record { number = n; instance = 0; page = page; answer = answer; effects = effects; left = [] })) None)
 
--- both pages, and the last one
+-- a journal of both pages and the last one passes
 all_of_it : audited 1 texts (begin_asking ∷ start_of_1 3600 ∷ answer_of_1 2 0 ∷ ending 1 2 (text (codes "bye")) [] ∷ []) ≡ yes 4
 unfolding read_record_in read_within is_utf8 chars encode
 all_of_it = refl
 
--- the first page twice
+-- a journal in which the first page was answered twice passes
 twice : audited 1 texts (begin_asking ∷ start_of_1 3600 ∷ answer_of_1 2 0 ∷ answer_of_1 1 0 ∷ []) ≡ yes 4
 unfolding read_record_in read_within is_utf8 chars encode
 twice = refl
@@ -186,19 +196,19 @@ no_end : audited 1 texts (begin_asking ∷ start_of_1 3600 ∷ ending 1 0 (text 
 unfolding read_record_in read_within is_utf8 chars encode
 no_end = refl
 
--- what is answered to its second page is no page to end with
+-- an answer to the second page that is no page cannot end the script
 no_last_page : audited 1 texts (begin_asking ∷ start_of_1 3600 ∷ answer_of_1 2 0 ∷ ending 1 2 (list no_vals) [] ∷ []) ≡ no (record { place = 218; word = word.Run })
 unfolding read_record_in read_within is_utf8 chars encode
 no_last_page = refl
 
--- it reads no cell
+-- a last page that tells a read, where the script reads no cell, was not written by its visit
 nothing_read :
     audited 1 texts (begin_asking ∷ start_of_1 3600 ∷ answer_of_1 2 0 ∷ ending 1 2 (text (codes "bye")) (read 0 (text []) ∷ []) ∷ [])
     ≡ no (record { place = 218; word = word.Run })
 unfolding read_record_in read_within is_utf8 chars encode
 nothing_read = refl
 
--- it ends, and does not finish
+-- a record that frees the instance, where the script ends without doing so, was not written by its visit
 no_finish :
     audited 1 texts
     (begin_asking ∷ start_of_1 3600 ∷ answer_of_1 2 0

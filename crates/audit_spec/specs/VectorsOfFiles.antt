@@ -19,17 +19,18 @@ use Rattle.journal_spec.specs.Making.{Texts}
 use Rattle.audit_spec.specs.declared.word.Word.TheVariants as word
 use Rattle.audit_spec.specs.Findings.{yes, no, audited}
 
+-- a literal of this symbol
 abbrev sym : List ℕ → Core
 sym s = lit (symbol s)
 
--- the number that is answered to a page with one link
+-- an expression that shows a page with one link, and gives the number that is answered
 abbrev asked : (words : List ℕ) → Core
 asked words =
     prim op.StringToNumber (cores_of (prim op.ExtractBindingSingle (cores_of (sym (codes "n")
     ∷ send Suspend (prim op.List (cores_of (sym (codes "a") ∷ prim op.List (cores_of (prim op.List (cores_of (sym (codes "href") ∷ var 0 ∷ [])) ∷ [])) ∷ lit (text words) ∷ []))) ∷ []))
     ∷ []))
 
--- two numbers are asked for and added
+-- a script that asks for two numbers and adds them
 abbrev pub sum : Named
 sum = record {
   name = codes "sum";
@@ -43,12 +44,12 @@ sum = record {
   };
 }
 
--- its text is read so
+-- the text of the script of these rows is read as this script
 its_text : setup_of_texts (texts_of (sum ∷ [])) ≡ Some (sum ∷ [])
 unfolding setup_of_texts is_utf8 chars encode utf8_valid_len expanded syntax_of page_form_of number_operation_of test_of list_operation_of text_operation_of
 its_text = refl
 
--- in these rows all names and texts are read as that script
+-- in these rows all names and texts are read as the script that adds two numbers
 abbrev pub texts : Texts
 texts named = Some (sum ∷ [])
 
@@ -60,7 +61,7 @@ query digits = list (vals_of (list (vals_of (symbol (codes "n") ∷ text digits 
 abbrev pub first : Opening
 first = record { number = 0; nonce = 0; script = 0; effects = []; left = []; kind = Suspend; deadline = 3600; evicted = [] }
 
--- its answer, which shows the second page
+-- the answer to the first page, which shows the second one
 abbrev pub second : Extension
 second = record { number = 1; nonce = 1; instance = 0; page = 0; answer = query (codes "3"); effects = []; left = []; kind = Suspend; deadline = 3600; evicted = [] }
 

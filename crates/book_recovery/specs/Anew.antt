@@ -19,15 +19,15 @@ IsBodyAnew (begins shelf named) body = ⊤
 IsBodyAnew (renews named) body = ⊤
 IsBodyAnew r body = body ≡ body_of r
 
--- these bodies stand behind the others, where the file is of an older format
+-- where the file that is read is of an older format, these bodies stand after those that were kept before, and else none is kept
 abbrev pub HasAnew : (format : ℕ) → List (List ℕ) → (old new : Vec (List ℕ)) → Type 0
 HasAnew format bodies old new = new.items ≡ (if format == newest then old.items else old.items ++ bodies)
 
--- this body does
+-- where the file that is read is of an older format, this body stands after those that were kept before, and else none is kept
 abbrev pub KeepsAnew : (format : ℕ) → List ℕ → (old new : Vec (List ℕ)) → Type 0
 KeepsAnew format body old new = HasAnew format (body ∷ []) old new
 
--- the body of a record that is told in the newest format does, but where it tells a number
+-- the body of a record that is told in the newest format is kept after the others, but where it tells a number
 abbrev pub KeepsTold : (format : ℕ) → Record → (old new : Vec (List ℕ)) → Type 0
 KeepsTold format (changes c state) old new = HasAnew format (body_of (changes c state) ∷ []) old new
 KeepsTold format (draws number) old new = new.items ≡ old.items
@@ -52,19 +52,20 @@ IsAnewIn format (begun m) body anew = IsAnewBy format m body (read_record_in for
 IsAnewIn format (made m) body anew = IsAnewBy format m body (read_record_in format body) anew
 IsAnewIn format _ body anew = ⊤
 
--- so they are of these bodies, the gate of the first at this place, behind what records make
+-- These are the bodies that the newest format has of these bodies of a file, the gate of the first at this place, after what
+-- records make.
 abbrev pub AreAnew : (format : ℕ) → Texts → (shelf place : ℕ) → List (List ℕ) → Making → (anew : List (List ℕ)) → Type 0
 AreAnew format texts shelf place [] x anew = anew ≡ []
 AreAnew format texts shelf place (body ∷ bodies) x anew =
     (front rest : List (List ℕ)) × ((anew ≡ front ++ rest) × (IsAnewIn format x body front
     × AreAnew format texts shelf (place + 5 + length body) bodies (with_body_at format texts shelf place body x) rest))
 
--- so they are of the bodies of a file of an older format; of one of the newest none is kept
+-- these are the bodies that the newest format has of a file of an older one; of a file of the newest none is kept
 abbrev pub ReadsAnew : (format shelf : ℕ) → (bodies anew : List (List ℕ)) → Type 0
 ReadsAnew format shelf bodies anew =
     ((format ≡ newest → ⊥) → AreAnew format setup_of_texts shelf 8 bodies nothing anew) × (format ≡ newest → anew ≡ [])
 
--- where a book was read from these bodies, so they are
+-- where a book was read from these bodies, those are kept that the newest format has of them
 abbrev pub KeepsFileOf : (format shelf : ℕ) → (bodies : List (List ℕ)) → ReadBook → Type 0
 KeepsFileOf format shelf bodies read = WhereMade read.found (ReadsAnew format shelf bodies read.anew.items)
 

@@ -61,7 +61,7 @@ abbrev pub NotesMade : (format : ℕ) → Library → InOrder (Unit {0}) → Boo
 NotesMade format library seen b r n old new None = ⊤
 NotesMade format library seen b r n old new (Some c) = NotesRecord format library seen b r n old new
 
--- so a reader notes it
+-- a reader notes a record that was made again or passed over
 abbrev pub NotesRedone : Library → Book → Record → (length : ℕ) → (old new : Reader) → Option Book → Type 0
 NotesRedone library b r n old new o = NotesMade old.format library old.seen b r n old.notes new.notes o
 
@@ -81,12 +81,12 @@ abbrev pub KeepsRecord : (format : ℕ) → Library → InOrder (Unit {0}) → B
 KeepsRecord format library seen b r old new =
     (m : Made) → IsOfMade library seen b m → (body : List ℕ) → (bodies : List (List ℕ)) × (IsAnewBy format m body (Some r) bodies × HasAnew format bodies old new)
 
--- so it is where a record was made again, or was passed over
+-- where a record was made again, or was passed over, the body is kept that the newest format has of it
 abbrev pub MakesAnew : (format : ℕ) → Library → InOrder (Unit {0}) → Book → Record → (old new : Vec (List ℕ)) → Option Book → Type 0
 MakesAnew format library seen b (changes c state) old new (Some d) = KeepsRecord format library seen b (changes c state) old new
 MakesAnew format library seen b (draws number) old new (Some d) = KeepsRecord format library seen b (draws number) old new
 MakesAnew format library seen b r old new o = ⊤
 
--- so a reader keeps it
+-- a reader keeps the body that the newest format has of a record which was made again or passed over
 abbrev pub KeepsRedone : Library → Book → Record → (old new : Reader) → Option Book → Type 0
 KeepsRedone library b r old new o = MakesAnew old.format library old.seen b r old.anew new.anew o

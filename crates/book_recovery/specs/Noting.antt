@@ -19,6 +19,7 @@ mark_by format m (Some (changes c state)) = is_some (landing_of format m c (told
 mark_by format m (Some (renews named)) = true ∷ []
 mark_by format m _ = []
 
+-- whether recovery takes the record of one more body of a file in this format, if it is one that has a note
 abbrev pub mark_in : (format : ℕ) → Making → (body : List ℕ) → List Bool
 mark_in format (begun m) body = mark_by format m (read_record_in format body)
 mark_in format (made m) body = mark_by format m (read_record_in format body)

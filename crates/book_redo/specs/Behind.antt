@@ -88,6 +88,6 @@ AnswersOwn library b instance page y = (x : Extension) → x.instance ≡ instan
 abbrev pub OwnsBehind : Library → Book → Change → Option Behind → Type 0
 OwnsBehind library b c o = HasItsStates library.all b → IfSome o (GoesOnOwn library b c)
 
--- and so an answer to this page does
+-- where each page of the book has the state of its chain, an answer to this page goes on from it, if the page is of a script
 abbrev pub OwnsAnswer : Library → Book → (instance page : ℕ) → Option Behind → Type 0
 OwnsAnswer library b instance page o = HasItsStates library.all b → IfSome o (AnswersOwn library b instance page)

@@ -282,7 +282,7 @@ pub record IsPassed (library : Library) (b : Book) (instance page : ℕ) (r : Pa
   pub told : IsTold library b instance page bytes
   pub off : (again ≡ true) ⊎ (takes_record r told.place.instance.now.item ≡ false)
 
--- the record of an answer is told, and extends its instance so
+-- the record of an answer is told, and extends its instance as the record says
 pub record IsExtended (library : Library) (b : Book) (instance page : ℕ) (answer : Val) (r : PageRecord) (bytes : List ℕ) (again : Bool) (x : Extension) : Type 0 where
   pub told : IsTold library b instance page bytes
   pub new : again ≡ false

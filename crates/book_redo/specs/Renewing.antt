@@ -17,7 +17,8 @@ use Rattle.journal_spec.specs.Copying.{state_now}
 use Rattle.book_redo.specs.declared.renew.Renewed.{Renewed}
 use Rattle.book_redo.specs.declared.renew.Renewed.TheVariants.{Told, Passed, Misread}
 
--- of records that made this book and told its pages' states, wherever the next gate is and however long a record is behind it
+-- a fact of any records that made this book and told its pages' states, wherever the next gate is and however long the next
+-- record
 abbrev pub OfEach : Library → Book → ((place n : ℕ) → Made → Type 0) → Type 0
 OfEach library b P =
     (m : Made) (beside : Beside) (place n : ℕ) → m.book ≡ book_of library beside b → HasToldStates library.all m.earlier.states b → P place n m
@@ -44,7 +45,8 @@ IsChangeRenewed format library b c state (Told l) =
 IsChangeRenewed format library b c state Passed = ((n : ℕ) × (number_in c ≡ Some n)) × IsPassedOver format library b c state
 IsChangeRenewed format library b c state Misread = IsOutside format library b c state
 
--- so it is in format 1 whatever bytes a record might have of the state, which it does not tell
+-- What is told is the record of a change in the newest format, where it was read in format 1, whatever bytes of a state it might
+-- have, since that format tells none.
 abbrev pub IsMadeAgain : Library → Book → Change → Renewed → Type 0
 IsMadeAgain library b c x = (state : Option (List ℕ)) → IsChangeRenewed 1 library b c state x
 

@@ -61,7 +61,7 @@ pub record IsVisitOf (x : Behind) (p : PageRecord) (shelf instance : ℕ) (answe
   pub answer_is : v.ticket.answer ≡ answer
   pub from : GoesOnFrom v (origin_of x.from)
 
--- what each such visit leaves
+-- what each visit that a record may tell of leaves
 abbrev pub RunsTo : Behind → PageRecord → (shelf instance : ℕ) → (answer : Val) → (cells : List Val) → Option stored.Suspended → Type 0
 RunsTo x p shelf instance answer cells d = (v : Visit) → IsVisitOf x p shelf instance answer v → LeavesIf p cells v d
 

@@ -22,9 +22,11 @@ alone_behind x bytes = read_alone (arena_of (named_of x.script.now).script) (beh
 abbrev pub form_behind : Behind → List ℕ → Option Suspended
 form_behind x bytes = read_form (arena_of (named_of x.script.now).script) (behind_at x.links (origin_of x.from)) bytes
 
+-- this is the state that bytes spell by itself, or there is none
 abbrev pub ReadsAlone : Behind → (bytes : List ℕ) → Option stored.Suspended → Type 0
 ReadsAlone x bytes d = option_map suspended_of d ≡ alone_behind x bytes
 
+-- this is the state that bytes spell in the form that is due after what the page goes on from, or there is none
 abbrev pub ReadsForm : Behind → (bytes : List ℕ) → Option stored.Suspended → Type 0
 ReadsForm x bytes d = option_map suspended_of d ≡ form_behind x bytes
 

@@ -28,6 +28,7 @@ use Rattle.book_visits.specs.Fits.{IsFor, FitsStart, FitsAs, FitsIfStart, GoesOn
 use Rattle.instance_book.specs.Fits.{IsStoredOrigin}
 use Rattle.instance_book.specs.Standing.{BeginsAt, IsKeptAt, IsPlacedAt, book_under, place_of}
 
+-- the admission that the program's value stands for: a start, a page to go on from, or a refusal
 abbrev pub admission_of : List Named → Admission → spec.Admission
 admission_of all (Begins start place script) = spec.begins start (named_of script.now)
 admission_of all (Resumes place) = spec.resumes (place_of all place)
@@ -49,6 +50,7 @@ has_name s nonce shelf name n = n.shelf == shelf && bytes_eq s.name name && nonc
 abbrev pub place_for : Library → Book → ScriptName → PageName → Option spec.Place
 place_for library b name page = spec.place_at (book_under library b) (name_of name) page
 
+-- the program found the page that this name of a script and this URL name, or found that none stands there
 abbrev pub IsPlaceAt : Library → Book → ScriptName → PageName → Option Place → Type 0
 IsPlaceAt library b name page p = option_map (place_of library.all) p ≡ place_for library b name page
 
@@ -64,6 +66,7 @@ refusal_for library b target = spec.refusal_of (admission_for library b target)
 abbrev pub IsRefusalFor : Library → Book → Target → Refusal → Type 0
 IsRefusalFor library b target r = refusal_for library b target ≡ Some r
 
+-- the program admitted a target as the definitions do
 abbrev pub IsAdmittedAs : Library → Book → Target → Admission → Type 0
 IsAdmittedAs library b target a = admission_of library.all a ≡ admission_for library b target
 

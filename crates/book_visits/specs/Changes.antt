@@ -34,6 +34,7 @@ HasDeadlineIn (Opens o) = o.record.deadline < 2 ^ 63
 HasDeadlineIn (Extends x) = x.record.deadline < 2 ^ 63
 HasDeadlineIn _ = ⊤
 
+-- the deadline of the page that a change shows, if there is a change with one, can be told
 abbrev pub HasDeadlineBy : Option Change → Type 0
 HasDeadlineBy None = ⊤
 HasDeadlineBy (Some c) = HasDeadlineIn c
@@ -53,6 +54,7 @@ IsSpelledIn (Opens o) = StateHasBytes (suspended_of o.state)
 IsSpelledIn (Extends x) = StateHasBytes (suspended_of x.state)
 IsSpelledIn _ = ⊤
 
+-- the state of a change's new page, if there is a change, has a spelling
 abbrev pub IsSpelledBy : Option Change → Type 0
 IsSpelledBy None = ⊤
 IsSpelledBy (Some c) = IsSpelledIn c

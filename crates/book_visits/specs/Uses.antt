@@ -8,6 +8,7 @@ use Rattle.book_visits.specs.declared.goes.PageUse.{PageUse}
 abbrev pub read_use : PageUse → Use
 read_use u = record { page = u.page; last = u.last }
 
+-- the uses of pages that the program's list stands for
 abbrev pub read_uses : List PageUse → List Use
 read_uses us = map read_use us
 

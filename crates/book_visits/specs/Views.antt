@@ -10,6 +10,7 @@ use Rattle.replay_spec.specs.Next as next
 use Rattle.replay_spec.specs.Step as step
 use Rattle.book_visits.specs.declared.ticket.Ticket.{Ticket}
 
+-- the ticket that the program's ticket stands for
 abbrev pub ticket_of : Ticket → next.Ticket
 ticket_of t = record { target = target_of t.target; answer = meaning t.answer; number = t.number; nonce = t.nonce }
 
@@ -18,9 +19,11 @@ abbrev pub ticket_for : Target → Value → (number nonce : ℕ) → next.Ticke
 ticket_for target answer number nonce =
     record { target = target_of target; answer = meaning answer; number = number; nonce = nonce }
 
+-- a ticket is for this target and answer, with this number and nonce
 abbrev pub IsTicketFor : Target → Value → (number nonce : ℕ) → Ticket → Type 0
 IsTicketFor target answer number nonce t = ticket_of t ≡ ticket_for target answer number nonce
 
+-- the reply that the program's reply stands for
 abbrev pub reply_of : Reply → step.Reply
 reply_of (reply.Page bytes url) = step.shown bytes url
 reply_of (reply.Finished bytes) = step.finished bytes

@@ -7,34 +7,39 @@ use Rattle.machine_states.specs.Machine.{node_at, bindings_in}
 use Rattle.machine_states.specs.declared.frame.Frame.{Frame}
 use Rattle.machine_states.specs.declared.frame.Frame.TheVariants as frame
 
--- a sequence, a conjunction or a disjunction
+-- a node is a sequence, a conjunction or a disjunction
 abbrev pub IsRow : Node → Type 0
 IsRow (node.Seq ps) = ⊤
 IsRow (node.And ps) = ⊤
 IsRow (node.Or ps) = ⊤
 IsRow _ = ⊥
 
+-- a node is a `let`
 abbrev pub IsLet : Node → Type 0
 IsLet (node.Let bindings body) = ⊤
 IsLet _ = ⊥
 
+-- a node is an operation
 abbrev pub IsPrim : Node → Type 0
 IsPrim (node.Prim o ps) = ⊤
 IsPrim _ = ⊥
 
--- a call of a task
+-- a node is a call of a task
 abbrev pub IsCall : Node → Type 0
 IsCall (node.Call k ps) = ⊤
 IsCall _ = ⊥
 
+-- a node is an `if`
 abbrev pub IsIf : Node → Type 0
 IsIf (node.If test a b) = ⊤
 IsIf _ = ⊥
 
+-- a node is a `for/list`
 abbrev pub IsFor : Node → Type 0
 IsFor (node.For count body) = ⊤
 IsFor _ = ⊥
 
+-- a node writes a web cell or an instance cell
 abbrev pub IsStore : Node → Type 0
 IsStore (node.CellShadow c e) = ⊤
 IsStore (node.InstSet c e) = ⊤

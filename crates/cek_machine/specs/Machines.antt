@@ -27,6 +27,7 @@ state_in m = state_of m.spot.progress
 abbrev pub open_in : Machine → List TxName
 open_in m = open_of m.spot.progress
 
+-- the machine that the program's machine stands for
 abbrev pub machine_of : Machine → spec.Machine
 machine_of m = record { point = point m.control m.spot; state = state_of m.spot.progress }
 
@@ -59,6 +60,7 @@ Steps (Some end) a old new = step a (machine_of old) ≡ stopped (outcome_of end
 abbrev pub start_of : Arena → Now → spec.Machine
 start_of a now = started a (record { first = now; later = [] })
 
+-- a machine at the start of a script and of this segment, or no memory
 abbrev pub Starts : Result Machine AllocError → Arena → Now → Type 0
 Starts r a now = IfOk r (λ m. machine_of m ≡ start_of a now)
 
@@ -80,5 +82,6 @@ RunsOver a end old new before count =
     (k : ℕ) × ((count ≡ before + k + 1) × ((mid : spec.Machine) × ((steps a k (machine_of old) ≡ goes mid)
     × (step a mid ≡ stopped (outcome_of end) (inside_of (frames_of new.spot)) (kept_of new) (state_of new.spot.progress)))))
 
+-- a machine ran to this stop, in the steps of its script from the one count to the other
 abbrev pub Runs : RunEnd → (old new : Machine) → (before count : ℕ) → Type 0
 Runs end old new before count = RunsOver old.script.now end old new before count

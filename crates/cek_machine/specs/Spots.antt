@@ -23,13 +23,16 @@ use Rattle.machine_states.specs.Views.{frame_of, stack}
 use Rattle.machine_states.specs.Machine as spec
 use Rattle.machine_states.specs.Machine.{inside_of, visits, given, visited, next_part, next_turn, taken, next, cut, outer_env, outer_frames}
 
+-- what a machine does next, as the program's value says it: a node is visited, or a value given
 abbrev pub control_of : Control → spec.Control
 control_of (Visit n) = spec.visit n
 control_of (Give v) = spec.value (meaning v)
 
+-- the frames of a machine, the innermost first
 abbrev pub frames_of : Spot → List spec.Frame
 frames_of s = stack s.frames.items
 
+-- the point where a machine is: what it does next, its variables and its frames
 abbrev pub point : Control → Spot → spec.Point
 point c s = record { control = control_of c; env = s.env; frames = frames_of s }
 
@@ -72,6 +75,7 @@ ComesOut memory (Err Memory) env fs new e = memory
 ComesOut memory (Err (Stopped o)) env fs new e =
     (e ≡ stop (outcome_of o) (inside_of fs) (state_of new.progress)) × ((new.env ≡ env) × (frames_of new ≡ fs))
 
+-- a call moved the spot to where this run ends; memory ran out at most where that takes some
 abbrev pub Comes : Result Control Halt → (old new : Spot) → End spec.Point → Type 0
 Comes r old new e = ComesOut (TakesMemory (state_of old.progress) e) r old.env (frames_of old) new e
 
@@ -119,6 +123,7 @@ Visits r old new n x = VisitsIn r old new no_arena n x
 abbrev pub TakesFor : Frame → Result Control Halt → (old new : Spot) → End spec.Point → Type 0
 TakesFor f r old new e = ComesOut (FrameTakesMemory (frame_of f) (state_of old.progress) e) r old.env (frames_of old) new e
 
+-- this frame of a script took this value as that of its part
 abbrev pub Takes : Result Control Halt → (old new : Spot) → Arena → Frame → Value → Type 0
 Takes r old new a f v = TakesFor f r old new (taken a (frame_of f) (meaning v) old.env (frames_of old) (state_of old.progress))
 
@@ -126,11 +131,12 @@ Takes r old new a f v = TakesFor f r old new (taken a (frame_of f) (meaning v) o
 abbrev pub TakesTurn : Result Control Halt → (old new : Spot) → Arena → (node turns : ℕ) → (done : List Val) → Value → Type 0
 TakesTurn r old new a n turns done v = Takes r old new a (frame.Turn n turns done) v
 
--- this control was next
+-- a step from this control on came to this end
 abbrev pub ControlComes : spec.Control → Result Control Halt → (old new : Spot) → End spec.Point → Type 0
 ControlComes c r old new e =
     ComesOut (ControlTakesMemory c (frames_of old) (state_of old.progress) e) r (outer_env c old.env (frames_of old)) (outer_frames c (frames_of old)) new e
 
+-- the step of a script from this control on was made
 abbrev pub Nexts : Result Control Halt → (old new : Spot) → Arena → Control → Type 0
 Nexts r old new a c = ControlComes (control_of c) r old new (next a (control_of c) old.env (frames_of old) (state_of old.progress))
 

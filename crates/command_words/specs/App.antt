@@ -12,9 +12,11 @@ use Rattle.clap.specs.declared.builder.value_parser.ValueParser.{ValueParser}
 use Rattle.clap.specs.declared.builder.value_parser.ValueParser.TheVariants as vp
 use Rattle.command_words.specs.Options.{Item, Kind, Text, number, bare, directory, flag, play_items, serve_items, load_items, audit_items}
 
+-- the words of a command line, each by its bytes
 abbrev pub texts : List (Bor (List ℕ)) → List (List ℕ)
 texts words = map (λ w. w.now) words
 
+-- the rule of an option with a value, as clap has it
 abbrev pub value_rule : Text → ValueParser → Rule
 value_rule name parser = record (new_rule name) {
   long = Some name;
@@ -26,6 +28,7 @@ value_rule name parser = record (new_rule name) {
 abbrev pub bare_rule : Text → ValueParser → Rule
 bare_rule name parser = record (new_rule name) { action = Some Set; parser = Some parser }
 
+-- the rule of an option without a value, as clap has it
 abbrev pub flag_rule : Text → Rule
 flag_rule name = record (new_rule name) { long = Some name; action = Some SetTrue }
 
@@ -34,12 +37,14 @@ abbrev pub or_default : Option Text → Rule → Rule
 or_default None r = record r { required = true }
 or_default (Some text) r = record r { defaults = text ∷ [] }
 
+-- the rule of an option of this kind and name, and with this default, as clap has it
 abbrev pub rule_by : Kind → Text → Option Text → Rule
 rule_by (number low high) name default = or_default default (value_rule name (vp.Unsigned low high))
 rule_by (bare low high) name default = or_default default (bare_rule name (vp.Unsigned low high))
 rule_by directory name default = or_default default (value_rule name vp.NonEmptyString)
 rule_by flag name default = flag_rule name
 
+-- the rule of an option of the table, as clap has it
 abbrev pub rule_for : Item → Rule
 rule_for i = rule_by i.kind i.name i.default
 
@@ -55,30 +60,38 @@ with_rules a rules = fold with_rule a rules
 abbrev pub with_items : App → List Item → App
 with_items a items = with_rules a (map rule_for items)
 
+-- the shape of a command of this name with these options, as clap has it
 abbrev pub shape_for : Text → List Rule → Shape
 shape_for name rules = record (new_shape name) { rules = rules }
 
+-- the command `check`, as clap has it, without an option
 abbrev pub check_shape : Shape
 check_shape = new_shape (codes "check")
 
+-- the command `play`, as clap has it, with its options
 abbrev pub play_shape : Shape
 play_shape = shape_for (codes "play") (map rule_for play_items)
 
+-- the command `serve`, as clap has it, with its options
 abbrev pub serve_shape : Shape
 serve_shape = shape_for (codes "serve") (map rule_for serve_items)
 
+-- the command `load`, as clap has it, with its options
 abbrev pub load_shape : Shape
 load_shape = shape_for (codes "load") (map rule_for load_items)
 
+-- the command `audit`, as clap has it, with its options
 abbrev pub audit_shape : Shape
 audit_shape = shape_for (codes "audit") (map rule_for audit_items)
 
+-- the program itself, as clap has it: a command has to follow its name
 abbrev pub bare_top : Shape
 bare_top = record (new_shape (codes "script_server")) {
   subcommand_required = true;
   disable_help_subcommand = true;
 }
 
+-- the program with its commands, as clap has it
 abbrev pub app : App
 app = record {
   top = record bare_top { is_leaf = false };

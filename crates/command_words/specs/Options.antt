@@ -6,6 +6,7 @@ use Rattle.std.specs.Str.{bytes_eq}
 use Rattle.std.specs.Str.Parse.{digits_value}
 use Rattle.server_limits.specs.Limits.{most_connections, most_fuel, most_instances, most_life, most_pages, most_shelves}
 
+-- a text by its bytes
 abbrev pub Text : Type 0
 Text = List ℕ
 
@@ -17,21 +18,26 @@ pub data Kind : Type 0 where
   directory : Kind
   flag : Kind
 
+-- an option of the table: its name, its kind, and its default
 pub record Item : Type 0 where
   pub name : Text
   pub kind : Kind
   -- what holds where the option is not written; an option with none has to be
   pub default : Option Text
 
+-- the option of how much fuel a segment is given
 abbrev pub fuel : Item
 fuel = record { name = codes "fuel"; kind = number 1 most_fuel; default = Some (codes "100000") }
 
+-- the option of how many seconds a page lives
 abbrev pub life : Item
 life = record { name = codes "life"; kind = number 1 most_life; default = Some (codes "3600") }
 
+-- the option of how many instances a shelf may hold
 abbrev pub instances : Item
 instances = record { name = codes "instances"; kind = number 1 most_instances; default = Some (codes "256") }
 
+-- the option of how many live pages an instance may have
 abbrev pub pages : Item
 pages = record { name = codes "pages"; kind = number 1 most_pages; default = Some (codes "64") }
 
@@ -49,6 +55,7 @@ port = record { name = codes "port"; kind = number 0 65535; default = None }
 abbrev pub most_workers : ℕ
 most_workers = 16
 
+-- the option of how many workers a server has
 abbrev pub workers : Item
 workers = record { name = codes "workers"; kind = number 1 most_workers; default = Some (codes "4") }
 
@@ -56,9 +63,11 @@ workers = record { name = codes "workers"; kind = number 1 most_workers; default
 abbrev pub most_requests : ℕ
 most_requests = 1000
 
+-- the option of how many requests a connection may carry
 abbrev pub requests : Item
 requests = record { name = codes "requests"; kind = number 1 most_requests; default = Some (codes "100") }
 
+-- the option of how many connections a worker serves at most
 abbrev pub connections : Item
 connections = record { name = codes "connections"; kind = number 1 most_connections; default = Some (codes "10000") }
 
@@ -101,10 +110,12 @@ pub record Setting : Type 0 where
 abbrev pub IsPlainNumber : ℕ → ℕ → Text → Type 0
 IsPlainNumber low high text = (n : ℕ) × (text ≡ decimal n) × (low ≤ n) × (n ≤ high)
 
+-- whether a word begins with a hyphen, as options do
 abbrev pub begins_with_hyphen : Text → Bool
 begins_with_hyphen [] = false
 begins_with_hyphen (x ∷ xs) = x == 45
 
+-- a text is written as an option of this kind asks for
 abbrev pub IsPlainText : Kind → Text → Type 0
 IsPlainText (number low high) text = IsPlainNumber low high text
 IsPlainText (bare low high) text = IsPlainNumber low high text
@@ -118,6 +129,7 @@ words_for flag name text = (45 ∷ 45 ∷ name) ∷ []
 words_for (bare low high) name text = text ∷ []
 words_for kind name text = (45 ∷ 45 ∷ name) ∷ text ∷ []
 
+-- the words of these options and their texts
 abbrev pub spelled : List Setting → List Text
 spelled [] = []
 spelled (s ∷ rest) = words_for s.item.kind s.item.name s.text ++ spelled rest
@@ -127,9 +139,11 @@ abbrev pub given : Text → List Setting → Option Text
 given name [] = None
 given name (s ∷ rest) = if bytes_eq s.item.name name then Some s.text else given name rest
 
+-- the text of an option: the one that is written, or else its default
 abbrev pub text_of : Item → List Setting → Text
 text_of i settings = unwrap_or (given i.name settings) (unwrap_or i.default [])
 
+-- the number of an option: the one that is written, or else its default
 abbrev pub number_of : Item → List Setting → ℕ
 number_of i settings = digits_value 10 (text_of i settings)
 
@@ -143,6 +157,7 @@ IsDistinct [] = ⊤
 IsDistinct (s ∷ rest) =
     Each (λ t. bytes_eq s.item.name t.item.name ≡ false) rest × IsDistinct rest
 
+-- an option is one of this list
 abbrev pub IsOneOf : Item → List Item → Type 0
 IsOneOf i [] = ⊥
 IsOneOf i (x ∷ xs) = (i ≡ x) ⊎ IsOneOf i xs

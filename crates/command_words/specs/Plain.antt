@@ -24,6 +24,7 @@ chosen s = record {
   shelves = number_of shelves s;
 }
 
+-- what the options of `serve` choose
 abbrev pub service_chosen : List Setting → Service
 service_chosen s = record {
   options = chosen s;
@@ -70,6 +71,7 @@ ReadsPlain words result = (asked : Command) → IsPlain words asked → IfOk res
 
 -- ---- the ranges
 
+-- each limit that the options set is in its range, and a journal's folder has a name
 pub record AreInRange (o : Options) : Type 0 where
   pub fuel : IsFuel o.fuel
   pub life : IsLife o.life
@@ -78,6 +80,7 @@ pub record AreInRange (o : Options) : Type 0 where
   pub journal : 0 < length o.journal
   pub shelves : AreShelves o.shelves
 
+-- what the options of `serve` choose is in range
 pub record CanServe (s : Service) : Type 0 where
   pub options : AreInRange s.options
   pub port : s.port ≤ 65535
@@ -85,6 +88,7 @@ pub record CanServe (s : Service) : Type 0 where
   pub workers : IsWithin 1 most_workers s.workers
   pub requests : IsWithin 1 most_requests s.requests
 
+-- what the options of `load` choose is in range
 pub record CanLoad (l : LoadOptions) : Type 0 where
   pub options : AreInRange l.options
   pub low : 1 ≤ l.number
@@ -94,6 +98,7 @@ pub record CanAudit (a : AuditOptions) : Type 0 where
   pub journal : 0 < length a.journal
   pub shelves : AreShelves a.shelves
 
+-- what a command asks for is in range
 abbrev pub IsInRange : Command → Type 0
 IsInRange Check = ⊤
 IsInRange (Play o) = AreInRange o

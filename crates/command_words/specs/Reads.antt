@@ -15,6 +15,7 @@ use Rattle.command_words.specs.declared.Service.{Service}
 use Rattle.command_words.specs.declared.LoadOptions.{LoadOptions}
 use Rattle.command_words.specs.declared.AuditOptions.{AuditOptions}
 
+-- the rows of options that a parse found
 abbrev pub rows_in : ArgMatches → List Row
 rows_in m = rows_of (found_of m)
 
@@ -22,15 +23,19 @@ rows_in m = rows_of (found_of m)
 abbrev pub value_number : Text → ℕ
 value_number text = digits_value 10 (without_leading_plus text)
 
+-- the number that a parse found for an option
 abbrev pub number_at : List Row → Text → ℕ
 number_at rows id = value_number (unwrap_or (one_of id rows) [])
 
+-- the text that a parse found for an option
 abbrev pub text_at : List Row → Text → Text
 text_at rows id = unwrap_or (first_of id rows) []
 
+-- whether a parse found an option without a value
 abbrev pub flag_at : List Row → Text → Bool
 flag_at rows id = bytes_eq (unwrap_or (one_of id rows) []) (codes "true")
 
+-- what a parse found for the options that commands share
 abbrev pub options_at : List Row → Options
 options_at rows = record {
   fuel = number_at rows (codes "fuel");
@@ -41,6 +46,7 @@ options_at rows = record {
   shelves = number_at rows (codes "shelves");
 }
 
+-- what a parse found for the options of `serve`
 abbrev pub service_at : List Row → Service
 service_at rows = record {
   options = options_at rows;
@@ -51,6 +57,7 @@ service_at rows = record {
   audit = flag_at rows (codes "audit");
 }
 
+-- what a parse found for the options of `load`
 abbrev pub load_at : List Row → LoadOptions
 load_at rows = record { number = number_at rows (codes "number"); options = options_at rows }
 
@@ -67,6 +74,7 @@ asked_as name rows =
     else (if bytes_eq name (codes "audit") then Some (Audit (audit_at rows))
     else None))))
 
+-- the command that the name and the options which a parse found ask for, if they ask for one
 abbrev pub asked_from : Option (Text × List Row) → Option Command
 asked_from = option_and_then (λ p. asked_as p.0 p.1)
 
@@ -103,6 +111,7 @@ pub data HoldsFor (name : Text) (rows : List Row) : Type 0 where
   for_load : name ≡ codes "load" → Holds load_items rows → HoldsFor name rows
   for_audit : name ≡ codes "audit" → Holds audit_items rows → HoldsFor name rows
 
+-- the name and the options that a parse found have what the command needs
 abbrev pub HoldsAsked : Option (Text × List Row) → Type 0
 HoldsAsked None = ⊥
 HoldsAsked (Some p) = HoldsFor p.0 p.1

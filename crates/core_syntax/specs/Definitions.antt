@@ -21,13 +21,16 @@ pub record Defined : Type 0 where
   pub cells : List Val
   pub tasks : List Core
 
+-- what is defined with one more cell of this kind, which begins with this value
 abbrev pub with_value : CellKind → Val → Defined → Defined
 with_value Web v d = record d { web = d.web ++ v ∷ [] }
 with_value Instance v d = record d { cells = d.cells ++ v ∷ [] }
 
+-- what is defined at the start of a script: no cell and no task
 abbrev pub nothing_defined : Defined
 nothing_defined = record { names = record { web = []; instance = []; tasks = []; later = [] }; web = []; cells = []; tasks = [] }
 
+-- what is defined with one more cell, its name and its first value
 abbrev pub with_cell : Definition → Defined → Defined
 with_cell x d = with_value x.kind x.value (record d { names = with_name x.kind x.name d.names })
 
@@ -96,6 +99,7 @@ limited d (Err k) = Err k
 limited d (Ok c) =
     if are_too_many (core c (cores_of d.tasks)) then Err TooMany else Ok (record { web = d.web; cells = d.cells; tasks = cores_of d.tasks; body = c })
 
+-- goes on with what a form gave, or stays at its fault
 abbrev pub and_then : {A B : Type 0} → Result A (SyntaxKind × ℕ) → (A → Result B (SyntaxKind × ℕ)) → Result B (SyntaxKind × ℕ)
 and_then (Ok x) f = f x
 and_then (Err k) f = Err k
@@ -116,10 +120,12 @@ expanded_from n d (v ∷ vs) =
 unfoldable pub expanded : List Val → Result Script (SyntaxKind × ℕ)
 expanded vs = expanded_from 0 nothing_defined vs
 
+-- whether no form is left
 abbrev pub is_none_left : List Val → Bool
 is_none_left [] = true
 is_none_left (v ∷ vs) = false
 
+-- whether there is a fault, and which, without what was read
 abbrev pub told : {A : Type 0} → Result A SyntaxKind → Result ⊤ SyntaxKind
 told (Ok x) = Ok tt
 told (Err k) = Err k

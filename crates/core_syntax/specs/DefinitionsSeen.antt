@@ -16,9 +16,11 @@ use Rattle.core_syntax.specs.TaskNames.{names_in}
 use Rattle.core_syntax.specs.Headings.{Definition, TaskForm, task_of}
 use Rattle.core_syntax.specs.Definitions.{Defined, definition_seen, form_defined, task_definable, task_defined, task_within}
 
+-- the definition of a cell that the program's value stands for
 abbrev pub definition : DefinitionOf → Definition
 definition d = record { kind = d.kind; name = d.name.now; value = meaning d.value.now }
 
+-- the kind of a cell and its first value, as a definition has them
 abbrev pub maker : Maker → CellKind × Val
 maker m = (m.kind, meaning m.value.now)
 

@@ -13,6 +13,7 @@ use Rattle.core_syntax.specs.Shapes.{begins}
 use Rattle.core_syntax.specs.Templates.{is_plain, are_plain}
 use Rattle.core_syntax.specs.Forms.{of_op, made, filled, all_filled, spliced, bound_value}
 
+-- literals of these values, one a value
 abbrev pub literals : List (Bor Value) → List Core
 literals values = map (λ v. lit (meaning v.now)) values
 
@@ -24,6 +25,7 @@ or_literal tree v = unwrap_or tree (lit (meaning v))
 abbrev pub trees_of : FilledItems → List Core
 trees_of items = items.trees.items ++ literals items.plain.items
 
+-- whether no item of a list has a tree yet
 abbrev pub has_no_tree : FilledItems → Bool
 has_no_tree items = nat_eq (length items.trees.items) 0
 
@@ -31,6 +33,7 @@ has_no_tree items = nat_eq (length items.trees.items) 0
 abbrev pub trees_or_none : Bool → FilledItems → Option (List Core)
 trees_or_none is_wanted items = if has_no_tree items && not is_wanted then None else Some (trees_of items)
 
+-- a tree that there is, or the fault
 abbrev pub in_some : {A : Type 0} → Result A SyntaxKind → Result (Option A) SyntaxKind
 in_some r = r >>= (λ x. Ok (Some x))
 

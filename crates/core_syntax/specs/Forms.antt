@@ -27,11 +27,13 @@ abbrev pub sequence : List Core → Core
 sequence (c ∷ []) = c
 sequence cs = seq (cores_of cs)
 
+-- the tree of an `and`: true without a part, one part by itself, or all of its parts
 abbrev pub conjunction : List Core → Core
 conjunction [] = lit (truth true)
 conjunction (c ∷ []) = c
 conjunction cs = and_all (cores_of cs)
 
+-- the tree of an `or`: false without a part, one part by itself, or all of its parts
 abbrev pub disjunction : List Core → Core
 disjunction [] = lit (truth false)
 disjunction (c ∷ []) = c
@@ -47,6 +49,7 @@ abbrev pub choose : List (Core × Core) → Core → Core
 choose [] o = o
 choose (c ∷ cs) o = branch c.0 c.1 (choose cs o)
 
+-- the tree that reads a cell of this kind and number
 abbrev pub ref : CellKind → ℕ → Core
 ref Web c = cell_ref c
 ref Instance c = inst_ref c
@@ -63,6 +66,7 @@ store Shadow c e = cell_shadow c e
 store Set c e = inst_set c e
 store Add c e = inst_add c e
 
+-- the tree that shows a last page, which ends an instance or leads back
 abbrev pub last_page : LastPage → Core → Core
 last_page Finish b = finish b
 last_page Back b = back b
@@ -75,6 +79,7 @@ made f r = r >>= (λ x. Ok (f x))
 abbrev pub pair : Result Core SyntaxKind → Result Core SyntaxKind → Result (Core × Core) SyntaxKind
 pair t b = t >>= (λ t. b >>= (λ b. Ok (t, b)))
 
+-- the tree of an operation on these operands
 abbrev pub of_op : Op → List Core → Core
 of_op o cs = prim o (cores_of cs)
 
@@ -86,10 +91,12 @@ of_task k cs = call k (cores_of cs)
 abbrev pub alone : Core → Core
 alone c = of_op op.List (c ∷ [])
 
+-- the tree of a `quote`, which has one datum
 abbrev pub quoted : Vals → Result Core SyntaxKind
 quoted (val v no_vals) = Ok (lit v)
 quoted _ = Err Shape
 
+-- the tree of a variable by its name, or the fault that nothing binds it
 abbrev pub variable : List (List ℕ) → List ℕ → Result Core SyntaxKind
 variable scope x = or_fault Unbound (place_of x scope) >>= (λ k. Ok (var k))
 
@@ -177,6 +184,7 @@ abbrev mutual
     Ok (nest es b)
   let_in_turn_form cells scope in_page _ = Err Shape
 
+  -- the expressions of a `let*`, each within the names before it, after those that are done
   pub values_in_turn : CellNames → List (List ℕ) → Bool → List Core → Vals → Result (List Core) SyntaxKind
   values_in_turn cells scope in_page done no_vals = Ok done
   values_in_turn cells scope in_page done (val v vs) = do
@@ -184,6 +192,7 @@ abbrev mutual
     x ← or_fault Shape (bound_name v)
     values_in_turn cells (x ∷ scope) in_page (done ++ c ∷ []) vs
 
+  -- the tree of the parts of an `if`, which are three
   pub if_form : CellNames → List (List ℕ) → Bool → Vals → Result Core SyntaxKind
   if_form cells scope in_page (val t (val a (val b no_vals))) = do
     t ← core_of cells scope in_page t
@@ -200,10 +209,12 @@ abbrev mutual
         p ← pair (choice_test cells scope in_page c) (choice_body cells scope in_page c)
         choices cells scope in_page (done ++ p ∷ []) cs)
 
+  -- the tree of the test of a clause of a `cond`
   pub choice_test : CellNames → List (List ℕ) → Bool → Val → Result Core SyntaxKind
   choice_test cells scope in_page (list (val t body)) = core_of cells scope in_page t
   choice_test cells scope in_page _ = Err Shape
 
+  -- the tree of the body of a clause of a `cond`
   pub choice_body : CellNames → List (List ℕ) → Bool → Val → Result Core SyntaxKind
   choice_body cells scope in_page (list (val t body)) = made sequence (cores_from cells scope in_page [] body)
   choice_body cells scope in_page _ = Err Shape
@@ -287,6 +298,7 @@ abbrev mutual
   unquoted cells scope in_page (val w (val e no_vals)) = core_of cells scope in_page e
   unquoted cells scope in_page _ = Err Shape
 
+  -- the expression of an unquote in a template
   pub expression_in : CellNames → List (List ℕ) → Bool → Val → Result Core SyntaxKind
   expression_in cells scope in_page (list vs) = unquoted cells scope in_page vs
   expression_in cells scope in_page _ = Err Shape

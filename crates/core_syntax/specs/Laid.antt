@@ -24,6 +24,7 @@ pub record Stands (old new : List Node) (left number : ℕ) (nodes : List Node) 
   pub room : length old + more ≤ most_nodes
   pub low : high ≤ left
 
+-- these nodes were put after the old ones, or there was no memory, or they are too many or nest too deep
 abbrev pub Puts : Result ℕ LayFault → (old new : List Node) → (left : ℕ) → (nodes : List Node) → (more high : ℕ) → Type 0
 Puts (Ok number) old new left nodes more high = Stands old new left number nodes more high
 Puts (Err Memory) old new left nodes more high = ⊤
@@ -41,6 +42,7 @@ pub record StandAll (old new : List Node) (left : ℕ) (numbers : List ℕ) (cs 
   pub room : 0 < count_all cs → length old + count_all cs ≤ most_nodes
   pub low : height_all cs ≤ left
 
+-- the nodes of these trees were put after the old ones, or there was no memory, or they are too many or nest too deep
 abbrev pub LaysAll : Result (List ℕ) LayFault → (old new : List Node) → (left : ℕ) → Cores → Type 0
 LaysAll (Ok numbers) old new left cs = StandAll old new left numbers cs
 LaysAll (Err Memory) old new left cs = ⊤

@@ -24,6 +24,7 @@ abbrev pub place_of : List ℕ → List (List ℕ) → Option ℕ
 place_of x [] = None
 place_of x (y ∷ ys) = if bytes_eq x y then Some (length ys) else place_of x ys
 
+-- whether a name is among these names
 abbrev pub has_name : List ℕ → List (List ℕ) → Bool
 has_name x xs = is_some (place_of x xs)
 
@@ -45,6 +46,7 @@ pub record CellNames : Type 0 where
   pub tasks : List Task
   pub later : List (List ℕ)
 
+-- the names of the cells of a kind
 abbrev pub of_kind : CellKind → CellNames → List (List ℕ)
 of_kind Web cells = cells.web
 of_kind Instance cells = cells.instance
@@ -66,27 +68,35 @@ names_of_tasks cells = map (λ t. t.name) cells.tasks
 abbrev pub parameters_in : CellNames → List ℕ
 parameters_in cells = map (λ t. t.parameters) cells.tasks
 
+-- the name of a task and how many parameters it has
 abbrev split : Task → List ℕ × ℕ
 split t = (t.name, t.parameters)
 
+-- the task of this name and of so many parameters
 abbrev united : List ℕ × ℕ → Task
 united p = record { name = p.0; parameters = p.1 }
 
+-- a code of tasks, by their names and counts of parameters
 abbrev task_code : Coded Task
 task_code = code_by (List ℕ × ℕ) (coded× (coded_list coded_ℕ) coded_ℕ) split united (λ _. refl)
 
+-- names of web cells, of instance cells, of tasks, and of what is defined later on
 abbrev Parts : Type 0
 Parts = List (List ℕ) × (List (List ℕ) × (List Task × List (List ℕ)))
 
+-- the four lists of names that a script has
 abbrev parted : CellNames → Parts
 parted cells = (cells.web, (cells.instance, (cells.tasks, cells.later)))
 
+-- the names of a script, of four lists
 abbrev joined : Parts → CellNames
 joined p = record { web = p.0; instance = p.1.0; tasks = p.1.1.0; later = p.1.1.1 }
 
+-- a code of lists of names
 abbrev names_code : Coded (List (List ℕ))
 names_code = coded_list (coded_list coded_ℕ)
 
+-- a code of the names of a script
 abbrev pub cell_names_code : Coded CellNames
 cell_names_code = code_by Parts (coded× names_code (coded× names_code (coded× (coded_list task_code) names_code))) parted joined (λ _. refl)
 
@@ -114,6 +124,7 @@ is_taken cells x =
     is_some (head_of x) || is_some (place_in cells.web x) || is_some (place_in cells.instance x) || is_some (place_in (names_of_tasks cells) x)
     || is_among x cells.later
 
+-- whether one of these names is that of a form, an operation, a cell or a task
 abbrev pub are_taken : CellNames → List (List ℕ) → Bool
 are_taken cells [] = false
 are_taken cells (x ∷ xs) = is_taken cells x || are_taken cells xs

@@ -3,6 +3,7 @@ use Rattle.std.specs.Prelude.{ℕ, List, ◌++◌}
 use Rattle.core_syntax.specs.declared.read.Reader.{Reader}
 use Rattle.core_syntax.specs.Names.{CellNames}
 
+-- what the table says with the cells and the variables that a reader is within
 abbrev pub here : {A : Type 0} → Reader → (CellNames → List (List ℕ) → A) → A
 here r f = f r.cells.now r.scope
 

@@ -14,6 +14,7 @@ use Rattle.core_syntax.specs.Forms.{core_of, cores_from, body_of, bound_values, 
 use Rattle.core_syntax.specs.Rows.{Row}
 use Rattle.core_syntax.specs.Rows as row
 
+-- these names with one more in front, if there is one
 abbrev pub with_name : Option (List ℕ) → List (List ℕ) → List (List ℕ)
 with_name None names = names
 with_name (Some x) names = x ∷ names
@@ -85,6 +86,7 @@ prim_core cells scope in_page o vs = made (of_op o) (cores_from cells scope in_p
 abbrev pub both : CellNames → List (List ℕ) → Bool → Val → Val → Result (List (Core × Core)) SyntaxKind
 both cells scope in_page test chosen = pair (core_of cells scope in_page test) (core_of cells scope in_page chosen) >>= (λ p. Ok (p ∷ []))
 
+-- the tree of a row of the table, or the first fault in its parts
 abbrev pub core_in_row : CellNames → List (List ℕ) → Bool → Row → Result Core SyntaxKind
 core_in_row cells scope in_page (row.literal v) = Ok (lit v)
 core_in_row cells scope in_page (row.variable k) = Ok (var k)

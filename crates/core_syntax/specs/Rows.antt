@@ -17,6 +17,7 @@ use Rattle.core_syntax.specs.Shapes.{count_of, is_empty, is_word, bound_name, sy
 use Rattle.core_syntax.specs.Templates.{is_template}
 use Rattle.core_syntax.specs.Forms.{written}
 
+-- a form, with its parts as they stand in the text
 pub data Row : Type 0 where
   -- a literal, a variable by its place, and a template
   literal : Val → Row
@@ -50,6 +51,7 @@ abbrev pub only_part : Vals → Result Val SyntaxKind
 only_part (val v no_vals) = Ok v
 only_part _ = Err Shape
 
+-- whether each of these items is a binding `(x e)`
 abbrev pub are_bindings : Vals → Bool
 are_bindings no_vals = true
 are_bindings (val v vs) = is_some (bound_name v) && are_bindings vs
@@ -59,6 +61,7 @@ abbrev pub is_taken_name : CellNames → Option (List ℕ) → Bool
 is_taken_name cells None = false
 is_taken_name cells (Some x) = is_taken cells x
 
+-- whether one of these bindings has a name that no variable may have
 abbrev pub bind_taken : CellNames → Vals → Bool
 bind_taken cells no_vals = false
 bind_taken cells (val v vs) = is_taken_name cells (bound_name v) || bind_taken cells vs
@@ -69,10 +72,12 @@ bind_with cells bs body =
     if is_empty body || not (are_bindings bs) then Err Shape else
     if bind_taken cells bs then Err Duplicate else Ok (bs, body)
 
+-- the bindings and the body of a `let`, of its list of bindings, or the fault
 abbrev pub bound_by : CellNames → Val → Vals → Result (Vals × Vals) SyntaxKind
 bound_by cells (list bs) body = bind_with cells bs body
 bound_by cells _ body = Err Shape
 
+-- the bindings and the body of the parts `((x e) ..) b ..` of a `let`, or the fault
 abbrev pub bound_in : CellNames → Vals → Result (Vals × Vals) SyntaxKind
 bound_in cells no_vals = Err Shape
 bound_in cells (val v body) = bound_by cells v body
@@ -87,6 +92,7 @@ abbrev pub only_in : Val → Result Val SyntaxKind
 only_in (list vs) = only_part vs
 only_in _ = Err Shape
 
+-- the second of two parts, or the fault that they are not two
 abbrev pub second_of_two : Vals → Result Val SyntaxKind
 second_of_two (val x (val e no_vals)) = Ok e
 second_of_two _ = Err Shape
@@ -96,10 +102,12 @@ abbrev pub value_in : Val → Result Val SyntaxKind
 value_in (list vs) = second_of_two vs
 value_in _ = Err Shape
 
+-- the row of the parts of an `if`, which are three
 abbrev pub choice_in : Vals → Result Row SyntaxKind
 choice_in (val t (val a (val b no_vals))) = Ok (choice t a b)
 choice_in _ = Err Shape
 
+-- the row of the clauses of a `cond`, the last of which is its `else`, or the fault
 abbrev pub clauses_in : Vals → Result Row SyntaxKind
 clauses_in vs = if not (are_clauses vs) then Err Shape else if not (ends_in_else vs) then Err NoElse else Ok (clauses vs)
 
@@ -111,6 +119,7 @@ turns_by cells bindings body = do
   e ← value_in b
   Ok (turns x e body)
 
+-- the row of the parts `((x e)) b ..` of a `for/list`, or the fault
 abbrev pub turns_in : CellNames → Vals → Result Row SyntaxKind
 turns_in cells no_vals = Err Shape
 turns_in cells (val bindings body) = turns_by cells bindings body
@@ -120,18 +129,22 @@ abbrev pub cell_of : CellNames → CellKind → Option (List ℕ) → Result ℕ
 cell_of cells kind None = Err Shape
 cell_of cells kind (Some c) = cell_number kind cells c
 
+-- the number of the cell that a symbol names, or the fault
 abbrev pub cell_in : CellNames → CellKind → Val → Result ℕ SyntaxKind
 cell_in cells kind c = cell_of cells kind (symbol_in c)
 
+-- the row of a form that reads a cell by its name
 abbrev pub ref_in : CellNames → CellKind → Vals → Result Row SyntaxKind
 ref_in cells kind vs = do
   c ← only_part vs
   k ← cell_in cells kind c
   Ok (ref kind k)
 
+-- the row of a form that writes what an expression gives into a cell of a name
 abbrev pub store_by : CellNames → Store → Val → Val → Result Row SyntaxKind
 store_by cells kind c e = cell_in cells (written kind) c >>= (λ k. Ok (store kind k e))
 
+-- the row of the parts `c e` of a form that writes a cell
 abbrev pub store_in : CellNames → Store → Vals → Result Row SyntaxKind
 store_in cells kind (val c (val e no_vals)) = store_by cells kind c e
 store_in cells kind _ = Err Shape
@@ -143,17 +156,21 @@ function_by cells kind word parameters body = if not (is_word (codes "lambda") w
   x ← named cells (symbol_in u) body
   Ok (send kind x body))
 
+-- the row of a page that is sent by a function of these parts
 abbrev pub function_of : CellNames → SendKind → Vals → Result Row SyntaxKind
 function_of cells kind (val l (val p body)) = function_by cells kind l p body
 function_of cells kind _ = Err Shape
 
+-- the row of a page that is sent by the function `(lambda (u) b ..)`, or the fault for any other value
 abbrev pub function_in : CellNames → SendKind → Val → Result Row SyntaxKind
 function_in cells kind (list vs) = function_of cells kind vs
 function_in cells kind _ = Err Shape
 
+-- the row of the parts of a form that sends a page: one function
 abbrev pub send_in : CellNames → SendKind → Vals → Result Row SyntaxKind
 send_in cells kind vs = only_part vs >>= (λ f. function_in cells kind f)
 
+-- the row of a `quasiquote`, which has one template
 abbrev pub template_in : Vals → Result Row SyntaxKind
 template_in vs = only_part vs >>= (λ t. if is_template t then Ok (template t) else Err Shape)
 
@@ -162,12 +179,15 @@ abbrev pub outside_page : (in_page : Bool) → SyntaxKind → Result ⊤ SyntaxK
 outside_page true k = Err k
 outside_page false k = Ok tt
 
+-- the row of a variable by its name, or the fault that nothing binds it
 abbrev pub variable_in : List (List ℕ) → List ℕ → Result Row SyntaxKind
 variable_in scope x = or_fault Unbound (place_of x scope) >>= (λ k. Ok (variable k))
 
+-- the row of a `begin`, which has a part
 abbrev pub begin_in : Vals → Result Row SyntaxKind
 begin_in vs = if is_empty vs then Err Shape else Ok (begin vs)
 
+-- the row of an operation, where it takes so many operands
 abbrev pub apply_in : Op → Vals → Result Row SyntaxKind
 apply_in o vs = if takes o (count_of vs) then Ok (apply o vs) else Err Arity
 
@@ -204,6 +224,7 @@ row_by cells in_page (Some head.Isolate) vs = outside_page in_page NestedSend >>
 row_by cells in_page (Some head.Call) vs = outside_page in_page NestedSend >>= (λ _. call_in cells vs)
 row_by cells in_page (Some (head.Apply o)) vs = apply_in o vs
 
+-- the row of the list that has these items, or the fault
 abbrev pub row_in : CellNames → Bool → Vals → Result Row SyntaxKind
 row_in cells in_page no_vals = Err Shape
 row_in cells in_page (val w vs) = row_by cells in_page (head_in w) vs

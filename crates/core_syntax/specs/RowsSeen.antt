@@ -9,9 +9,11 @@ use Rattle.core_syntax.specs.declared.rows.Bound.{Bound}
 use Rattle.core_syntax.specs.Rows.{Row}
 use Rattle.core_syntax.specs.Rows as row
 
+-- the bindings and the body of a form that binds names
 abbrev pub bound_parts : Bound → Vals × Vals
 bound_parts b = (meanings b.bindings.now, meanings b.body.now)
 
+-- the row of the table that the program's row stands for
 abbrev pub row_seen : RowOf → Row
 row_seen (variant.Literal v) = row.literal (meaning v.now)
 row_seen (variant.Variable k) = row.variable k
@@ -37,5 +39,6 @@ abbrev pub seen : {A B : Type 0} → (A → B) → Result A SyntaxKind → Resul
 seen view (Ok x) = Ok (view x)
 seen view (Err k) = Err k
 
+-- the row of the table that the program found, or the fault
 abbrev pub seen_row : Result RowOf SyntaxKind → Result Row SyntaxKind
 seen_row result = seen row_seen result

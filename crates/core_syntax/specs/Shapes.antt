@@ -6,10 +6,12 @@ use Rattle.std.specs.Prelude.{ℕ, ◌+◌, ◌&&◌, Bool, true, false, List, [
 use Rattle.std.specs.Str.{bytes_eq}
 use Rattle.script_value.specs.Val.{Val, Vals, symbol, list, no_vals, val}
 
+-- how many items a list has
 abbrev pub count_of : Vals → ℕ
 count_of no_vals = 0
 count_of (val v vs) = count_of vs + 1
 
+-- whether a list has no item
 abbrev pub is_empty : Vals → Bool
 is_empty no_vals = true
 is_empty (val v vs) = false
@@ -24,14 +26,17 @@ abbrev pub begins : List ℕ → Vals → Bool
 begins word no_vals = false
 begins word (val v vs) = is_word word v
 
+-- whether a value is a list with this word at its head
 abbrev pub is_headed : List ℕ → Val → Bool
 is_headed word (list vs) = begins word vs
 is_headed word _ = false
 
+-- goes on with what there is, or has nothing
 abbrev pub on : {A B : Type 0} → Option A → (A → Option B) → Option B
 on None f = None
 on (Some x) f = f x
 
+-- the bytes of a symbol; none of another value
 abbrev pub symbol_in : Val → Option (List ℕ)
 symbol_in (symbol x) = Some x
 symbol_in _ = None
@@ -66,6 +71,7 @@ abbrev pub is_clause : Val → Bool
 is_clause (list (val t (val b bs))) = true
 is_clause _ = false
 
+-- whether each of these values is a clause of a `cond`
 abbrev pub are_clauses : Vals → Bool
 are_clauses no_vals = true
 are_clauses (val v vs) = is_clause v && are_clauses vs

@@ -7,6 +7,7 @@ use Rattle.core_syntax.specs.Shapes.{count_of, begins, is_headed}
 abbrev pub is_splice : Val → Bool
 is_splice v = is_headed (codes "unquote-splicing") v
 
+-- whether one of these items is an unquote-splicing
 abbrev pub has_splice : Vals → Bool
 has_splice no_vals = false
 has_splice (val v vs) = is_splice v || has_splice vs
@@ -24,6 +25,7 @@ abbrev mutual
       if begins (codes "unquote") vs then count_of vs == 2 else are_templates vs
   is_template _ = true
 
+  -- whether each of these items may stand in a template's list
   pub are_templates : Vals → Bool
   are_templates no_vals = true
   are_templates (val v vs) = (if is_splice v then is_mark_of_one v else is_template v) && are_templates vs
@@ -38,6 +40,7 @@ abbrev mutual
   is_plain (list vs) = not (begins (codes "unquote") vs || begins (codes "unquote-splicing") vs) && are_plain vs
   is_plain _ = true
 
+  -- whether no item has an unquote in it
   pub are_plain : Vals → Bool
   are_plain no_vals = true
   are_plain (val v vs) = is_plain v && are_plain vs

@@ -19,22 +19,27 @@ use Rattle.core_syntax.specs.Trees.{core_in, nested, chosen, pair_of}
 abbrev weight : Core → ℕ
 weight c = height c + 1
 
+-- each of these trees is lighter than a tree over all of them
 most_falls : (es : List Core) → most weight es ≤ suc (height_all (cores_of es))
 most_falls [] = omega arith
 most_falls (e ∷ es) = omega (arith, most_falls es)
 
+-- bindings one inside the other are no lower than each of their expressions and than their body
 nest_falls : (es : List Core) (b : Core) → max (most weight es) (height b) ≤ height (nest es b)
 nest_falls [] b = omega arith
 nest_falls (e ∷ es) b = omega (arith, nest_falls es b)
 
+-- bindings one inside the other, or a node that binds nothing, are higher than each expression and than the body
 nested_falls : (es : List Core) (b : Core) → max (most weight es) (weight b) ≤ height (nested es b)
 nested_falls [] b = omega arith
 nested_falls (e ∷ es) b = omega (arith, nest_falls es b)
 
+-- choices one inside the other are no lower than each of the choices and than the last alone
 choose_falls : (cs : List Choice) (o : Core) → max (most deep-Choice cs) (height o) ≤ height (choose (map pair_of cs) o)
 choose_falls [] o = omega arith
 choose_falls (c ∷ cs) o = omega (arith, choose_falls cs o)
 
+-- choices one inside the other, or the last alone in a node, are higher than each choice and than the last
 chosen_falls : (cs : List Choice) (o : Core) → max (most deep-Choice cs) (weight o) ≤ height (chosen (map pair_of cs) o)
 chosen_falls [] o = omega arith
 chosen_falls (c ∷ cs) o = omega (arith, choose_falls cs o)

@@ -11,6 +11,7 @@ use Rattle.core_syntax.specs.declared.tree.Choice.{Choice}
 use Rattle.script_nodes.specs.Core.{Core, no_cores, lit, var, bind, repeat, prim, seq, and_all, or_any, send, isolate, cores_of}
 use Rattle.core_syntax.specs.Forms.{ref, of_task, nest, choose, store, last_page}
 
+-- the test and the body of a choice
 abbrev pub pair_of : Choice → Core × Core
 pair_of c = (c.test, c.body)
 
@@ -39,6 +40,7 @@ over_part (single.Last kind) b = last_page kind b
 over_part single.Isolate b = isolate b
 over_part (single.Store kind c) e = store kind c e
 
+-- the tree of the core language that a tree of the program stands for
 abbrev pub core_in : Form → Core
 core_in (form.Lit v) = lit (meaning v)
 core_in (form.Var k) = var k

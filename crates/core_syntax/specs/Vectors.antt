@@ -22,10 +22,12 @@ cells = record { web = codes "w" ∷ codes "v" ∷ []; instance = codes "i" ∷ 
 abbrev tree : Val → Result Core SyntaxKind
 tree v = core_of cells [] false v
 
+-- the fault of an expression, if it has one
 abbrev fault_in : Result Core SyntaxKind → Option SyntaxKind
 fault_in (Ok c) = None
 fault_in (Err k) = Some k
 
+-- the fault of an expression outside all names, if it has one
 abbrev fault : Val → Option SyntaxKind
 fault v = fault_in (tree v)
 

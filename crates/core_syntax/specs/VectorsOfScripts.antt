@@ -11,10 +11,12 @@ use Rattle.core_syntax.specs.Heads.{syntax_of, page_form_of, number_operation_of
 use Rattle.core_syntax.specs.Definitions.{expanded, are_too_many}
 use Rattle.core_syntax.specs.Vectors.{form}
 
+-- the fault of a script, if it has one, with the number of its form
 abbrev fault_in : Result Script (SyntaxKind × ℕ) → Option (SyntaxKind × ℕ)
 fault_in (Ok s) = None
 fault_in (Err k) = Some k
 
+-- the fault of these forms as a script, if they have one, with its number
 abbrev fault : List Val → Option (SyntaxKind × ℕ)
 fault vs = fault_in (expanded vs)
 
@@ -149,10 +151,11 @@ pub quiz : expanded (form (symbol (codes "let") ∷ form (form (symbol (codes "b
 unfolding expanded syntax_of page_form_of number_operation_of test_of list_operation_of text_operation_of
 quiz = refl
 
--- `(define NAME (make-web-cell 0))` and `(define NAME (make-instance-cell 0))`
+-- `(define NAME (make-web-cell 0))`
 abbrev web_cell : List ℕ → Val
 web_cell name = form (symbol (codes "define") ∷ symbol name ∷ form (symbol (codes "make-web-cell") ∷ number (pos 0) ∷ []) ∷ [])
 
+-- `(define NAME (make-instance-cell 0))`
 abbrev instance_cell : List ℕ → Val
 instance_cell name = form (symbol (codes "define") ∷ symbol name ∷ form (symbol (codes "make-instance-cell") ∷ number (pos 0) ∷ []) ∷ [])
 
@@ -171,10 +174,12 @@ pub cells_64 : fault (cells_before 32 (number (pos 1) ∷ [])) ≡ None
 unfolding expanded syntax_of page_form_of number_operation_of test_of list_operation_of text_operation_of
 cells_64 = refl
 
+-- a 65th cell is one too many
 pub cells_65 : fault (cells_before 32 (web_cell (codes "e") ∷ number (pos 1) ∷ [])) ≡ Some (TooMany, 64)
 unfolding expanded syntax_of page_form_of number_operation_of test_of list_operation_of text_operation_of
 cells_65 = refl
 
+-- a 65th cell whose name is taken is refused for its name
 pub cells_65_duplicate : fault (cells_before 32 (web_cell (codes "c") ∷ number (pos 1) ∷ [])) ≡ Some (Duplicate, 64)
 unfolding expanded syntax_of page_form_of number_operation_of test_of list_operation_of text_operation_of
 cells_65_duplicate = refl
@@ -184,26 +189,31 @@ abbrev sums : ℕ → Val
 sums zero = form (symbol (codes "+") ∷ [])
 sums (suc n) = form (symbol (codes "+") ∷ sums n ∷ [])
 
+-- nodes may nest 1024 deep
 pub deepest : fault (sums 1023 ∷ []) ≡ None
 unfolding expanded syntax_of page_form_of number_operation_of test_of list_operation_of text_operation_of
 deepest = refl
 
+-- nodes that nest 1025 deep are too many
 pub too_deep : fault (sums 1024 ∷ []) ≡ Some (TooMany, 0)
 unfolding expanded syntax_of page_form_of number_operation_of test_of list_operation_of text_operation_of
 too_deep = refl
 
--- `(let* ((x 1) .. (x 1)) BODY)` with so many bindings
+-- so many bindings `(x 1)`
 abbrev bindings : ℕ → List Val
 bindings zero = []
 bindings (suc n) = form (symbol (codes "x") ∷ number (pos 1) ∷ []) ∷ bindings n
 
+-- a `let*` of so many bindings, with this body
 abbrev let_in_turn : ℕ → Val → Val
 let_in_turn n body = form (symbol (codes "let*") ∷ form (bindings n) ∷ body ∷ [])
 
+-- a `let*` may have 1023 bindings
 pub bindings_1023 : fault (let_in_turn 1023 (symbol (codes "x")) ∷ []) ≡ None
 unfolding expanded syntax_of page_form_of number_operation_of test_of list_operation_of text_operation_of
 bindings_1023 = refl
 
+-- a `let*` of 1024 bindings nests too deep
 pub bindings_1024 : fault (let_in_turn 1024 (symbol (codes "x")) ∷ []) ≡ Some (TooMany, 0)
 unfolding expanded syntax_of page_form_of number_operation_of test_of list_operation_of text_operation_of
 bindings_1024 = refl
@@ -213,26 +223,30 @@ pub bindings_1024_unbound : fault (let_in_turn 1024 (symbol (codes "y")) ∷ [])
 unfolding expanded syntax_of page_form_of number_operation_of test_of list_operation_of text_operation_of
 bindings_1024_unbound = refl
 
--- `(cond [1 2] .. [1 2] [else 3])` with so many clauses before its else
+-- so many clauses `[1 2]`, and then `[else 3]`
 abbrev clauses : ℕ → List Val
 clauses zero = form (symbol (codes "else") ∷ number (pos 3) ∷ []) ∷ []
 clauses (suc n) = form (number (pos 1) ∷ number (pos 2) ∷ []) ∷ clauses n
 
+-- a `cond` may have 1024 clauses
 pub clauses_1024 : fault (form (symbol (codes "cond") ∷ clauses 1023) ∷ []) ≡ None
 unfolding expanded syntax_of page_form_of number_operation_of test_of list_operation_of text_operation_of
 clauses_1024 = refl
 
+-- a `cond` of 1025 clauses nests too deep
 pub clauses_1025 : fault (form (symbol (codes "cond") ∷ clauses 1024) ∷ []) ≡ Some (TooMany, 0)
 unfolding expanded syntax_of page_form_of number_operation_of test_of list_operation_of text_operation_of
 clauses_1025 = refl
 
--- `(list 1 .. 1)` with so many operands
+-- so many literals 1
 abbrev ones : ℕ → List Core
 ones zero = []
 ones (suc n) = lit (number (pos 1)) ∷ ones n
 
+-- a script may have 16384 nodes
 pub nodes_16384 : are_too_many (cores_of ((prim op.List (cores_of (ones 16383))) ∷ [])) ≡ false
 nodes_16384 = refl
 
+-- a script of 16385 nodes has too many
 pub nodes_16385 : are_too_many (cores_of ((prim op.List (cores_of (ones 16384))) ∷ [])) ≡ true
 nodes_16385 = refl

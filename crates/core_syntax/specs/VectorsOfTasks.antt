@@ -10,35 +10,44 @@ use Rattle.core_syntax.specs.Heads.{syntax_of, page_form_of, number_operation_of
 use Rattle.core_syntax.specs.Definitions.{expanded}
 use Rattle.core_syntax.specs.Vectors.{form}
 
+-- the fault of a script, if it has one, with the number of its form
 abbrev fault_in : Result Script (SyntaxKind × ℕ) → Option (SyntaxKind × ℕ)
 fault_in (Ok s) = None
 fault_in (Err k) = Some k
 
+-- the fault of these forms as a script, if they have one, with its number
 abbrev fault : List Val → Option (SyntaxKind × ℕ)
 fault vs = fault_in (expanded vs)
 
+-- a symbol of these bytes
 abbrev sym : List ℕ → Val
 sym s = symbol s
 
+-- the number 1, as a body
 abbrev one : Val
 one = number (pos 1)
 
--- `(define-task (HEADING ..) BODY ..)`, `(call F E ..)`, `(define C (make-web-cell 1))`
+-- `(define-task (HEADING ..) BODY ..)`
 abbrev task : List Val → List Val → Val
 task heading body = form (sym (codes "define-task") ∷ form heading ∷ body)
 
+-- `(call F E ..)`
 abbrev calls : List ℕ → List Val → Val
 calls f es = form (sym (codes "call") ∷ sym f ∷ es)
 
+-- `(define C (make-web-cell 1))`
 abbrev cell : List ℕ → Val
 cell c = form (sym (codes "define") ∷ sym c ∷ form (sym (codes "make-web-cell") ∷ one ∷ []) ∷ [])
 
+-- the name of a task
 abbrev f : List ℕ
 f = codes "f"
 
+-- the name of another task
 abbrev g : List ℕ
 g = codes "g"
 
+-- the name of a parameter
 abbrev x : List ℕ
 x = codes "x"
 
@@ -116,6 +125,7 @@ abbrev names_of : ℕ → List ℕ → List Val
 names_of zero s = []
 names_of (suc n) s = sym s ∷ names_of n (s ++ codes "a")
 
+-- so many tasks, each with the body 1, whose names are this one with one `a` more after the other
 abbrev tasks_of : ℕ → List ℕ → List Val
 tasks_of zero s = one ∷ []
 tasks_of (suc n) s = task (sym s ∷ []) (one ∷ []) ∷ tasks_of n (s ++ codes "a")

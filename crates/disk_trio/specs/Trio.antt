@@ -92,7 +92,7 @@ trio_view {G = G} d = record {
 abbrev pub IsNoted : {D : Type 0} {G : Ghosts D} → (old new : Disks D G) → Type 0
 IsNoted old new = before new ≡ three_of old ∷ before old
 
--- the same three disks, of which as much is known
+-- a call left the three disks as they were, and as much of them is known
 pub record AreSame {D : Type 0} {G : Ghosts D} (old new : Disks D G) : Type 0 where
   pub current : new.current ≡ old.current
   pub other : new.other ≡ old.other

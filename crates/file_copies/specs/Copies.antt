@@ -25,7 +25,7 @@ copied plan drawn number (first ∷ bodies) = first ∷ (number ∷ picked plan 
 abbrev pub IsCopyOf : (plan : List Bool) → FileNotes → (number : List ℕ) → List (List ℕ) → (file : List ℕ) → Type 0
 IsCopyOf plan notes number bodies file = file ≡ at_rest (copied plan notes.drawn number bodies)
 
--- so do these bytes
+-- the bytes in memory are what is copied of these bodies
 abbrev pub IsCopyIn : (plan : List Bool) → FileNotes → (number : List ℕ) → List (List ℕ) → (file : Vec ℕ) → Type 0
 IsCopyIn plan notes number bodies file = IsCopyOf plan notes number bodies file.items
 
@@ -97,7 +97,7 @@ pub record IsFinished (c : Copier) (len : ℕ) (file : Vec ℕ) : Type 0 where
   pub closed : file.items ≡ c.file.items ++ 0 ∷ []
   pub long : length file.items ≡ len
 
--- so long is the next record, as its note tells, and it stays or not
+-- the next record is so long, as its note tells, and it stays or not
 abbrev pub IsComing : Copier → ℕ × Bool → Type 0
 IsComing c next =
     (n : Note) × ((slice_get c.notes.now c.next ≡ Some n) × ((next.0 ≡ length_in n) × (get_or c.plan.now c.next false ≡ next.1)))

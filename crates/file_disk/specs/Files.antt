@@ -39,5 +39,6 @@ Counts old new result = new ≡ record old { faults = faults_after result old.fa
 abbrev pub lost_after : {T E : Type 0} → Result T E → Bool → Bool
 lost_after result lost = lost || is_err result
 
+-- a file that tells no bytes promises nothing of them
 pub nothing_told : IsTrue false → ⊥
 nothing_told told = cc

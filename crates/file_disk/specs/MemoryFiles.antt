@@ -9,5 +9,6 @@ use Rattle.file_disk.specs.Files.{untold}
 abbrev pub faults_of : MemoryFile → ℕ
 faults_of file = min ((memory_view file.disk).faults + file.refused) (2 ^ 64 - 1)
 
+-- what contracts see of a disk in memory that tells no bytes, as a file does not
 abbrev pub memory_file_view : MemoryFile → View
 memory_file_view file = untold (faults_of file) (memory_view file.disk).ready (memory_view file.disk).end (memory_view file.disk).left

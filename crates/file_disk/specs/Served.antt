@@ -6,6 +6,7 @@ use Rattle.file_disk.specs.declared.served.ServedDisk.TheVariants.{Memory, File}
 use Rattle.file_disk.specs.Files.{file_view}
 use Rattle.file_disk.specs.MemoryFiles.{memory_file_view}
 
+-- what contracts see of a disk that a program is given, in memory or a file
 abbrev pub served_view : {R : Type 0} → ServedDisk R → View
 served_view (Memory disk) = memory_file_view disk
 served_view (File file) = file_view file.disk

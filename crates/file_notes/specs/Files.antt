@@ -82,7 +82,7 @@ pub record IsNoted (s : FileNotes) : Type 0 where
 abbrev pub HasRoom : Vec Note → Type 0
 HasRoom notes = length notes.items < vec_capacity notes
 
--- the same is known of the same file
+-- what is noted of a file stays as it was
 pub record StaysAsTold (old new : FileNotes) : Type 0 where
   pub file : file_in new ≡ file_in old
   pub notes : new.notes.items ≡ old.notes.items
@@ -97,7 +97,7 @@ StaysIn b n t = (all : List Named) → t ≡ stays_note (instances_of all b.inst
 abbrev pub IsPlanned : Book → List Note → List Bool → Type 0
 IsPlanned b notes plan = (all : List Named) → plan ≡ plan_in (instances_of all b.instances) notes
 
--- so does this list tell
+-- this list tells which records stay in the compacted file of this book
 abbrev pub IsPlan : Book → List Note → Vec Bool → Type 0
 IsPlan b notes plan = IsPlanned b notes plan.items
 

@@ -26,7 +26,7 @@ abbrev pub note_of : Line → Note
 note_of (changed c n) = note_by c n
 note_of (renewed scripts n) = Setup n
 
--- how long the body is
+-- how long the body of a noted record is
 abbrev pub length_in : Note → ℕ
 length_in (Instance number n) = n
 length_in (Freed n) = n

@@ -7,6 +7,7 @@ use Rattle.frame_codec.specs.Deltas as spec
 use Rattle.frame_codec.specs.Difference.{difference}
 use Rattle.frame_codec.specs.declared.difference.Delta.{Delta}
 
+-- what differs between two states, as the program's delta says it
 abbrev pub delta_of : Delta → spec.Delta
 delta_of d = record {
   env_shared = d.env_shared;

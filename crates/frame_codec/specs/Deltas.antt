@@ -85,6 +85,7 @@ IsSpellingOf bytes d = DeltaHasBytes d × (bytes ≡ delta_bytes d)
 abbrev pub DeltaParts : Type 0
 DeltaParts = ℕ × (List Val × (ℕ × (List Frame × List (ℕ × Val))))
 
+-- the counts and lists of a delta, as they follow each other in its bytes
 abbrev pub read_delta_parts : Arena → Reader DeltaParts
 read_delta_parts a bytes =
     read_both read_u32 (read_both read_values (read_both read_u32 (read_both (read_list (read_frame a)) (read_list read_shadow)))) bytes

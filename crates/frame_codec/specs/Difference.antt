@@ -84,6 +84,7 @@ abbrev pub is_difference : Arena → (parent : Suspended) → List ℕ → Delta
 is_difference a p bytes x =
     fits_short a (joined p x) && bytes_eq (delta_bytes (difference p (joined p x))) bytes
 
+-- a delta from this state, where it is one that would be written in these bytes
 abbrev pub if_difference : Arena → (parent : Suspended) → List ℕ → Option Delta → Option Delta
 if_difference a p bytes None = None
 if_difference a p bytes (Some x) = if is_difference a p bytes x then Some x else None
@@ -106,5 +107,6 @@ pub record AreDifferencesExact (a : Arena) (p : Suspended) : Type 0 where
       (d e : Suspended) (rest : List ℕ) → IsStored a d → IsStored a e → delta_bytes (difference p d) ++ rest ≡ delta_bytes (difference p e)
       → (difference p d ≡ difference p e) × (rest ≡ [])
 
+-- a state that is written as the delta from a state which fits is read back, and each delta has one spelling
 abbrev pub DifferencesAreExact : Type 0
 DifferencesAreExact = (a : Arena) (p : Suspended) → IsStored a p → AreDifferencesExact a p

@@ -30,12 +30,14 @@ abbrev pub let_frame : (bindings node part : ℕ) → (done : List Val) → Opti
 let_frame count n k done =
     if k == count then body_frame n k done else (if k == length done then Some (in_binding n done) else None)
 
+-- the frame of a `let`, with the values that are bound so far
 abbrev pub read_let : Arena → Reader Frame
 read_let a bytes = do
   x ← read_both read_u32 (read_both read_u32 read_values) bytes
   f ← let_frame (bindings_of a x.0.0) x.0.0 x.0.1.0 x.0.1.1
   Some (f, x.1)
 
+-- the node of a frame and the number of its part
 abbrev pub read_part : Reader (ℕ × ℕ)
 read_part bytes = read_both read_u32 read_u32 bytes
 
@@ -45,14 +47,17 @@ read_for_kind n kind rest =
     if kind == 0 then Some (in_count n, rest) else
     (if kind == 1 then seen_as (λ x. in_turn n x.0 x.1) (read_both read_u64 read_values rest) else None)
 
+-- the frame of a `for/list`, which waits for its count or for a turn
 abbrev pub read_for : Reader Frame
 read_for bytes = do
   x ← read_both read_u32 read_u8 bytes
   read_for_kind x.0.0 x.0.1 x.1
 
+-- the name of a transaction, by its ticket and its entry
 abbrev pub name_of : ℕ × ℕ → TxName
 name_of x = record { ticket = x.0; entry = x.1 }
 
+-- the frame of a transaction, with its name
 abbrev pub read_isolate : Reader Frame
 read_isolate bytes = seen_as (λ x. in_isolate x.0 (name_of x.1)) (read_both read_u32 (read_both read_u64 read_u32) bytes)
 

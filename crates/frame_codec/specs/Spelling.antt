@@ -19,6 +19,7 @@ let_bytes n k done = u32_bytes n ++ (u32_bytes k ++ values_bytes done)
 abbrev pub turn_bytes : (node turns : ℕ) → (done : List Val) → List ℕ
 turn_bytes n turns done = u32_bytes n ++ 1 ∷ (u64_bytes turns ++ values_bytes done)
 
+-- how the name of a transaction is written
 abbrev pub name_bytes : TxName → List ℕ
 name_bytes name = u64_bytes name.ticket ++ u32_bytes name.entry
 

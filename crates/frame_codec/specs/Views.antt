@@ -20,12 +20,15 @@ use Rattle.frame_codec.specs.Walk as spec
 use Rattle.frame_codec.specs.declared.fit.Place.{Place}
 use Rattle.frame_codec.specs.declared.read.Parts.{Parts}
 
+-- a place in a script, with how many variables it is within, as the program's value says it
 abbrev pub place_of : Place → spec.Place
 place_of p = record { node = p.node; scope = p.scope }
 
+-- the frames of a state, as the program's list has them
 abbrev pub frames_of : Vec Frame → List machine.Frame
 frames_of fs = map frame_of fs.items
 
+-- the bindings of web cells, each the number of a cell and its value
 abbrev pub shadows_of : Vec Shadow → List (ℕ × Val)
 shadows_of ss = map pair_of ss.items
 

@@ -75,9 +75,11 @@ walk a env p (f ∷ fs) = do
   next ← enters a (env_of env fs) p f
   walk a env next fs
 
+-- the place of a whole script, within no variable
 abbrev pub outermost : Place
 outermost = record { node = 0; scope = 0 }
 
+-- whether a node sends a page and waits for its answer
 abbrev pub is_send : Node → Bool
 is_send (node.Send kind body) = true
 is_send _ = false

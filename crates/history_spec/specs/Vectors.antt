@@ -9,9 +9,11 @@ use Rattle.history_spec.specs.Histories.{Entry, Owes, IsCounted, IsLegal}
 use Rattle.history_spec.specs.Laws.{take_of}
 use Rattle.history_spec.specs.Passes.{Makes}
 
+-- a ticket for a target without pairs, whose nonce is its number
 abbrev ticket : Destination → (number : ℕ) → Ticket
 ticket target n = record { target = target; answer = nothing; number = n; nonce = n }
 
+-- what one caller did and what it was answered
 abbrev does : (caller : ℕ) → Event → Reply → Entry
 does caller event reply = record { caller = caller; event = event; reply = reply }
 
@@ -21,9 +23,11 @@ open_shop =
     take_of 0 (ticket (start name) 0) ∷ does 0 (publish (ticket (start name) 0)) (link_to (codes "buy") 0 0)
     ∷ take_of 1 (ticket (at 0 0 0) 1) ∷ take_of 2 (ticket (at 0 0 0) 2) ∷ []
 
+-- a caller publishes a visit of the shop's page, which ends with these words
 abbrev buys : (caller number : ℕ) → (words : List ℕ) → Entry
 buys caller n words = does caller (publish (ticket (at 0 0 0) n)) (ended words)
 
+-- these entries are a legal history of a shelf that was opened with the shop
 abbrev Happens : List Entry → Type 0
 Happens es = IsLegal counted 0 0 (opened rules shop) es
 
@@ -47,6 +51,7 @@ sold_once = (
   ),
 )
 
+-- where caller 2 publishes first, the item is sold to it, and caller 1 is told that it is sold out
 pub sold_to_the_other : Happens (open_shop ++ buys 2 2 (codes "bought") ∷ buys 1 1 (codes "sold out") ∷ [])
 unfolding step
 sold_to_the_other = (
@@ -77,6 +82,7 @@ visited = record { front = (_, refl); legal = sold_to_the_other; own = refl }
 pub owes_what_it_took : Owes 1 (ticket (at 0 0 0) 1) open_shop
 owes_what_it_took = (0, omega arith, refl)
 
+-- a caller that has published a ticket owes it no more
 pub owes_no_more : Owes 1 (ticket (at 0 0 0) 1) (open_shop ++ buys 1 1 (codes "bought") ∷ []) → ⊥
 owes_no_more h = let within = h.1 in omega (arith, within)
 
@@ -92,10 +98,12 @@ not_twice words legal = let within = legal.1.1.1.1.1.0.comes.1 in omega (arith, 
 pub not_before : (words : List ℕ) → Happens (buys 1 1 words ∷ open_shop) → ⊥
 not_before words legal = let within = legal.0.comes.1 in omega (arith, within)
 
+-- the number of a ticket that a reply gives
 abbrev number_in : Reply → ℕ
 number_in (taken number nonce) = number
 number_in _ = 0
 
+-- the nonce of a ticket that a reply gives
 abbrev nonce_in : Reply → ℕ
 nonce_in (taken number nonce) = nonce
 nonce_in _ = 0
@@ -105,6 +113,7 @@ pub not_another_number : (nonce : ℕ) → Happens (does 0 (take (start name) no
 unfolding step
 not_another_number nonce legal = let same = ap number_in legal.0.answered in omega (arith, same)
 
+-- no take is given another nonce than the source's next
 pub not_another_nonce : (number : ℕ) → Happens (does 0 (take (start name) nothing) (taken number 1) ∷ []) → ⊥
 unfolding step
 not_another_nonce number legal = let same = ap nonce_in legal.0.answered in omega (arith, same)
@@ -122,11 +131,14 @@ no_crash caller reply legal = legal.0.comes
 pub counted_above : IsCounted 6 8 (disk_failed 7)
 counted_above = (inl (omega arith), omega arith)
 
+-- a count of faults that has met the last value stands still there
 pub counted_at_the_end : IsCounted 18446744073709551615 18446744073709551615 (disk_failed 18446744073709551615)
 counted_at_the_end = (inr refl, omega arith)
 
+-- a fault is not counted where the count did not rise above the one at the opening
 pub not_counted_before : IsCounted 7 8 (disk_failed 7) → ⊥
 not_counted_before h = elim h.0 [ inl above ↦ omega (arith, above) | inr last ↦ omega (arith, last) ]
 
+-- a fault is not counted above what the count is by now
 pub not_counted_later : IsCounted 6 8 (disk_failed 9) → ⊥
 not_counted_later h = let most = h.1 in omega (arith, most)

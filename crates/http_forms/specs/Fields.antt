@@ -15,10 +15,12 @@ values_of name [] = []
 values_of name (field ∷ fields) =
     if str_eq_ignore_ascii_case field.0 name then field.1 ∷ values_of name fields else values_of name fields
 
+-- whether a field has one value alone
 abbrev pub is_one : List (List ℕ) → Bool
 is_one (value ∷ []) = true
 is_one _ = false
 
+-- whether a field has no value
 abbrev pub is_none : List (List ℕ) → Bool
 is_none [] = true
 is_none (value ∷ values) = false
@@ -44,6 +46,7 @@ abbrev pub is_form : List (List ℕ) → Bool
 is_form (value ∷ []) = str_eq_ignore_ascii_case (media_type value) (codes "application/x-www-form-urlencoded")
 is_form _ = false
 
+-- whether a byte is a comma
 abbrev pub is_comma : ℕ → Bool
 is_comma b = b == 44
 
@@ -51,6 +54,7 @@ is_comma b = b == 44
 abbrev pub options : List ℕ → List (List ℕ)
 options value = map trim_ows (slice_split is_comma value)
 
+-- whether an option of a connection is `close`, in letters of either case
 abbrev pub is_close : List ℕ → Bool
 is_close option = str_eq_ignore_ascii_case option (codes "close")
 

@@ -3,6 +3,7 @@ use Rattle.std.specs.Prelude.{ℕ, suc, ◌-◌, ◌==◌, ◌&&◌, ◌||◌, B
 use Rattle.std.specs.Option.{option_or}
 use Rattle.std.specs.List.{count_by}
 
+-- whether a byte ends a line
 abbrev pub is_line_feed : ℕ → Bool
 is_line_feed b = b == 10
 

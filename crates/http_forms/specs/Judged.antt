@@ -13,6 +13,7 @@ use Rattle.http_forms.specs.declared.rows.Asked.{Asked}
 abbrev pub asked_of : (lines : List ℕ) → Asked → spec.Asked
 asked_of lines a = record { target = span_bytes lines a.target; posts = a.posts; length = a.length; closes = a.closes }
 
+-- what a head asks for, or why it is refused, as the program's verdict says it
 abbrev pub judged_of : (lines : List ℕ) → Result Asked Refused → Result spec.Asked Refused
 judged_of lines (Ok asked) = Ok (asked_of lines asked)
 judged_of lines (Err refused) = Err refused
@@ -22,6 +23,7 @@ abbrev pub length_of : Result spec.Asked Refused → Result ℕ Refused
 length_of (Ok asked) = Ok asked.length
 length_of (Err refused) = Err refused
 
+-- this is the length of the body that a head asks for, or why the head is refused
 pub record Measures (head : List ℕ) (result : Result ℕ Refused) : Type 0 where
   pub verdict : Result spec.Asked Refused
   pub judges : Judges head verdict

@@ -7,6 +7,7 @@ use Rattle.http_forms.specs.declared.refused.RequestFault.{RequestFault}
 use Rattle.http_forms.specs.declared.refused.RequestFault.TheVariants.{Memory, Refused}
 use Rattle.http_forms.specs.declared.request.Request.{Request}
 
+-- the visit that a request asks for: its target, its answer, its length, and whether it is the connection's last
 abbrev pub visit_in : Request → Outcome
 visit_in r = visits (record {
   destination = option_map target_of r.target;

@@ -15,9 +15,11 @@ pub record Asked : Type 0 where
   pub length : ℕ
   pub closes : Bool
 
+-- whether the method of a request is GET
 abbrev pub is_get : List ℕ → Bool
 is_get method = bytes_eq method (codes "GET")
 
+-- whether the method of a request is POST
 abbrev pub is_post : List ℕ → Bool
 is_post method = bytes_eq method (codes "POST")
 

@@ -24,6 +24,7 @@ use Rattle.http_forms.specs.Reply.{reply_text}
 use Rattle.http_forms.specs.declared.refused.Refused.TheVariants.{BadRequest, Head, Chunked, Method, Length, TooLarge, MediaType}
 use Rattle.http_forms.specs.declared.reply.Answer.TheVariants.{Reply, Refused}
 
+-- a head without a field ends with its empty line
 pub short_head : head_end (codes "GET / HTTP/1.0\r\n\r\nmore") ≡ Some 18
 short_head = refl
 
@@ -35,9 +36,11 @@ bare_feeds = refl
 pub blanks_before : head_end (codes "\r\n\n\r\nGET / HTTP/1.0\n\r\n") ≡ Some 22
 blanks_before = refl
 
+-- empty lines alone are no head
 pub only_blanks : head_end (codes "\r\n\n\r\n\n") ≡ None
 only_blanks = refl
 
+-- a head that lacks the last byte of its empty line has no end
 pub one_byte_short : head_end (codes "GET / HTTP/1.0\r\n\r") ≡ None
 one_byte_short = refl
 
@@ -45,13 +48,15 @@ one_byte_short = refl
 pub two_returns : head_end (codes "GET / HTTP/1.0\n\r\r\n") ≡ None
 two_returns = refl
 
+-- the lines of a head's fields are counted without empty lines before them
 pub two_fields : field_lines (without_blank (codes "\r\nGET / HTTP/1.1\r\nHost: h\r\nA: b\n\r\n")) ≡ 2
 two_fields = refl
 
--- a head with these fields, each line ended by CR LF
+-- a field of this name and value, whose line ends with CR LF
 abbrev field : (name value : List ℕ) → Field
 field name value = record { name = name; raw = 32 ∷ value; end = crlf }
 
+-- a head with this method, this target, this minor version and these fields
 abbrev head : (method target : List ℕ) → (minor : ℕ) → List Field → RequestHead
 head method target minor fields = record {
   blank = [];
@@ -63,25 +68,32 @@ head method target minor fields = record {
   last = crlf;
 }
 
+-- a field that names the host
 abbrev host : Field
 host = field (codes "Host") (codes "h")
 
+-- a field that says that the body is a form, in letters of both cases
 abbrev form : Field
 form = field (codes "content-TYPE") (codes "application/x-www-FORM-urlencoded ; charset=utf-8")
 
+-- a field that says the body's length in these digits
 abbrev sized : List ℕ → Field
 sized digits = field (codes "Content-Length") digits
 
+-- the head of an answer to a page by a form of three bytes
 abbrev answered : RequestHead
 answered = head (codes "POST") (codes "/servlets/all;0*0*0*0000000000000000?n=1") 1 (host ∷ form ∷ sized (codes "3") ∷ [])
 
+-- the head of an answer to a page has these bytes
 pub answered_bytes : print_request answered ≡ codes "POST /servlets/all;0*0*0*0000000000000000?n=1 HTTP/1.1\r\nHost: h\r\ncontent-TYPE: application/x-www-FORM-urlencoded ; charset=utf-8\r\nContent-Length: 3\r\n\r\n"
 unfolding httparse_on_literals
 answered_bytes = refl
 
+-- what the head of an answer to a page asks for
 abbrev asked : Asked
 asked = record { target = codes "/servlets/all;0*0*0*0000000000000000?n=1"; posts = true; length = 3; closes = false }
 
+-- the head of an answer to a page asks for its target, by a body of three bytes
 pub answered_verdict : head_verdict (Some answered) ≡ Ok asked
 unfolding httparse_on_literals
 answered_verdict = refl
@@ -103,21 +115,27 @@ pub pairs_in_order : answer_of (codes "a=b&&a=c") (codes "d&a=e=f")
 unfolding form_urlencoded_on_literals
 pairs_in_order = refl
 
+-- a request whose body has not yet come is unfinished
 pub body_short : with_head 40 (Ok asked) (codes "n=") false ≡ unfinished
 body_short = refl
 
+-- a request whose body was cut short is a bad one
 pub body_cut : with_head 40 (Ok asked) (codes "n=") true ≡ refused BadRequest
 body_cut = refl
 
+-- a connection that ends without a byte has no request
 pub nothing_at_all : without_head 0 true ≡ unfinished
 nothing_at_all = refl
 
+-- a head that was cut short is a bad request
 pub head_cut : without_head 16383 true ≡ refused BadRequest
 head_cut = refl
 
+-- a head of fewer than 16384 bytes may go on
 pub head_open : without_head 16383 false ≡ unfinished
 head_open = refl
 
+-- a head of 16384 bytes and more is too long
 pub head_long : without_head 16384 true ≡ refused Head
 head_long = refl
 
@@ -125,10 +143,12 @@ head_long = refl
 pub closes_at_0 : closes_by 0 [] ≡ true
 closes_at_0 = refl
 
+-- a connection stays open where no option is `close` by itself
 pub closes_not : closes_by 1 ((codes "connection", codes "closed, keep-alive") ∷ (codes "Conn", codes "close") ∷ []) ≡ false
 unfolding httparse_on_literals
 closes_not = refl
 
+-- a connection closes by one of several options, in letters of either case
 pub closes_by_option : closes_by 1 ((codes "connection", codes "a,\t Close ") ∷ (codes "Connection", codes "b") ∷ []) ≡ true
 unfolding httparse_on_literals
 closes_by_option = refl
@@ -137,38 +157,47 @@ closes_by_option = refl
 pub no_grammar : head_verdict None ≡ Err BadRequest
 no_grammar = refl
 
+-- a head of version 1.1 without a host is a bad request, before its body is looked at
 pub no_host : head_verdict (Some (head (codes "PUT") (codes "/") 1 (field (codes "Transfer-Encoding") (codes "chunked") ∷ []))) ≡ Err BadRequest
 unfolding httparse_on_literals
 no_host = refl
 
+-- a body in chunks is refused, before a bad length is
 pub chunked : head_verdict (Some (head (codes "PUT") (codes "/") 1 (host ∷ sized (codes "x") ∷ field (codes "transfer-encoding") [] ∷ []))) ≡ Err Chunked
 unfolding httparse_on_literals
 chunked = refl
 
+-- a length that is no number is a bad request, before the method is refused
 pub no_number : head_verdict (Some (head (codes "PUT") (codes "/") 1 (host ∷ sized (codes "+3") ∷ []))) ≡ Err BadRequest
 unfolding httparse_on_literals
 no_number = refl
 
+-- two lengths are a bad request, though they are the same
 pub two_lengths : head_verdict (Some (head (codes "PUT") (codes "/") 1 (host ∷ sized (codes "3") ∷ sized (codes "3") ∷ []))) ≡ Err BadRequest
 unfolding httparse_on_literals
 two_lengths = refl
 
+-- a method in small letters is refused, before a body that is too large is
 pub other_method : head_verdict (Some (head (codes "get") (codes "/") 1 (host ∷ sized (codes "99999") ∷ []))) ≡ Err Method
 unfolding httparse_on_literals
 other_method = refl
 
+-- a POST without a length is refused
 pub no_length : head_verdict (Some (head (codes "POST") (codes "/") 1 (host ∷ []))) ≡ Err Length
 unfolding httparse_on_literals
 no_length = refl
 
+-- a body of more than 65536 bytes is refused
 pub too_large : head_verdict (Some (head (codes "POST") (codes "/") 1 (host ∷ sized (codes "65537") ∷ []))) ≡ Err TooLarge
 unfolding httparse_on_literals
 too_large = refl
 
+-- a length of thirty digits is one that is too large
 pub thirty_digits : head_verdict (Some (head (codes "GET") (codes "/") 0 (sized (codes "999999999999999999999999999999") ∷ []))) ≡ Err TooLarge
 unfolding httparse_on_literals
 thirty_digits = refl
 
+-- a POST with two media types is refused
 pub two_types : head_verdict (Some (head (codes "POST") (codes "/") 1 (host ∷ sized (codes "3") ∷ form ∷ field (codes "Content-Type") (codes "text/plain") ∷ []))) ≡ Err MediaType
 unfolding httparse_on_literals
 two_types = refl
@@ -178,25 +207,30 @@ pub empty_body : head_verdict (Some (head (codes "POST") (codes "/") 1 (host ∷
 unfolding httparse_on_literals
 empty_body = refl
 
+-- a GET may have a body of 65536 bytes, and one of version 1.0 closes the connection
 pub get_with_body : head_verdict (Some (head (codes "GET") (codes "/") 0 (sized (codes "65536") ∷ []))) ≡ Ok (record { target = codes "/"; posts = false; length = 65536; closes = true })
 unfolding httparse_on_literals
 get_with_body = refl
 
+-- a page is answered with status 200 as HTML, and the connection closes where this is said
 pub a_page : reply_text (Reply (Ended (codes "<p>12</p>"))) true
     ≡ codes "HTTP/1.1 200 OK\r\nContent-Type: text/html; charset=utf-8\r\nContent-Length: 9\r\nConnection: close\r\n\r\n<p>12</p>"
 unfolding reply_text digits
 a_page = refl
 
+-- a fault is answered with status 500 and its word
 pub a_fault : reply_text (Reply (Fault Binding)) true
     ≡ codes "HTTP/1.1 500 Internal Server Error\r\nContent-Type: text/plain; charset=utf-8\r\nContent-Length: 8\r\nConnection: close\r\n\r\nbinding\n"
 unfolding reply_text digits
 a_fault = refl
 
+-- an expired page is answered with status 410 and its word, and the connection stays open where this is said
 pub an_old_page : reply_text (Reply (NotAdmitted (Expired 7))) false
     ≡ codes "HTTP/1.1 410 Gone\r\nContent-Type: text/plain; charset=utf-8\r\nContent-Length: 8\r\nConnection: keep-alive\r\n\r\nexpired\n"
 unfolding reply_text digits
 an_old_page = refl
 
+-- another method is answered with status 405, and with those that are allowed
 pub a_method : reply_text (Refused Method) true
     ≡ codes "HTTP/1.1 405 Method Not Allowed\r\nContent-Type: text/plain; charset=utf-8\r\nAllow: GET, POST\r\nContent-Length: 7\r\nConnection: close\r\n\r\nmethod\n"
 unfolding reply_text digits
@@ -204,13 +238,16 @@ a_method = refl
 
 -- ---- a link of two requests
 
+-- the head of a request for the root
 abbrev plain_head : RequestHead
 plain_head = head (codes "GET") (codes "/") 1 (host ∷ [])
 
+-- the path of the root is ASCII
 slash : IsAscii (codes "/")
 slash zero = omega arith
 slash (suc i) = IsAscii-nil i
 
+-- the head of a request for the root is one
 is_head : IsRequestHead plain_head
 unfolding httparse_on_literals is_token_byte
 is_head = record {
@@ -224,22 +261,28 @@ is_head = record {
   }) (All-nil IsField);
 }
 
+-- the visit that a request for the root is
 abbrev plain : Visit
 plain = record { destination = destination_of (codes "/"); answer = answer_of [] []; length = 27; closes = false }
 
+-- what the head of a request for the root asks for
 abbrev asked_of_it : Asked
 asked_of_it = record { target = codes "/"; posts = false; length = 0; closes = false }
 
+-- the bytes of a request for the root are judged so
 judged : Judges (codes "GET / HTTP/1.1\r\nHost: h\r\n\r\n") (Ok asked_of_it)
 unfolding httparse_on_literals
 judged = record { parsed = Some plain_head; grammar = (is_head, refl); is = refl }
 
+-- two whole requests for the root and the beginning of a third one, as a connection brings them
 abbrev link : List ℕ
 link = codes "GET / HTTP/1.1\r\nHost: h\r\n\r\nGET / HTTP/1.1\r\nHost: h\r\n\r\nGET"
 
+-- of two requests on a connection the first is decided by its own bytes
 first_of_two : (ended : Bool) → Decides link ended (visits plain)
 first_of_two ended = (Ok asked_of_it, judged, refl)
 
+-- of two requests on a connection the second is decided by what follows the first
 second_of_two : (ended : Bool) → Decides (codes "GET / HTTP/1.1\r\nHost: h\r\n\r\nGET") ended (visits plain)
 second_of_two ended = (Ok asked_of_it, judged, refl)
 

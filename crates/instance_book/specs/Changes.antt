@@ -153,6 +153,7 @@ HasStateIn all shelf is (Opens o) = OpensKept all shelf o
 HasStateIn all shelf is (Extends x) = IsNextAt shelf is x.instance x.show.page
 HasStateIn all shelf is _ = ⊤
 
+-- the new page of a change, if there is one, has its state, in this shelf of these instances
 abbrev pub HasStateFrom : List Named → Source ℕ → List spec.Instance → Option Change → Type 0
 HasStateFrom all shelf is None = ⊤
 HasStateFrom all shelf is (Some c) = HasStateIn all shelf is c

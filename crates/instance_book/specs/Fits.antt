@@ -14,6 +14,7 @@ abbrev pub FitsScript : Arena → Option Suspended → Type 0
 FitsScript a None = ⊤
 FitsScript a (Some d) = Fits a d
 
+-- what a ticket goes on from, if anything, fits this script of the setup
 abbrev pub IsOriginOf : Named → Origin → Type 0
 IsOriginOf s from = FitsScript (arena_of s.script) (origin_of from)
 
@@ -22,5 +23,6 @@ abbrev pub IsStoredScript : Arena → Option Suspended → Type 0
 IsStoredScript a None = ⊤
 IsStoredScript a (Some d) = IsStored a d
 
+-- what a ticket goes on from, if anything, is a state of this script of the setup that can be written
 abbrev pub IsStoredOrigin : Named → Origin → Type 0
 IsStoredOrigin s from = IsStoredScript (arena_of s.script) (origin_of from)

@@ -43,9 +43,11 @@ abbrev pub MakesUnder : (Library → spec.Book → spec.Book) → (old new : Boo
 MakesUnder f old new =
     (library : Library) (beside : Beside) → book_of library beside new ≡ f library (book_of library beside old)
 
+-- a call made of a book what this function makes of it, by the same library
 abbrev pub Makes : (spec.Book → spec.Book) → (old new : Book) → Type 0
 Makes f old new = MakesUnder (λ library. f) old new
 
+-- a call left a book as it was
 abbrev pub StaysSame : (old new : Book) → Type 0
 StaysSame old new = Makes (λ b. b) old new
 

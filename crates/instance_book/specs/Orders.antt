@@ -6,6 +6,7 @@ use Rattle.instance_book.specs.declared.numbered.Numbered.{Numbered}
 abbrev pub Rises : List ℕ → Type 0
 Rises ns = (j k : ℕ) → j < k → k < length ns → slice_index ns j < slice_index ns k
 
+-- the numbers of numbered things, in their order
 abbrev pub numbers_of : {T : Type 0} → List (Numbered T) → List ℕ
 numbers_of things = map (λ thing. thing.number) things
 

@@ -98,6 +98,7 @@ pub data Source (A : Type 0) : Type 0 where
   own : A → Source A
   given : (ℕ → Option Suspended) → Source A
 
+-- a source of states, seen from somewhere else; states that are given stay so
 abbrev pub seen_from : {A B : Type 0} → (A → B) → Source A → Source B
 seen_from f (own x) = own (f x)
 seen_from f (given states) = given states
@@ -131,6 +132,7 @@ pub record HasState (s : Named) (h : Source Home) (ps : List spec.Page) (p : spe
   pub bytes : StateHasBytes state
   pub kept : IsKeptBehind s h lineage.ancestors state k
 
+-- each of these pages has its state, of an instance with this script
 abbrev pub HaveStates : Named → Source Home → List spec.Page → List (spec.Page × Kept) → Type 0
 HaveStates s h ps xs = AllByRecursion (λ x. HasState s h ps x.0 x.1) xs
 

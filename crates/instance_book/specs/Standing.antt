@@ -17,6 +17,7 @@ use Rattle.instance_book.specs.Views.{page_of, pages_of, mark_of, marks_of, inst
 use Rattle.instance_book.specs.Places.{Source, source_in, kept_at, shown_in, HasState, HaveStates}
 use Rattle.instance_book.specs.Makes.{shelf_from, HasStatesFrom}
 
+-- an instance and a page of it, as the program's place names them
 abbrev pub place_of : List Named → Place → spec.Place
 place_of all p = record { instance = instance_of all p.instance.now; page = page_of p.page.now }
 

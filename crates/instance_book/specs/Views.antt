@@ -15,6 +15,7 @@ use Rattle.instance_book.specs.declared.book.Book.{Book}
 use Rattle.instance_book.specs.Orders.{numbers_of}
 use Rattle.instance_book.specs.Lists.{HasRoom}
 
+-- the page that the program's record of a page stands for
 abbrev pub page_of : Numbered KeptPage → spec.Page
 page_of p = record {
   number = p.number;
@@ -26,6 +27,7 @@ page_of p = record {
   deadline = p.item.deadline;
 }
 
+-- the pages that the program's row of pages stands for
 abbrev pub pages_of : InOrder KeptPage → List spec.Page
 pages_of ps = map page_of ps.things.items
 
@@ -33,6 +35,7 @@ pages_of ps = map page_of ps.things.items
 abbrev pub mark_of : Numbered KeptPage → Mark
 mark_of p = record { number = p.number; last = p.item.last; gone = p.item.gone }
 
+-- what a choice among an instance's pages looks at of each
 abbrev pub marks_of : InOrder KeptPage → List Mark
 marks_of ps = map mark_of ps.things.items
 
@@ -40,7 +43,7 @@ marks_of ps = map mark_of ps.things.items
 abbrev pub used_of : InOrder KeptPage → List spec.Use
 used_of ps = uses_of (marks_of ps)
 
--- the evictions of those that are
+-- the evictions of the pages that were evicted
 abbrev pub evicted_of : InOrder KeptPage → List spec.Eviction
 evicted_of ps = evictions_of (marks_of ps)
 
@@ -65,9 +68,11 @@ instance_with all n i = record {
   pages = pages_of i.pages;
 }
 
+-- the instance that the program's record stands for, with the script of its place among all
 abbrev pub instance_of : List Named → Numbered KeptInstance → spec.Instance
 instance_of all i = instance_with all i.number i.item
 
+-- the instances that the program's row stands for, each with its script
 abbrev pub instances_of : List Named → InOrder KeptInstance → List spec.Instance
 instances_of all is = map (instance_of all) is.things.items
 

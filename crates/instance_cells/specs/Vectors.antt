@@ -12,9 +12,11 @@ cells = number (pos 1) ∷ text (codes "none") ∷ []
 abbrev purchase : List Effect
 purchase = read 0 (number (pos 1)) ∷ add 0 (negsuc 0) ∷ []
 
+-- a purchase takes one of the item
 pub a_purchase : commit purchase cells ≡ number (pos 0) ∷ text (codes "none") ∷ []
 a_purchase = refl
 
+-- a purchase read how many there were
 pub what_it_read : reads_of purchase ≡ number (pos 1) ∷ []
 what_it_read = refl
 
@@ -26,14 +28,18 @@ an_add_after_a_set = refl
 pub greatest : sum (number (pos (2 ^ 63 - 2))) (pos 1) ≡ Ok (number (pos (2 ^ 63 - 1)))
 greatest = refl
 
+-- an add past the greatest number is the fault of an overflow
 pub past_the_greatest : sum (number (pos (2 ^ 63 - 1))) (pos 1) ≡ Err Overflow
 past_the_greatest = refl
 
+-- an add may give the least number
 pub least : sum (number (negsuc (2 ^ 63 - 2))) (negsuc 0) ≡ Ok (number (negsuc (2 ^ 63 - 1)))
 least = refl
 
+-- an add past the least number is the fault of an overflow
 pub past_the_least : sum (number (negsuc (2 ^ 63 - 1))) (negsuc 0) ≡ Err Overflow
 past_the_least = refl
 
+-- an add to a text is the fault of a wrong type
 pub an_add_to_a_text : sum (text (codes "1")) (pos 1) ≡ Err WrongType
 an_add_to_a_text = refl

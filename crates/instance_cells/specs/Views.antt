@@ -13,11 +13,13 @@ use Rattle.instance_cells.specs.declared.effect.Seen.TheVariants.{Here, Sum}
 use Rattle.instance_cells.specs.declared.trail.AddFault.{AddFault}
 use Rattle.instance_cells.specs.declared.trail.AddFault.TheVariants.{Memory, Fault as FaultOf}
 
+-- the effect on an instance's cells that the program's value stands for
 abbrev pub effect_of : Effect → spec.Effect
 effect_of (Read c v) = spec.read c (meaning v)
 effect_of (Set c v) = spec.set c (meaning v)
 effect_of (Add c n) = spec.add c n
 
+-- the value that a segment sees in a cell, as the program keeps it
 abbrev pub seen_of : Seen → Val
 seen_of (Here v) = meaning v.now
 seen_of (Sum n) = number n

@@ -65,18 +65,22 @@ start_front = 2 ∷ (u64_bytes 0 ++ (u64_bytes 5 ++ (origin_bytes (start 0) ++ (
 abbrev started : Record
 started = changes (opens (record { number = 0; nonce = 5; script = 0; effects = []; left = []; kind = Suspend; deadline = 3600; evicted = [] })) (Some [])
 
+-- in format 1 the fields of a start are read without the bytes of a state
 in_1 : read_record_in 1 start_front ≡ Some started
 unfolding read_record_in read_within
 in_1 = refl
 
+-- in format 3 the bytes of a state follow the fields of a start
 in_3 : read_record_in 3 (start_front ++ 0 ∷ 0 ∷ 0 ∷ 0 ∷ []) ≡ Some started
 unfolding read_record_in read_within
 in_3 = refl
 
+-- in format 6 the pages that went follow the fields of a start, and then the bytes of a state
 in_6 : read_record_in 6 (start_front ++ 0 ∷ 0 ∷ 0 ∷ 0 ∷ 0 ∷ 0 ∷ 0 ∷ 0 ∷ []) ≡ Some started
 unfolding read_record_in read_within
 in_6 = refl
 
+-- in format 6 a start is no record that lacks one of both
 not_in_6 : read_record_in 6 (start_front ++ 0 ∷ 0 ∷ 0 ∷ 0 ∷ []) ≡ None
 unfolding read_record_in read_within
 not_in_6 = refl
@@ -86,6 +90,7 @@ no_texts_in_3 : read_record_in 3 (body_of (renews [])) ≡ None
 unfolding read_record_in
 no_texts_in_3 = refl
 
+-- in format 4 numbers that were drawn are no record
 no_drawn_in_4 : read_record_in 4 (body_of (draws 3)) ≡ None
 unfolding read_record_in
 no_drawn_in_4 = refl

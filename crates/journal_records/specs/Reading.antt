@@ -34,12 +34,15 @@ read_number bytes = read_below numbers_end bytes
 abbrev pub read_drawn : Reader ℕ
 read_drawn bytes = read_below (numbers_end + 1) bytes
 
+-- a deadline, which is below the end of those that can be told
 abbrev pub read_deadline : Reader ℕ
 read_deadline bytes = read_below deadlines_end bytes
 
+-- the name of a transaction, of its ticket and its entry
 abbrev pub name_from : ℕ × ℕ → TxName
 name_from x = record { ticket = x.0; entry = x.1 }
 
+-- the name of a transaction
 abbrev pub read_name : Reader TxName
 read_name bytes = seen_as name_from ((read_u64 then read_u32) bytes)
 
@@ -50,15 +53,18 @@ read_effect_of kind cell bytes =
     (if kind == 1 then seen_as (set cell) (read_value bytes) else
     (if kind == 2 then seen_as (add cell) (read_i64 bytes) else None))
 
+-- an effect on a cell: its kind, its cell, and the value or the number
 abbrev pub read_effect : Reader Effect
 read_effect bytes = do
   kind ← read_u8 bytes
   cell ← read_u8 kind.1
   read_effect_of kind.0 cell.0 cell.1
 
+-- how a page was sent, by the byte that says it
 abbrev pub send_of : ℕ → Option SendKind
 send_of kind = if kind == 0 then Some Suspend else (if kind == 1 then Some Forward else None)
 
+-- how a page was sent
 abbrev pub read_send : Reader SendKind
 read_send bytes = do
   kind ← read_u8 bytes
@@ -74,11 +80,13 @@ is_nothing (symbol s) = false
 is_nothing (list no_vals) = true
 is_nothing (list (val v vs)) = false
 
+-- the empty list, which is the answer of a start
 abbrev pub read_nothing : Reader Val
 read_nothing bytes = do
   v ← read_value bytes
   if is_nothing v.0 then Some v else None
 
+-- a start of a script, of the script's place and of the answer that it has
 abbrev pub start_from : ℕ × Val → Origin
 start_from x = start x.0
 
@@ -86,28 +94,35 @@ start_from x = start x.0
 abbrev pub read_answered : Reader (ℕ × (ℕ × Val))
 read_answered bytes = (read_number then (read_number then read_value)) bytes
 
+-- the answer to a page, of the instance, the page and the answer
 abbrev pub answered_from : ℕ × (ℕ × Val) → Origin
 answered_from x = answered x.0 x.1.0 x.1.1
 
+-- where a segment began, of the kind that its first byte says
 abbrev pub read_origin_of : ℕ → Reader Origin
 read_origin_of kind bytes =
     if kind == 0 then seen_as start_from ((read_u8 then read_nothing) bytes) else
     (if kind == 1 then seen_as answered_from (read_answered bytes) else None)
 
+-- where a segment began: at a start, or at an answer to a page
 abbrev pub read_origin : Reader Origin
 read_origin bytes = do
   kind ← read_u8 bytes
   read_origin_of kind.0 kind.1
 
+-- effects on cells, after their count
 abbrev pub read_effects : Reader (List Effect)
 read_effects bytes = read_list read_effect bytes
 
+-- names of transactions, after their count
 abbrev pub read_names : Reader (List TxName)
 read_names bytes = read_list read_name bytes
 
+-- the fields of a page, in the order in which they are written
 abbrev pub PageParts : Type 0
 PageParts = ℕ × (ℕ × (Origin × (List Effect × (List TxName × (SendKind × (ℕ × (List ℕ × List ℕ)))))))
 
+-- a page, of its fields
 abbrev pub page_from : PageParts → Page
 page_from x = record {
   ticket = x.0;
@@ -121,14 +136,17 @@ page_from x = record {
   state = x.1.1.1.1.1.1.1.1;
 }
 
+-- a page, as it is written in the newest format
 abbrev pub read_page : Reader Page
 read_page bytes =
     seen_as page_from
     ((read_number then (read_u64 then (read_origin then (read_effects then (read_names then (read_send then (read_deadline then (read_list read_number then read_bytes)))))))) bytes)
 
+-- the fields of an answer with a last page, in the order in which they are written
 abbrev pub EndingParts : Type 0
 EndingParts = ℕ × (ℕ × (ℕ × (Val × (List Effect × List TxName))))
 
+-- an answer with a last page, of its fields
 abbrev pub ending_from : EndingParts → Ending
 ending_from x = record {
   number = x.0;
@@ -139,25 +157,32 @@ ending_from x = record {
   left = x.1.1.1.1.1;
 }
 
+-- an answer with a last page
 abbrev pub read_ending : Reader Ending
 read_ending bytes =
     seen_as ending_from ((read_number then (read_number then (read_number then (read_value then (read_effects then read_names))))) bytes)
 
+-- the fields of an answer that freed its instance, in the order in which they are written
 abbrev pub FinishParts : Type 0
 FinishParts = ℕ × (ℕ × (ℕ × (Val × List Effect)))
 
+-- an answer that freed its instance, of its fields
 abbrev pub finish_from : FinishParts → Finish
 finish_from x = record { number = x.0; instance = x.1.0; page = x.1.1.0; answer = x.1.1.1.0; effects = x.1.1.1.1 }
 
+-- an answer that freed its instance
 abbrev pub read_finish : Reader Finish
 read_finish bytes = seen_as finish_from ((read_number then (read_number then (read_number then (read_value then read_effects)))) bytes)
 
+-- the name and the text of a script of the setup
 abbrev pub read_script : Reader (List ℕ × List ℕ)
 read_script bytes = (read_bytes then read_bytes) bytes
 
+-- the record that begins a file, of the shelf and the setup
 abbrev pub begins_from : ℕ × List (List ℕ × List ℕ) → Record
 begins_from x = begins x.0 x.1
 
+-- the record that begins a file
 abbrev pub read_begins : Reader Record
 read_begins bytes = seen_as begins_from ((read_u32 then read_list read_script) bytes)
 
@@ -186,6 +211,7 @@ change_from ticket nonce (answered instance page answer) effects left kind deadl
   evicted = evicted;
 })
 
+-- the change that a page makes of a book: it opens an instance or extends one
 abbrev pub page_change : Page → Change
 page_change p = change_from p.ticket p.nonce p.origin p.effects p.left p.kind p.deadline p.evicted
 

@@ -32,6 +32,7 @@ pub record Page : Type 0 where
   pub evicted : List ℕ
   pub state : List ℕ
 
+-- the page that is written of an instance's opening, with these bytes as its state
 abbrev pub opening_page : Opening → (state : List ℕ) → Page
 opening_page o state = record {
   ticket = o.number;
@@ -45,6 +46,7 @@ opening_page o state = record {
   state = state;
 }
 
+-- the page that is written where an instance goes on, with these bytes as its state
 abbrev pub extension_page : Extension → (state : List ℕ) → Page
 extension_page e state = record {
   ticket = e.number;
@@ -77,6 +79,7 @@ page_bytes p =
 abbrev pub IsNumber : ℕ → Type 0
 IsNumber n = n < numbers_end
 
+-- a page can be written
 pub record PageFits (p : Page) : Type 0 where
   pub ticket : p.ticket < numbers_end
   pub nonce : p.nonce < 2 ^ 64
@@ -92,6 +95,7 @@ abbrev pub ending_bytes : Ending → List ℕ
 ending_bytes e =
     u64_bytes e.number ++ (u64_bytes e.instance ++ (u64_bytes e.page ++ (value_bytes e.answer ++ (effects_bytes e.effects ++ names_bytes e.left))))
 
+-- an answer with a last page can be written
 pub record EndingFits (e : Ending) : Type 0 where
   pub ticket : e.number < numbers_end
   pub answered : AnswerFits e.instance e.page e.answer
@@ -103,6 +107,7 @@ abbrev pub finish_bytes : Finish → List ℕ
 finish_bytes f =
     u64_bytes f.number ++ (u64_bytes f.instance ++ (u64_bytes f.page ++ (value_bytes f.answer ++ effects_bytes f.effects)))
 
+-- an answer that freed its instance can be written
 pub record FinishFits (f : Finish) : Type 0 where
   pub ticket : f.number < numbers_end
   pub answered : AnswerFits f.instance f.page f.answer

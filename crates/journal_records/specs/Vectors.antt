@@ -20,21 +20,25 @@ fronts (b ∷ bytes) = [] ∷ map (λ front. b ∷ front) (fronts bytes)
 abbrev is_whole : List ℕ → Bool
 is_whole bytes = list_all (λ front. not (is_some (read_record front))) (fronts bytes)
 
--- the clock goes on to 50
+-- the body of the record of a tick to 50
 abbrev sweep_body : List ℕ
 sweep_body = 5 ∷ 50 ∷ 0 ∷ 0 ∷ 0 ∷ 0 ∷ 0 ∷ 0 ∷ 0 ∷ []
 
+-- the record of a tick is written as these bytes
 sweep : body_of (changes (sweeps 50) None) ≡ sweep_body
 sweep = refl
 
+-- the bytes of a tick's record are read as this record
 sweep_is_read : read_record sweep_body ≡ Some (changes (sweeps 50) None)
 unfolding read_record
 sweep_is_read = refl
 
+-- no front of the bytes of a tick's record is a record
 short_sweep : is_whole sweep_body ≡ true
 unfolding read_record
 short_sweep = refl
 
+-- the bytes of a tick's record and one more are no record
 long_sweep : read_record (sweep_body ++ 0 ∷ []) ≡ None
 unfolding read_record
 long_sweep = refl
@@ -44,6 +48,7 @@ late_sweep : read_record (5 ∷ 0 ∷ 0 ∷ 0 ∷ 0 ∷ 0 ∷ 0 ∷ 0 ∷ 64 ∷
 unfolding read_record
 late_sweep = refl
 
+-- the greatest tick that a record tells is 2^62 - 1
 last_sweep : read_record (5 ∷ 255 ∷ 255 ∷ 255 ∷ 255 ∷ 255 ∷ 255 ∷ 255 ∷ 63 ∷ []) ≡ Some (changes (sweeps (2 ^ 62 - 1)) None)
 unfolding read_record
 last_sweep = refl
@@ -56,17 +61,20 @@ begin = refl
 begun : (s : Script) → begun_length 0 (record { name = codes "ten"; text = codes "'(p \"12345\")"; script = s } ∷ []) ≡ 46
 begun s = refl
 
--- one script, `a`, with the text 7
+-- the body of the first record of a file with one script, `a`, whose text is 7
 abbrev begin_body : List ℕ
 begin_body = 1 ∷ 2 ∷ 0 ∷ 0 ∷ 0 ∷ 1 ∷ 0 ∷ 0 ∷ 0 ∷ 1 ∷ 0 ∷ 0 ∷ 0 ∷ 97 ∷ 1 ∷ 0 ∷ 0 ∷ 0 ∷ 55 ∷ []
 
+-- the first record of a file is written as these bytes
 short_begin_body : body_of (begins 2 ((codes "a", codes "7") ∷ [])) ≡ begin_body
 short_begin_body = refl
 
+-- the bytes of a file's first record are read as this record
 begin_is_read : read_record begin_body ≡ Some (begins 2 ((codes "a", codes "7") ∷ []))
 unfolding read_record
 begin_is_read = refl
 
+-- no front of the bytes of a file's first record is a record
 short_begin : is_whole begin_body ≡ true
 unfolding read_record
 short_begin = refl
@@ -84,23 +92,28 @@ start = changes (opens (record {
   evicted = [];
 })) (Some (8 ∷ 9 ∷ []))
 
+-- the body of a start's record
 abbrev start_body : List ℕ
 start_body =
     (2 ∷ 3 ∷ 0 ∷ 0 ∷ 0 ∷ 0 ∷ 0 ∷ 0 ∷ 0 ∷ 7 ∷ 0 ∷ 0 ∷ 0 ∷ 0 ∷ 0 ∷ 0 ∷ 0 ∷ 0 ∷ 1 ∷ 5 ∷ 0 ∷ 0 ∷ 0 ∷ 0 ∷ [])
     ++ (2 ∷ 0 ∷ 0 ∷ 0 ∷ 0 ∷ 0 ∷ 2 ∷ 2 ∷ 2 ∷ 255 ∷ 255 ∷ 255 ∷ 255 ∷ 255 ∷ 255 ∷ 255 ∷ 255 ∷ [])
     ++ (0 ∷ 0 ∷ 0 ∷ 0 ∷ 0 ∷ 128 ∷ 81 ∷ 1 ∷ 0 ∷ 0 ∷ 0 ∷ 0 ∷ 0 ∷ 0 ∷ 0 ∷ 0 ∷ 0 ∷ 2 ∷ 0 ∷ 0 ∷ 0 ∷ 8 ∷ 9 ∷ [])
 
+-- the record of a start is written as these bytes
 a_start : body_of start ≡ start_body
 a_start = refl
 
+-- the bytes of a start's record are read as this record
 a_start_is_read : read_record start_body ≡ Some start
 unfolding read_record read_within
 a_start_is_read = refl
 
+-- no front of the bytes of a start's record is a record
 a_short_start : is_whole start_body ≡ true
 unfolding read_record read_within
 a_short_start = refl
 
+-- the bytes of a start's record and one more are no record
 a_long_start : read_record (start_body ++ 0 ∷ []) ≡ None
 unfolding read_record read_within
 a_long_start = refl
@@ -120,6 +133,7 @@ answer = changes (extends (record {
   evicted = 0 ∷ 4 ∷ [];
 })) (Some [])
 
+-- the body of the record of an answer that shows a page
 abbrev answer_body : List ℕ
 answer_body =
     (2 ∷ 5 ∷ 0 ∷ 0 ∷ 0 ∷ 0 ∷ 0 ∷ 0 ∷ 0 ∷ 2 ∷ 1 ∷ 0 ∷ 0 ∷ 0 ∷ 0 ∷ 0 ∷ 0 ∷ [])
@@ -130,14 +144,17 @@ answer_body =
     ++ (2 ∷ 0 ∷ 0 ∷ 0 ∷ 0 ∷ 0 ∷ 0 ∷ 0 ∷ 0 ∷ 0 ∷ 0 ∷ 0 ∷ 4 ∷ 0 ∷ 0 ∷ 0 ∷ 0 ∷ 0 ∷ 0 ∷ 0 ∷ [])
     ++ (0 ∷ 0 ∷ 0 ∷ 0 ∷ [])
 
+-- the record of an answer that shows a page is written as these bytes
 an_answer : body_of answer ≡ answer_body
 unfolding name_bytes
 an_answer = refl
 
+-- the bytes of the record of an answer are read as this record
 an_answer_is_read : read_record answer_body ≡ Some answer
 unfolding read_record read_within
 an_answer_is_read = refl
 
+-- no front of the bytes of the record of an answer is a record
 a_short_answer : is_whole answer_body ≡ true
 unfolding read_record read_within
 a_short_answer = refl
@@ -150,58 +167,70 @@ an_answered_start : read_record (
 unfolding read_record read_within
 an_answered_start = refl
 
--- a last page that has no name, and one with which the instance went
+-- an answer with a last page, which left a transaction
 abbrev ending : Change
 ending = ends (record { number = 5; instance = 3; page = 4; answer = truth true; effects = []; left = record { ticket = 3; entry = 2 } ∷ [] })
 
+-- the body of the record of an answer with a last page
 abbrev ending_body : List ℕ
 ending_body =
     (3 ∷ 5 ∷ 0 ∷ 0 ∷ 0 ∷ 0 ∷ 0 ∷ 0 ∷ 0 ∷ 3 ∷ 0 ∷ 0 ∷ 0 ∷ 0 ∷ 0 ∷ 0 ∷ 0 ∷ 4 ∷ 0 ∷ 0 ∷ 0 ∷ 0 ∷ 0 ∷ 0 ∷ 0 ∷ 2 ∷ [])
     ++ (0 ∷ 0 ∷ 0 ∷ 0 ∷ 1 ∷ 0 ∷ 0 ∷ 0 ∷ 3 ∷ 0 ∷ 0 ∷ 0 ∷ 0 ∷ 0 ∷ 0 ∷ 0 ∷ 2 ∷ 0 ∷ 0 ∷ 0 ∷ [])
 
+-- the record of an answer with a last page is written as these bytes
 an_ending : body_of (changes ending None) ≡ ending_body
 unfolding name_bytes
 an_ending = refl
 
+-- the bytes of the record of an answer with a last page are read as this record
 an_ending_is_read : read_record ending_body ≡ Some (changes ending None)
 unfolding read_record read_within
 an_ending_is_read = refl
 
+-- no front of the bytes of the record of an answer with a last page is a record
 a_short_ending : is_whole ending_body ≡ true
 unfolding read_record read_within
 a_short_ending = refl
 
+-- the body of the record of an answer with a last page has 46 bytes
 its_length : record_length ending None ≡ 46
 unfolding name_bytes
 its_length = refl
 
+-- an answer after which the instance is freed
 abbrev finish : Change
 finish = finishes (record { number = 5; instance = 3; page = 4; answer = truth true; effects = [] })
 
+-- the body of the record of an answer that frees its instance
 abbrev finish_body : List ℕ
 finish_body =
     4 ∷ 5 ∷ 0 ∷ 0 ∷ 0 ∷ 0 ∷ 0 ∷ 0 ∷ 0 ∷ 3 ∷ 0 ∷ 0 ∷ 0 ∷ 0 ∷ 0 ∷ 0 ∷ 0 ∷ 4 ∷ 0 ∷ 0 ∷ 0 ∷ 0 ∷ 0 ∷ 0 ∷ 0 ∷ 2 ∷ 0 ∷ 0 ∷ 0 ∷ 0 ∷ []
 
+-- the record of an answer that frees its instance is written as these bytes
 a_finish : body_of (changes finish None) ≡ finish_body
 a_finish = refl
 
+-- the bytes of the record of an answer that frees its instance are read as this record
 a_finish_is_read : read_record finish_body ≡ Some (changes finish None)
 unfolding read_record read_within
 a_finish_is_read = refl
 
+-- no front of the bytes of the record of an answer that frees its instance is a record
 a_short_finish : is_whole finish_body ≡ true
 unfolding read_record read_within
 a_short_finish = refl
 
--- no other kind
+-- bytes without a kind, or with one that is none, are no record
 kind_none : read_record [] ≡ None
 unfolding read_record
 kind_none = refl
 
+-- no record has the kind 0
 kind_0 : read_record (0 ∷ 0 ∷ 0 ∷ 0 ∷ 0 ∷ 0 ∷ 0 ∷ 0 ∷ 0 ∷ []) ≡ None
 unfolding read_record
 kind_0 = refl
 
+-- a record of another setup is none where bytes stand after its scripts
 kind_6 : read_record (6 ∷ 0 ∷ 0 ∷ 0 ∷ 0 ∷ 0 ∷ 0 ∷ 0 ∷ 0 ∷ []) ≡ None
 unfolding read_record
 kind_6 = refl
@@ -214,18 +243,21 @@ kind_8 = refl
 abbrev drawn_body : List ℕ
 drawn_body = 7 ∷ 3 ∷ 0 ∷ 0 ∷ 0 ∷ 0 ∷ 0 ∷ 0 ∷ 0 ∷ []
 
+-- the record of drawn numbers is written as these bytes
 a_drawn : body_of (draws 3) ≡ drawn_body
 a_drawn = refl
 
+-- the bytes of the record of drawn numbers are read as this record
 a_drawn_is_read : read_record drawn_body ≡ Some (draws 3)
 unfolding read_record
 a_drawn_is_read = refl
 
--- the greatest number that such a record tells is 2^62
+-- the greatest number that a record of drawn numbers tells is 2^62
 last_drawn : read_record (7 ∷ 0 ∷ 0 ∷ 0 ∷ 0 ∷ 0 ∷ 0 ∷ 0 ∷ 64 ∷ []) ≡ Some (draws (2 ^ 62))
 unfolding read_record
 last_drawn = refl
 
+-- a record of more drawn numbers than 2^62 is none
 late_drawn : read_record (7 ∷ 1 ∷ 0 ∷ 0 ∷ 0 ∷ 0 ∷ 0 ∷ 0 ∷ 64 ∷ []) ≡ None
 unfolding read_record
 late_drawn = refl
@@ -239,6 +271,7 @@ a_renewal = refl
 no_state : record_length (opens (record { number = 3; nonce = 7; script = 1; effects = []; left = []; kind = Suspend; deadline = 1; evicted = [] })) None ≡ 2 ^ 63
 no_state = refl
 
+-- the length of a start's record counts the bytes of its page's state
 a_state : record_length (opens (record { number = 3; nonce = 7; script = 1; effects = []; left = []; kind = Suspend; deadline = 1; evicted = [] })) (Some (8 ∷ 9 ∷ [])) ≡ 51
 a_state = refl
 
@@ -251,6 +284,7 @@ nested (suc n) = list (val (nested n) no_vals)
 deep_finish : record_length (finishes (record { number = 5; instance = 3; page = 4; answer = nested 201; effects = [] })) None ≡ 2 ^ 63
 deep_finish = refl
 
+-- a record with an effect whose value nests too deep to be written counts as 2^63 bytes
 deep_effect : record_length (finishes (record { number = 5; instance = 3; page = 4; answer = truth true; effects = set 1 (nested 201) ∷ [] })) None ≡ 2 ^ 63
 deep_effect = refl
 

@@ -11,6 +11,7 @@ use Rattle.kept_states.specs.Links.{links_at, behind_at}
 abbrev pub States : Type 0
 States = List (ℕ × Suspended)
 
+-- the state that records told last of the page of this number
 abbrev pub state_at : ℕ → States → Option Suspended
 state_at n [] = None
 state_at n (s ∷ ss) = if s.0 == n then Some s.1 else state_at n ss
@@ -20,6 +21,7 @@ pub record Earlier : Type 0 where
   pub seen : List ℕ
   pub states : States
 
+-- what was told before the first record: nothing
 abbrev pub nothing_told : Earlier
 nothing_told = record { seen = []; states = [] }
 

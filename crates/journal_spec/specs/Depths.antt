@@ -40,6 +40,7 @@ abbrev mutual
   HasShallow (inst_set c e) = HasShallow e
   HasShallow (inst_add c e) = HasShallow e
 
+  -- the literals of each of these expressions are shallow
   pub HaveShallow : Cores → Type 0
   HaveShallow no_cores = ⊤
   HaveShallow (core c cs) = HasShallow c × HaveShallow cs

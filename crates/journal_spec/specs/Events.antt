@@ -83,7 +83,7 @@ pub record IsMet (texts : Texts) (shelf : ℕ) (m : Moment) (b : Book) : Type 0 
   pub setup : Gives texts m.event
   pub typed : IsTyped m.rules b m.event
 
--- each event of a run is met so
+-- each event of a run is under rules of this journal, can be told, and publishes what the program's types give
 abbrev pub AreMet : Texts → (shelf : ℕ) → List Moment → Book → Type 0
 AreMet texts shelf [] b = ⊤
 AreMet texts shelf (m ∷ ms) b = IsMet texts shelf m b × AreMet texts shelf ms (then_book m b)

@@ -106,12 +106,13 @@ pub record IsFitting (texts : Texts) (shelf : ℕ) (bodies : List (List ℕ)) (m
   pub range : AreAllBytes bodies → IsInRange m.book
   pub long : AreAllBytes bodies → length (at_rest bodies) ≤ 2 ^ 30 → m.book.length ≡ length (at_rest bodies)
 
+-- what any bodies make is a book of their shelf, as after a crash, that can go on where its scripts can be run
 abbrev pub BodiesMakeFittingBooks : Type 0
 BodiesMakeFittingBooks =
     (texts : Texts) (shelf : ℕ) (bodies : List (List ℕ)) (m : Made) → made_in (book_of texts shelf bodies) ≡ Some m
     → IsFitting texts shelf bodies m
 
--- What any bodies make in any format is such a book too.
+-- What any bodies make in any format is a book of their shelf, as after a crash, that can go on where its scripts can be run.
 abbrev pub BodiesOfAnyFormatFit : Type 0
 BodiesOfAnyFormatFit =
     (format : ℕ) (texts : Texts) (shelf : ℕ) (bodies : List (List ℕ)) (m : Made) → made_in (book_of_format format texts shelf bodies) ≡ Some m

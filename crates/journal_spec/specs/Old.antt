@@ -101,6 +101,7 @@ next_now texts place n m (Some (changes c state)) = refl
 next_now texts place n m (Some (renews named)) = refl
 next_now texts place n m (Some (draws number)) = refl
 
+-- the record after the first means in the newest format what it means where no format is named
 second_now : (texts : Texts) (place n : ℕ) (m : Made) (r : Option Record) → second_at 6 texts place n m r ≡ second_by texts place n m r
 second_now texts place n m None = refl
 second_now texts place n m (Some (begins s named)) = refl
@@ -108,6 +109,7 @@ second_now texts place n m (Some (changes c state)) = refl
 second_now texts place n m (Some (renews named)) = refl
 second_now texts place n m (Some (draws number)) = refl
 
+-- one more record means in the newest format what it means where no format is named
 body_now : (texts : Texts) (shelf place : ℕ) (body : List ℕ) (m : Making) → with_body_at 6 texts shelf place body m ≡ with_body texts shelf place body m
 unfolding read_record_in read_record
 body_now texts shelf place body nothing = refl
@@ -116,11 +118,13 @@ body_now texts shelf place body (made m) = next_now texts place (length body) m 
 body_now texts shelf place body (damaged p) = refl
 body_now texts shelf place body (other p) = refl
 
+-- more records mean in the newest format what they mean where no format is named
 bodies_now : (texts : Texts) (shelf place : ℕ) (bodies : List (List ℕ)) (m : Making) → with_bodies_at 6 texts shelf place bodies m ≡ with_bodies texts shelf place bodies m
 bodies_now texts shelf place [] m = refl
 bodies_now texts shelf place (body ∷ bodies) m =
     ap (λ (x : Making). with_bodies_at 6 texts shelf (place + 5 + length body) bodies x) (body_now texts shelf place body m)
     ∙ bodies_now texts shelf (place + 5 + length body) bodies (with_body texts shelf place body m)
 
+-- a file of the newest format makes the book that its records make
 pub format_of_now : (texts : Texts) (shelf : ℕ) (bodies : List (List ℕ)) → book_of_format 6 texts shelf bodies ≡ book_of texts shelf bodies
 format_of_now texts shelf bodies = bodies_now texts shelf 8 bodies nothing

@@ -24,7 +24,8 @@ pub record CopiesKeep (format : ℕ) (texts : Texts) (shelf : ℕ) (first : List
   pub seen : (n : ℕ) → Among n k.earlier.seen → Among n m.earlier.seen
   pub bytes : format ≡ newest_format → AreAllBytes (copies format texts shelf first bodies m)
 
--- So it is of each file of any format that can be compacted, whoever wrote it.
+-- The compacted file of each file of any format that can be compacted has own states, passes over no record, and tells no new
+-- number, whoever wrote that file.
 abbrev pub CopiesAreOwn : Type 0
 CopiesAreOwn =
     (format : ℕ) (texts : Texts) (shelf : ℕ) (first : List ℕ) (bodies : List (List ℕ)) (m k : Made) → CanBeCopied format texts shelf first bodies m

@@ -26,6 +26,7 @@ pub data Told : Type 0 where
   unread misread : Told
   told : Suspended → Told
 
+-- the state that bytes told, or that they are no state of the script
 abbrev pub told_as : Option Suspended → Told
 told_as None = misread
 told_as (Some d) = told d

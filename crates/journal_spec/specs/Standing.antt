@@ -98,6 +98,7 @@ HoldIn k images = (image : List ℕ) → images image → Held k image
 abbrev pub if_kept : (length : ℕ) → Book → Book
 if_kept n b = recovered (of_length n) kept b.down b
 
+-- how long the body of a record is, if there is one
 abbrev pub length_in : Option (List ℕ) → ℕ
 length_in None = 0
 length_in (Some body) = length body

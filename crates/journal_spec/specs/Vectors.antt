@@ -23,7 +23,7 @@ ten = record {
   script = record { web = []; cells = []; tasks = no_cores; body = lit (list (vals_of (symbol (codes "p") ∷ text (codes "12345") ∷ []))) };
 }
 
--- another script of that name
+-- another script of the name `ten`
 abbrev eleven : Named
 eleven = record { name = codes "ten"; text = codes "1"; script = record { web = []; cells = []; tasks = no_cores; body = lit (text (codes "1")) } }
 
@@ -38,9 +38,11 @@ abbrev texts : Texts
 texts [] = None
 texts (x ∷ xs) = Some (by_text x.1)
 
+-- the first record of shelf 0 with the script `ten`
 abbrev begin_ten : List ℕ
 begin_ten = body_of (begin_of 0 (ten ∷ []))
 
+-- the body of a tick's record
 abbrev sweep_to : ℕ → List ℕ
 sweep_to tick = body_of (changes (sweeps tick) None)
 
@@ -49,35 +51,42 @@ first_alone : book_of texts 0 (begin_ten ∷ []) ≡ begun (began 0 32 (ten ∷ 
 unfolding read_record
 first_alone = refl
 
+-- the book that the first record alone makes
 abbrev begun_ten : Book
 begun_ten = (began 0 32 (ten ∷ [])).book
 
+-- the first record alone makes a book whose journal is 46 bytes long
 its_length : begun_ten.length ≡ 46
 its_length = refl
 
--- with a tick to 50 the file is 60 bytes long
+-- the book after a tick to 50, whose file is 60 bytes long
 abbrev at_50 : Book
 at_50 = record begun_ten { clock = 50; length = 60; file = record begun_ten.file { lines = changed (sweeps 50) 9 ∷ [] } }
 
+-- a tick after the first record sets the clock of the book
 tick_50 : book_of texts 0 (begin_ten ∷ sweep_to 50 ∷ []) ≡ made (record { book = at_50; earlier = nothing_told })
 unfolding read_record
 tick_50 = refl
 
--- a compacted file tells the next number directly after its first record, and nowhere else
+-- the book of a compacted file, which tells the next number directly after its first record
 abbrev compacted : Book
 compacted = record at_50 { drawn = 3; logged = 3; length = 74; file = record at_50.file { drawn = Some 3 } }
 
+-- drawn numbers that are told after the first record are those of the book
 drawn_is_told : book_of texts 0 (begin_ten ∷ body_of (draws 3) ∷ sweep_to 50 ∷ []) ≡ made (record { book = compacted; earlier = nothing_told })
 unfolding read_record
 drawn_is_told = refl
 
+-- a compacted file with one tick is 74 bytes long
 compacted_length : file_length compacted.file ≡ 74
 compacted_length = refl
 
+-- drawn numbers that are told elsewhere than directly after the first record are damage
 drawn_later : book_of texts 0 (begin_ten ∷ sweep_to 50 ∷ body_of (draws 3) ∷ []) ≡ damaged 59
 unfolding read_record
 drawn_later = refl
 
+-- drawn numbers that are told twice are damage
 drawn_twice : book_of texts 0 (begin_ten ∷ body_of (draws 3) ∷ body_of (draws 3) ∷ []) ≡ damaged 59
 unfolding read_record
 drawn_twice = refl
@@ -90,6 +99,7 @@ edited = record begun_ten {
   file = record begun_ten.file { lines = renewed (eleven ∷ []) 17 ∷ [] };
 }
 
+-- another setup that is told is that of the book
 setup_changes : book_of texts 0 (begin_ten ∷ body_of (renewal_of (eleven ∷ [])) ∷ []) ≡ made (record { book = edited; earlier = nothing_told })
 unfolding read_record
 setup_changes = refl
@@ -99,10 +109,12 @@ no_setup : book_of texts 1 (body_of (begins 0 []) ∷ []) ≡ damaged 8
 unfolding read_record
 no_setup = refl
 
+-- a setup that is told without a script is damage
 no_setup_later : book_of texts 0 (begin_ten ∷ body_of (renews []) ∷ []) ≡ damaged 45
 unfolding read_record
 no_setup_later = refl
 
+-- the file of another shelf is none of this shelf
 another_shelf : book_of texts 1 (begin_ten ∷ []) ≡ other 8
 unfolding read_record
 another_shelf = refl
@@ -111,6 +123,7 @@ another_shelf = refl
 abbrev opening : (place : ℕ) → (gone : List ℕ) → Change
 opening k gone = opens (record { number = 0; nonce = 5; script = k; effects = []; left = []; kind = Suspend; deadline = 3600; evicted = gone })
 
+-- a start of a script that is not of the setup is damage
 no_such_script : book_of texts 0 (begin_ten ∷ body_of (changes (opening 1 []) (Some [])) ∷ []) ≡ damaged 45
 unfolding read_record read_within
 no_such_script = refl
@@ -125,10 +138,12 @@ begins_twice : book_of texts 0 (begin_ten ∷ sweep_to 50 ∷ begin_ten ∷ []) 
 unfolding read_record
 begins_twice = refl
 
+-- a file whose first record is another one is damaged there
 no_begin : book_of texts 0 (sweep_to 50 ∷ begin_ten ∷ []) ≡ damaged 8
 unfolding read_record
 no_begin = refl
 
+-- a file whose first body is no record is damaged there
 no_record : book_of texts 0 ((6 ∷ []) ∷ []) ≡ damaged 8
 unfolding read_record
 no_record = refl
@@ -138,6 +153,7 @@ other_first : book_of texts 1 (begin_ten ∷ (6 ∷ []) ∷ []) ≡ other 8
 unfolding read_record
 other_first = refl
 
+-- of two bodies that are no records the first is told
 the_first_damage : book_of texts 0 (begin_ten ∷ (6 ∷ []) ∷ [] ∷ []) ≡ damaged 45
 unfolding read_record
 the_first_damage = refl
@@ -156,6 +172,7 @@ the_greatest_number :
 unfolding read_record read_within
 the_greatest_number = refl
 
+-- a record of a number past the last is damage
 one_more : book_of texts 0 (begin_ten ∷ lost_end (2 ^ 62) ∷ []) ≡ damaged 45
 unfolding read_record
 one_more = refl
@@ -171,10 +188,11 @@ opened_with_another = refl
 opened_on_nothing : opened_on 0 (ten ∷ []) nothing ≡ Some (began 0 32 (ten ∷ []))
 opened_on_nothing = refl
 
+-- a shelf is not opened on another one's file
 not_opened : opened_on 0 (ten ∷ []) (other 8) ≡ None
 not_opened = refl
 
--- of a file that is compacted the first record, the next number and the last of two ticks are left; what was passed over is not copied
+-- the book after two ticks, with a record between them that was passed over
 abbrev at_60 : Made
 at_60 = record {
   book = record begun_ten {
@@ -187,6 +205,7 @@ at_60 = record {
   earlier = record { seen = 2 ∷ []; states = [] };
 }
 
+-- records with two ticks, and one between them that is passed over, make this book
 ticks_60 : book_of texts 0 (begin_ten ∷ sweep_to 50 ∷ lost_end 2 ∷ sweep_to 60 ∷ []) ≡ made at_60
 unfolding read_record read_within
 ticks_60 = refl
@@ -195,17 +214,19 @@ ticks_copied : copies newest_format texts 0 begin_ten (sweep_to 50 ∷ lost_end 
 unfolding read_record_in read_within
 ticks_copied = refl
 
--- another setup stays, and between its ticks no two stand together
+-- the book after two ticks with another setup between them
 abbrev edited_at_60 : Made
 edited_at_60 = record {
   book = record edited { clock = 60; length = 46 + 14 + 22 + 14; file = record begun_ten.file { lines = changed (sweeps 50) 9 ∷ renewed (eleven ∷ []) 17 ∷ changed (sweeps 60) 9 ∷ [] } };
   earlier = nothing_told;
 }
 
+-- a setup that changes between two ticks makes this book
 edited_ticks : book_of texts 0 (begin_ten ∷ sweep_to 50 ∷ body_of (renewal_of (eleven ∷ [])) ∷ sweep_to 60 ∷ []) ≡ made edited_at_60
 unfolding read_record
 edited_ticks = refl
 
+-- a setup that changed between two ticks is copied, with both ticks
 edits_are_copied :
     copies newest_format texts 0 begin_ten (sweep_to 50 ∷ body_of (renewal_of (eleven ∷ [])) ∷ sweep_to 60 ∷ []) edited_at_60
     ≡ begin_ten ∷ body_of (draws 0) ∷ sweep_to 50 ∷ body_of (renewal_of (eleven ∷ [])) ∷ sweep_to 60 ∷ []

@@ -26,10 +26,11 @@ waiting = record {
   script = record { web = []; cells = []; tasks = no_cores; body = send Suspend (lit (text (codes "go"))) };
 }
 
--- in these rows all names and texts are read as that script
+-- in these rows all names and texts are read as the script that waits
 abbrev texts : Texts
 texts named = Some (waiting ∷ [])
 
+-- the first record of shelf 3 with the script that waits
 abbrev begin_waiting : List ℕ
 begin_waiting = body_of (begin_of 3 (waiting ∷ []))
 
@@ -37,9 +38,11 @@ begin_waiting = body_of (begin_of 3 (waiting ∷ []))
 abbrev bare : Suspended
 bare = record { env = []; frames = []; shadows = [] }
 
+-- the bytes of a state with no variable, no frame and no binding
 abbrev bare_bytes : List ℕ
 bare_bytes = 0 ∷ 0 ∷ 0 ∷ 0 ∷ 0 ∷ 0 ∷ 0 ∷ 0 ∷ 0 ∷ 0 ∷ 0 ∷ 0 ∷ []
 
+-- a state with nothing in it has these bytes
 bare_is_spelled : state_bytes bare ≡ bare_bytes
 bare_is_spelled = refl
 
@@ -51,6 +54,7 @@ flat = 0 ∷ bare_bytes
 abbrev as_before : List ℕ
 as_before = 1 ∷ 0 ∷ 0 ∷ 0 ∷ 0 ∷ 0 ∷ 0 ∷ 0 ∷ 0 ∷ 0 ∷ 0 ∷ 0 ∷ 0 ∷ 0 ∷ 0 ∷ 0 ∷ 0 ∷ 0 ∷ 0 ∷ 0 ∷ 0 ∷ []
 
+-- a state that is the one before has these bytes as a delta
 as_before_is_spelled : form_bytes (Some bare) bare ≡ as_before
 as_before_is_spelled = refl
 
@@ -73,9 +77,11 @@ answering n i p gone = extends (record {
   evicted = gone;
 })
 
+-- the body of a start of the script of this place, with these bytes of a state
 abbrev start_body : (number place : ℕ) → (state : List ℕ) → List ℕ
 start_body n k state = body_of (changes (opening n k) (Some state))
 
+-- the body of an answer to a page for which these pages went, with these bytes of a state
 abbrev answer_body : (number instance page : ℕ) → (gone state : List ℕ) → List ℕ
 answer_body n i p gone state = body_of (changes (answering n i p gone) (Some state))
 
@@ -83,7 +89,7 @@ answer_body n i p gone state = body_of (changes (answering n i p gone) (Some sta
 abbrev root : Page
 root = record { number = 0; nonce = 5; parent = None; answer = list no_vals; reads = []; inside = []; deadline = 3600 }
 
--- the page that answers it, of the segment of this number
+-- the page that answers the first one, of the segment of this number
 abbrev second : ℕ → Page
 second n = record { number = n; nonce = 6; parent = Some 0; answer = list no_vals; reads = []; inside = []; deadline = 3600 }
 
@@ -100,6 +106,7 @@ first_instance n = record {
   pages = root ∷ [];
 }
 
+-- the book that the first record alone makes
 abbrev begun_waiting : Book
 begun_waiting = (began 3 56 (waiting ∷ [])).book
 
@@ -113,6 +120,7 @@ started size = record begun_waiting {
   instances = first_instance 0 ∷ [];
 }
 
+-- the record of a start makes an instance with its page, and tells the page's state
 a_start :
     book_of texts 3 (begin_waiting ∷ start_body 0 0 flat ∷ [])
     ≡ made (record { book = started 137; earlier = record { seen = 0 ∷ []; states = (0, bare) ∷ [] } })
@@ -131,6 +139,7 @@ no_state : book_of texts 3 (begin_waiting ∷ start_body 0 0 [] ∷ []) ≡ dama
 unfolding read_record read_within
 no_state = refl
 
+-- a record that repeats a number and has no state of its script is damage
 no_state_again : book_of texts 3 (begin_waiting ∷ start_body 0 0 flat ∷ start_body 0 0 (9 ∷ []) ∷ []) ≡ damaged 136
 unfolding read_record read_within
 no_state_again = refl
@@ -150,7 +159,7 @@ no_state_of_a_page : book_of texts 3 (begin_waiting ∷ start_body 0 0 flat ∷ 
 unfolding read_record read_within
 no_state_of_a_page = refl
 
--- the state of an answer's page is written behind that of the page before, and not by itself
+-- the book after an answer whose page's state is written as a delta from that of the page before
 abbrev answered_once : Book
 answered_once = record (started 227) {
   drawn = 2;
@@ -159,12 +168,14 @@ answered_once = record (started 227) {
   instances = record (first_instance 1) { used = record { page = 0; last = 1 } ∷ record { page = 1; last = 1 } ∷ []; pages = root ∷ second 1 ∷ [] } ∷ [];
 }
 
+-- the state of an answer's page is read as a delta from that of the page before
 behind_the_page :
     book_of texts 3 (begin_waiting ∷ start_body 0 0 flat ∷ answer_body 1 0 0 [] as_before ∷ [])
     ≡ made (record { book = answered_once; earlier = record { seen = 1 ∷ 0 ∷ []; states = (1, bare) ∷ (0, bare) ∷ [] } })
 unfolding read_record read_within
 behind_the_page = refl
 
+-- the state of an answer's page is not read by itself
 not_by_itself : book_of texts 3 (begin_waiting ∷ start_body 0 0 flat ∷ answer_body 1 0 0 [] flat ∷ []) ≡ damaged 136
 unfolding read_record read_within
 not_by_itself = refl
@@ -179,7 +190,7 @@ no_such_script : book_of texts 3 (begin_waiting ∷ start_body 0 1 flat ∷ []) 
 unfolding read_record read_within
 no_such_script = refl
 
--- a page that went for another is told by that page's record
+-- the book after an answer for whose page the first one went
 abbrev evicted_once : Book
 evicted_once = record (started 235) {
   drawn = 2;
@@ -192,6 +203,7 @@ evicted_once = record (started 235) {
   } ∷ [];
 }
 
+-- a page that went for another is told by that page's record, and its state is still told
 a_page_that_went :
     book_of texts 3 (begin_waiting ∷ start_body 0 0 flat ∷ answer_body 1 0 0 (0 ∷ []) as_before ∷ [])
     ≡ made (record { book = evicted_once; earlier = record { seen = 1 ∷ 0 ∷ []; states = (1, bare) ∷ (0, bare) ∷ [] } })
@@ -208,6 +220,7 @@ none_there :
 unfolding read_record read_within
 none_there = refl
 
+-- an answer for which a page goes that went before is passed over
 gone_before :
     book_of texts 3 (begin_waiting ∷ start_body 0 0 flat ∷ answer_body 1 0 0 (0 ∷ []) as_before ∷ answer_body 2 0 0 (0 ∷ []) as_before ∷ [])
     ≡ made (record {
@@ -217,6 +230,7 @@ gone_before :
 unfolding read_record read_within
 gone_before = refl
 
+-- an answer for which a page goes twice is passed over
 gone_twice :
     book_of texts 3 (begin_waiting ∷ start_body 0 0 flat ∷ answer_body 1 0 0 (0 ∷ 0 ∷ []) as_before ∷ [])
     ≡ made (record {
@@ -242,16 +256,19 @@ in_format_2 :
 unfolding read_record_in read_within
 in_format_2 = refl
 
+-- a start of format 3 makes the book that one of the newest format makes
 in_format_3 :
     book_of_format 3 texts 3 (begin_waiting ∷ old_start flat ∷ [])
     ≡ made (record { book = started_by 58; earlier = record { seen = 0 ∷ []; states = (0, bare) ∷ [] } })
 unfolding read_record_in read_within
 in_format_3 = refl
 
+-- in format 2 a state with the byte of its form is damage
 no_form_in_2 : book_of_format 2 texts 3 (begin_waiting ∷ old_start flat ∷ []) ≡ damaged 69
 unfolding read_record_in read_within
 no_form_in_2 = refl
 
+-- in format 3 a state without the byte of its form is damage
 a_form_in_3 : book_of_format 3 texts 3 (begin_waiting ∷ old_start bare_bytes ∷ []) ≡ damaged 69
 unfolding read_record_in read_within
 a_form_in_3 = refl
@@ -263,6 +280,7 @@ start_of_2_now :
 unfolding read_record_in read_within
 start_of_2_now = refl
 
+-- a start of format 3 is copied in the newest one, after the next number
 start_of_3_now :
     copies 3 texts 3 begin_waiting (old_start flat ∷ []) (record { book = started_by 58; earlier = record { seen = 0 ∷ []; states = (0, bare) ∷ [] } })
     ≡ begin_waiting ∷ body_of (draws 1) ∷ start_body 0 0 flat ∷ []

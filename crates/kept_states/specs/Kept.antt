@@ -60,6 +60,7 @@ abbrev pub form_of : declared.Form → Form
 form_of (Spelled parts) = spelled (parted_of parts)
 form_of (Whole d) = whole (suspended_of d)
 
+-- what is kept of a page's state: its form, and how many deltas lie between it and a whole one
 abbrev pub kept_of : KeptState → Kept
 kept_of k = record { links = k.links; form = form_of k.form }
 

@@ -55,6 +55,7 @@ module _ {S O E : Type 0} (g : Ghosts S O E) where
     pub many : length h.spots ≡ seats
     pub each : (k : ℕ) (s : Spot O E) → slice_get h.spots k ≡ Some s → (home_of s ≡ home_in h) × IsNewFor k s
 
+  -- each of these values is behind a lock that was just made, with a pass for each caller
   abbrev pub AreHeld : (seats : ℕ) → List (Held S O E) → Type 0
   AreHeld seats hs = (k : ℕ) (h : Held S O E) → slice_get hs k ≡ Some h → IsHeld seats h
 

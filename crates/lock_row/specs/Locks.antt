@@ -40,6 +40,7 @@ module _ {S O E : Type 0} (g : Ghosts S O E) where
   abbrev pub lock_home : ShelfLock S O E → Home O
   lock_home l = home l.board.shared.table_id (g.opening l.board.shared.key.value.value ∷ [])
 
+  -- where these locks are, and what their values were opened as
   abbrev pub lock_homes : List (ShelfLock S O E) → List (Home O)
   lock_homes locks = map lock_home locks
 

@@ -8,6 +8,7 @@ pub record Spot (O E : Type 0) : Type 0 where
   pub table : TableId
   pub known : View O E
 
+-- a lock of a row, with what a pass knows of its history
 abbrev pub spot : {O E : Type 0} → TableId → View O E → Spot O E
 spot table known = record { table = table; known = known }
 
@@ -16,6 +17,7 @@ pub record Home (O : Type 0) : Type 0 where
   pub table : TableId
   pub opening : List O
 
+-- a lock of a row, with the opening of its value
 abbrev pub home : {O : Type 0} → TableId → List O → Home O
 home table opening = record { table = table; opening = opening }
 
@@ -38,6 +40,7 @@ module _ {O E : Type 0} where
   abbrev pub IsAt : List (Home O) → List (Spot O E) → Type 0
   IsAt homes pass = map home_of pass ≡ homes
 
+  -- a pass has a seat at each lock of a row, in their order
   abbrev pub IsOf : Homes O → List (Spot O E) → Type 0
   IsOf row pass = IsAt row.homes pass
 

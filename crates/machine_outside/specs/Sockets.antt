@@ -7,9 +7,11 @@ use Rattle.machine_outside.specs.declared.link.SocketLink.{SocketLink}
 use Rattle.machine_outside.specs.declared.porch.SocketPorch.{SocketPorch}
 use Rattle.machine_outside.specs.Buffers.{ahead_view, together_view}
 
+-- what contracts see of a stream that is read: the bytes that are left, where these are told, and its faults
 abbrev pub reading_view : {R : Type 0} → (remaining : R → Option (List ℕ)) → Reading R → SourceView
 reading_view remaining s = record { left = remaining s.inner; faults = s.count }
 
+-- what contracts see of a stream that is written: the bytes that were written, where these are told, and its faults
 abbrev pub writing_view : {W : Type 0} → (contents : W → Option (List ℕ)) → Writing W → SinkView
 writing_view contents s = record { written = contents s.inner; handed = None; faults = s.count }
 

@@ -16,5 +16,6 @@ abbrev pub owed_by : Control → (frames : ℕ) → ℕ
 owed_by (visit n) k = k
 owed_by (value v) k = suc k
 
+-- how many steps a machine owes at this point
 abbrev pub owed : Point → ℕ
 owed p = owed_by p.control (length p.frames)

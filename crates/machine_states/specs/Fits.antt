@@ -8,6 +8,7 @@ use Rattle.replay_spec.specs.Tape.{Tape}
 use Rattle.machine_states.specs.Machine.{Control, visit, value, Frame, in_binding, in_operand, in_body, in_seq, in_and, in_or, in_if, in_count, in_store, in_turn, in_isolate, in_call, in_task, in_page, in_finish, in_back, node_at, first_of, task_in, Suspended}
 use Rattle.machine_states.specs.Laws.{IsStateOf}
 
+-- the number of the node that a frame stands on
 abbrev pub node_of : Frame → ℕ
 node_of (in_binding n done) = n
 node_of (in_operand n done) = n

@@ -50,9 +50,11 @@ inside_of [] = []
 inside_of (in_isolate n name ∷ fs) = inside_of fs ++ name ∷ []
 inside_of (f ∷ fs) = inside_of fs
 
+-- a node is next, within these variables and frames
 abbrev pub visits : ℕ → List Val → List Frame → Run Point
 visits n env fs = give (record { control = visit n; env = env; frames = fs })
 
+-- a value is given to the innermost of these frames
 abbrev pub gives : Val → List Val → List Frame → Run Point
 gives v env fs = give (record { control = value v; env = env; frames = fs })
 
@@ -66,9 +68,11 @@ given r env fs = do
 abbrev pub node_at : Arena → ℕ → Node
 node_at a n = unwrap_or (slice_get a.nodes n) (node.Lit (Truth false))
 
+-- the number of a node's part; 0 where it has no such part
 abbrev pub part_in : Node → ℕ → ℕ
 part_in x k = unwrap_or (slice_get (parts x) k) 0
 
+-- the number of a part of the node at a place
 abbrev pub part_at : Arena → (node part : ℕ) → ℕ
 part_at a n k = part_in (node_at a n) k
 
@@ -76,25 +80,31 @@ part_at a n k = part_in (node_at a n) k
 abbrev pub parts_from : Arena → (node part : ℕ) → List ℕ
 parts_from a n k = drop k (parts (node_at a n))
 
+-- the numbers of the expressions that a `let` binds
 abbrev pub bindings_in : Node → List ℕ
 bindings_in (node.Let bindings body) = bindings
 bindings_in _ = []
 
+-- the bindings of the node at a place, from this one on
 abbrev pub bindings_from : Arena → (node part : ℕ) → List ℕ
 bindings_from a n k = drop k (bindings_in (node_at a n))
 
+-- the number of the body of a `let` or a `for/list`
 abbrev pub body_in : Node → ℕ
 body_in (node.Let bindings body) = body
 body_in (node.For count body) = body
 body_in _ = 0
 
+-- the number of the body of the node at a place
 abbrev pub body_at : Arena → ℕ → ℕ
 body_at a n = body_in (node_at a n)
 
+-- the operation of a node; of another node, `list`
 abbrev pub op_in : Node → Op
 op_in (node.Prim o ps) = o
 op_in _ = op.List
 
+-- the operation of the node at a place
 abbrev pub op_at : Arena → ℕ → Op
 op_at a n = op_in (node_at a n)
 
@@ -215,6 +225,7 @@ abbrev pub outer_frames : Control → List Frame → List Frame
 outer_frames (value v) (f ∷ fs) = fs
 outer_frames _ fs = fs
 
+-- a machine: the point where it is, and how far it has used its tape
 pub record Machine : Type 0 where
   pub point : Point
   pub state : State
@@ -230,16 +241,20 @@ pub data Step : Type 0 where
   goes : Machine → Step
   stopped : Outcome → (entered : List TxName) → Suspended → State → Step
 
+-- what a step comes to: the machine goes on, or stops with what is kept of it
 abbrev pub stepped : List Val → List Frame → End Point → Step
 stepped env fs (got p state) = goes (record { point = p; state = state })
 stepped env fs (stop o entered state) = stopped o entered (record { env = env; frames = fs; shadows = state.shadows }) state
 
+-- a step of a machine that is at this control, within these variables and frames
 abbrev pub step_at : Arena → Control → List Val → List Frame → State → Step
 step_at a c env fs state = stepped (outer_env c env fs) (outer_frames c fs) (next a c env fs state)
 
+-- one step of a machine
 abbrev pub step : Arena → Machine → Step
 step a m = step_at a m.point.control m.point.env m.point.frames m.state
 
+-- goes on with a machine that goes on; one that stopped stays as it is
 abbrev pub then : (Machine → Step) → Step → Step
 then f (goes m) = f m
 then f (stopped o entered kept state) = stopped o entered kept state

@@ -11,10 +11,11 @@ use Rattle.machine_states.specs.Machine.{in_operand, in_seq, in_isolate, in_task
 use Rattle.machine_states.specs.Laws.{started, resumed, alone}
 use Rattle.machine_states.specs.Vectors.{sym, now, pair, seen}
 
+-- an expression whose value is this text
 abbrev says : List ℕ → Core
 says words = lit (text words)
 
--- a task asks for a number under the words that it is given; two numbers are asked for and added
+-- a script with a task that asks for a number under words; two numbers are asked for and added
 abbrev pub ask : Arena
 ask = arena_of (record {
   web = [];
@@ -28,10 +29,12 @@ ask = arena_of (record {
       ∷ []));
 })
 
+-- the body of the task is the tree at node 8
 task_begins : ask.tasks ≡ 8 ∷ []
 task_begins = refl
 
--- the first page: the body is the part of number 1 of the call, node 4, whose caller has no variable; it has its parameter alone
+-- what is kept at the first page: the body is the part of number 1 of the call, node 4, whose caller has no variable; it has its
+-- parameter alone
 abbrev pub first_page : Suspended
 first_page = record {
   env = text (codes "1") ∷ [];
@@ -39,11 +42,12 @@ first_page = record {
   shadows = [];
 }
 
+-- the first segment stops at a page inside the task, and keeps the frames of the call
 ask_first : seen (steps ask 27 (started ask (alone (now 0) (present [] 100))))
     ≡ record { outcome = paged (shows Suspend) (codes "<a href=\"/servlets/sum;0*0*0*0000000000000000\">1</a>"); kept = first_page; cost = 69 }
 ask_first = refl
 
--- after the answer 3 the body is called again, by node 6, with the first number done in the sum
+-- what is kept at the second page, after the answer 3: the body is called again, by node 6, with the first number done in the sum
 abbrev second_page : Suspended
 second_page = record {
   env = text (codes "2") ∷ [];
@@ -51,6 +55,7 @@ second_page = record {
   shadows = [];
 }
 
+-- the second segment goes on in the task, and stops at the page of the second call
 ask_second : seen (steps ask 26 (resumed ask first_page (record { value = pair (codes "3"); segment = record (now 1) { reads = present [] 100 } })))
     ≡ record { outcome = paged (shows Suspend) (codes "<a href=\"/servlets/sum;0*0*0*0000000000000000\">2</a>"); kept = second_page; cost = 63 }
 ask_second = refl
@@ -61,10 +66,11 @@ ask_last : seen (steps ask 7 (resumed ask second_page (record { value = pair (co
 unfolding digits
 ask_last = refl
 
--- a transaction in a task without parameters: its frame stands inside that of the task
+-- a script with a transaction in a task without parameters
 abbrev pay : Arena
 pay = arena_of (record { web = []; cells = []; tasks = cores_of (isolate (send Suspend (says (codes "card"))) ∷ []); body = seq (cores_of (call 0 no_cores ∷ says (codes "end") ∷ [])) })
 
+-- the frame of a transaction in a task stands inside that of the task
 pay_card : seen (steps pay 6 (started pay (alone (now 0) (present [] 100))))
     ≡ record {
       outcome = paged (shows Suspend) (codes "card");

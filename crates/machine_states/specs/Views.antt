@@ -13,6 +13,7 @@ use Rattle.machine_states.specs.declared.segment.Outcome.{Outcome}
 use Rattle.machine_states.specs.declared.segment.Outcome.TheVariants.{Shown, Finished, Ended, Faulted, Fuel}
 use Rattle.machine_states.specs.declared.segment.Segment.{Segment}
 
+-- what a script has still to do, as the program's frame says it
 abbrev pub frame_of : Frame → machine.Frame
 frame_of (frame.Binding n done) = machine.in_binding n done
 frame_of (frame.Operand n done) = machine.in_operand n done
@@ -35,6 +36,7 @@ frame_of (frame.Back n) = machine.in_back n
 abbrev pub stack : List Frame → List machine.Frame
 stack fs = reverse (map frame_of fs)
 
+-- what is kept of a script at a page, as the program's state says it
 abbrev pub suspended_of : Suspended → machine.Suspended
 suspended_of d = record { env = d.env; frames = stack d.frames.items; shadows = d.shades }
 
@@ -43,6 +45,7 @@ abbrev pub origin_of : Origin → Option machine.Suspended
 origin_of Start = None
 origin_of (Page d) = Some (suspended_of d)
 
+-- how a segment stopped, without the state that is kept of it
 abbrev pub outcome_of : Outcome → spec.Outcome
 outcome_of (Shown page kind state) = spec.paged (spec.shows kind) page
 outcome_of (Finished page) = spec.paged spec.finishes page

@@ -25,6 +25,7 @@ pub record GoesOn (a : Arena) (v : Visit) (d : Suspended) (cells : List Val) (fu
   pub shows : Waits stops.outcome → (p : Page) → IsShownBy v (reads_of stops.state.effects) p → IsStateOf a (page_tape (home_of v) v.pages p) stops.kept
   pub few : stops.count ≤ 2 * stops.state.cost + length d.frames + 2
 
+-- a visit that goes on from the state of its page comes to what a run of the whole script comes to
 abbrev pub AVisitGoesOn : Type 0
 AVisitGoesOn =
     (a : Arena) → IsScript a → (v : Visit) → v.script.script ≡ script_of a

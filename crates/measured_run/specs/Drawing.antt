@@ -16,6 +16,7 @@ most_steps = 20000
 abbrev pub drawn_over : (r : StageRules) → Source → r.State → LoadStep × Source
 drawn_over r source s = next_step (r.shelves s) (r.holds s) source
 
+-- the next step of a measured run over a stage in this state
 abbrev pub step_over : (r : StageRules) → Source → r.State → Step
 step_over r source s = played (drawn_over r source s).0
 

@@ -3,6 +3,7 @@ use Rattle.std.specs.Prelude.{◌≡◌, [], ◌∷◌, codes, map, refl}
 use Rattle.page_names.specs.Hex.{hex16}
 use Rattle.measured_run.specs.Fnv.{mixed, goes_on, fnv1a}
 
+-- the hashes of three texts, as FNV-1a with 64 bits gives them
 pub of_texts :
     map fnv1a ([] ∷ codes "a" ∷ codes "foobar" ∷ [])
     ≡ 0xcbf29ce484222325 ∷ 0xaf63dc4c8601ec8c ∷ 0x85944171f73967e8 ∷ []

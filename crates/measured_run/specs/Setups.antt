@@ -5,6 +5,7 @@ use Rattle.setup_reader.specs.declared.setup.Ending.TheVariants.{Input}
 use Rattle.setup_reader.specs.Setup.{Parsed, Fault, setup_of}
 use Rattle.measured_run.specs.Scripts.{setup_text}
 
+-- the scripts of a setup that was read; none of one that has a fault
 abbrev pub scripts_in : Result Parsed Fault → List Named
 scripts_in (Ok setup) = setup.scripts
 scripts_in (Err fault) = []

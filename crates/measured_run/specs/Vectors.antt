@@ -19,7 +19,7 @@ pub first_numbers : (drawn 1 ∷ drawn (drawn 1) ∷ []) ≡ 1082269761 ∷ 1152
 unfolding drawn
 first_numbers = refl
 
--- the first two steps of the run of 1 over a shelf, where the first answers the first page of `hotel`
+-- the URL of the first page of the hotel
 abbrev first_page : List ℕ
 first_page = codes "/servlets/hotel;0*0*0*0000000000000000"
 
@@ -27,17 +27,19 @@ first_page = codes "/servlets/hotel;0*0*0*0000000000000000"
 abbrev nobody : ℕ → Bool
 nobody worker = false
 
+-- the first step of the run of 1 over a shelf is a start of the hotel
 pub first_step : (next_step 1 nobody (source_of 1)).0 ≡ Get 1 (codes "/servlets/hotel")
 unfolding next_step drawn
 first_step = refl
 
+-- the second step of the run of 1 answers the page that the first one showed
 pub second_step :
     line_of (next_step 1 nobody (with_url first_page (next_step 1 nobody (source_of 1)).1)).0
     ≡ codes "get 1 /servlets/hotel;0*0*0*0000000000000000?h=3"
 unfolding next_step drawn digits
 second_step = refl
 
--- two pages and a clock at 60 seconds
+-- a source with the URLs of two pages and a clock at 60 seconds
 abbrev two_pages : Source
 two_pages = record { number = 5; clock = 60; targets = codes "/a" ∷ codes "/b" ∷ [] }
 
@@ -84,7 +86,7 @@ pub learned_pages :
     ≡ (codes "/a" ∷ codes "/b" ∷ codes "/c" ∷ []) ∷ two_pages.targets ∷ two_pages.targets ∷ two_pages.targets ∷ two_pages.targets ∷ []
 learned_pages = refl
 
--- the 256th URL takes the place of none, and the 257th of the first
+-- the URLs that are kept of so many between a first one and a last one
 abbrev kept_of : ℕ → List (List ℕ)
 kept_of count = last_of ((codes "/first" ∷ replicate count (codes "/")) ++ codes "/last" ∷ [])
 
@@ -92,6 +94,7 @@ kept_of count = last_of ((codes "/first" ∷ replicate count (codes "/")) ++ cod
 abbrev kept_at : ℕ → List (List ℕ)
 kept_at count = (decimal (length (kept_of count))) ∷ slice_index_or (kept_of count) 0 [] ∷ slice_index_or (kept_of count) 255 [] ∷ []
 
+-- the last 256 URLs are kept: of 257 the oldest goes
 pub kept_urls :
     map kept_at (254 ∷ 255 ∷ [])
     ≡ (codes "256" ∷ codes "/first" ∷ codes "/last" ∷ []) ∷ (codes "256" ∷ codes "/" ∷ codes "/last" ∷ []) ∷ []
@@ -132,6 +135,7 @@ pub lengths : map (λ script. length (text_of script)) (Hotel ∷ Shop ∷ Pay �
 unfolding text_of
 lengths = refl
 
+-- the text of the setup begins with the section of the hotel
 pub setup_begins : take 56 setup_text ≡ codes "script hotel 246\n(define picked (make-web-cell \"none\"))\n"
 unfolding text_of digits
 setup_begins = refl

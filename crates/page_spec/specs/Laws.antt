@@ -4,6 +4,7 @@ use Rattle.std.specs.Str.{bytes_eq}
 use Rattle.script_value.specs.Texts.{lacks}
 use Rattle.page_spec.specs.Markup.{escaped_text, escaped_attribute}
 
+-- whether bytes are one of the four entities that a page writes for `&`, `<`, `>` and the quotation mark
 abbrev pub is_entity : List ℕ → Bool
 is_entity e = bytes_eq e (codes "&amp;") || bytes_eq e (codes "&lt;") || bytes_eq e (codes "&gt;") || bytes_eq e (codes "&quot;")
 

@@ -14,12 +14,15 @@ text_byte b =
 abbrev pub attribute_byte : ℕ → List ℕ
 attribute_byte b = if b == 34 then codes "&quot;" else text_byte b
 
+-- whether a byte is a letter from `a` to `z`
 abbrev pub is_lower : ℕ → Bool
 is_lower b = nat_le 97 b && nat_le b 122
 
+-- whether a byte is a letter from `A` to `Z`
 abbrev pub is_upper : ℕ → Bool
 is_upper b = nat_le 65 b && nat_le b 90
 
+-- whether a byte is a digit from `0` to `9`
 abbrev pub is_digit : ℕ → Bool
 is_digit b = nat_le 48 b && nat_le b 57
 
@@ -27,9 +30,11 @@ is_digit b = nat_le 48 b && nat_le b 57
 abbrev pub is_element_byte : ℕ → Bool
 is_element_byte b = is_lower b || is_digit b || b == 45
 
+-- whether a byte is a letter of ASCII
 abbrev pub is_letter : ℕ → Bool
 is_letter b = is_lower b || is_upper b
 
+-- whether a byte is a letter or a digit of ASCII
 abbrev pub is_letter_or_digit : ℕ → Bool
 is_letter_or_digit b = is_letter b || is_digit b
 

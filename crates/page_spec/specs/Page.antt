@@ -21,10 +21,12 @@ abbrev pub pair_in : Vals → Option (List ℕ)
 pair_in (val v (val w no_vals)) = pair_text v w
 pair_in _ = None
 
+-- the bytes of one attribute in a tag, where a value is a list of its name and its text
 abbrev pub attribute_of : Val → Option (List ℕ)
 attribute_of (list vs) = pair_in vs
 attribute_of _ = None
 
+-- the bytes of the attributes of a tag, where each of these values is one
 abbrev pub attributes_of : Vals → Option (List ℕ)
 attributes_of no_vals = Some []
 attributes_of (val v vs) = join (attribute_of v) (attributes_of vs)
@@ -72,10 +74,12 @@ abbrev mutual
   page_of (list (val (symbol n) vs)) = if is_void n then void_of n vs else element_of n vs
   page_of _ = None
 
+  -- the bytes of an element of this name with what follows the name: attributes, if they come first, and content
   pub element_of : List ℕ → Vals → Option (List ℕ)
   element_of n no_vals = element n (Some []) (Some [])
   element_of n (val v vs) = element_with n (attributes_in v) (page_of v) (children_of vs)
 
+  -- the bytes of the content of an element, one part after the other
   pub children_of : Vals → Option (List ℕ)
   children_of no_vals = Some []
   children_of (val v vs) = join (page_of v) (children_of vs)

@@ -16,9 +16,11 @@ use Rattle.replay_spec.specs.Eval.{calls_in, eval, eval_into, eval_while, turns,
 use Rattle.plain_rerun.specs.declared.goes_on.GoesOn.{GoesOn}
 use Rattle.plain_rerun.specs.declared.goes_on.GoesOn.TheVariants.{Always, WhileTrue, WhileFalse}
 
+-- the tree at a place of a script
 abbrev pub tree : Arena → ℕ → Core
 tree a n = tree_at a.nodes n
 
+-- the trees at these places of a script
 abbrev pub trees : Arena → List ℕ → Cores
 trees a ns = cores_of (map (tree_at a.nodes) ns)
 

@@ -123,13 +123,13 @@ FindsBook {D = D} view scripts number holds b =
 abbrev pub FindsAnother : List Named → (number : ℕ) → (holds : List ℕ → Type 0) → Type 0
 FindsAnother scripts number holds = (image : List ℕ) × holds image × IsAnother scripts (book_in_bytes setup_of_texts number image)
 
--- such a book has a journal of this length, which is longer than one may be, as its setup is another one
+-- the book that is found, opened with another setup, has a journal of this length, which is longer than one may be
 abbrev pub FindsNoRoom : {D : Type 0} → (D → View) → List Named → (number : ℕ) → (holds : List ℕ → Type 0) → (len : ℕ) → Type 0
 FindsNoRoom view scripts number holds len =
     (b : Book) × FindsBook view scripts number holds b × (b.length ≡ len) × (2 ^ 30 < len) × FindsAnother scripts number holds
 
--- What is found where a disk may hold these images: a shelf whose book is one that the disk stands for; or an image that makes no shelf; or
--- that such a book has no room for the setup.
+-- What is found where a disk may hold these images: a shelf whose book is one that the disk stands for; or an image that makes no
+-- shelf; or that a book for which the disk stands has no room for the setup.
 abbrev pub Finds : {D : Type 0} → (D → View) → List Named → (number : ℕ) → (holds : List ℕ → Type 0) → Result (Shelf D Counting) Reopen → Type 0
 Finds view scripts number holds (Ok s) = FindsBook view scripts number holds (book_in view s)
 Finds view scripts number holds (Err (reopen.Damaged place)) =

@@ -17,13 +17,15 @@ use Rattle.play_desk.specs.Edits.{placed_at}
 use Rattle.play_desk.specs.Desk.{first_desk}
 use Rattle.play_desk.specs.Ledger.{Entry, reading, events_of}
 
--- a visit of the script `s` without a query
+-- the ticket of a visit of the script `s` without a query
 abbrev ticket : (number nonce : ℕ) → Ticket
 ticket n m = record { target = start (codes "s"); answer = answer_to []; number = n; nonce = m }
 
+-- a take of the script `s` on shelf 0, with what it was answered
 abbrev taking : Fate → Reply → Entry
 taking fate r = record { shelf = 0; event = event.take (start (codes "s")) (answer_to []); fate = fate; reply = r }
 
+-- the publish of a ticket on shelf 0, with what it was answered
 abbrev publishing : (number nonce : ℕ) → Reply → Entry
 publishing n m r = record { shelf = 0; event = event.publish (ticket n m); fate = plain; reply = r }
 

@@ -24,6 +24,7 @@ pub record Spot (r : StageRules) : Type 0 where
   pub state : r.State
   pub faults : ℕ
 
+-- a stage in this state, whose devices have failed so often
 abbrev pub spot : (r : StageRules) → r.State → ℕ → Spot r
 spot r s faults = record { state = s; faults = faults }
 
@@ -32,6 +33,7 @@ pub record Scene (r : StageRules) : Type 0 where
   pub written : Option (List ℕ)
   pub spot : Spot r
 
+-- a sink that was given this, where it tells it, and a stage in this state, whose devices have failed so often
 abbrev pub scene : (r : StageRules) → Option (List ℕ) → r.State → ℕ → Scene r
 scene r written s faults = record { written = written; spot = spot r s faults }
 

@@ -211,6 +211,7 @@ IsWithin (compact shelf) = shelf < 2 ^ 32
 IsWithin (edit name text) = ⊤
 IsWithin (crash_edited shelf) = shelf < 2 ^ 32
 
+-- each of these steps can stand on a line
 abbrev pub AreSteps : List Step → Type 0
 AreSteps [] = Unit {0}
 AreSteps (s ∷ steps) = IsStep s × AreSteps steps

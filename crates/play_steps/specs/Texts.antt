@@ -26,12 +26,15 @@ told_text worker (word status bytes) = line_text worker status bytes
 unfoldable pub reply_text : ℕ → Reply → List ℕ
 reply_text worker reply = told_text worker (told reply)
 
+-- the line that says which number a worker's ticket has
 abbrev pub taken_text : ℕ → ℕ → List ℕ
 taken_text worker number = decimal worker ++ codes " taken " ++ decimal number ++ codes "\n"
 
+-- the line that says how many instances of a shelf a tick freed
 abbrev pub swept_text : ℕ → ℕ → List ℕ
 swept_text shelf count = codes "shelf " ++ decimal shelf ++ codes " swept " ++ decimal count ++ codes "\n"
 
+-- the line that says how long a shelf's file is after a compaction
 abbrev pub compacted_text : ℕ → ℕ → List ℕ
 compacted_text shelf length = codes "shelf " ++ decimal shelf ++ codes " length " ++ decimal length ++ codes "\n"
 
@@ -39,6 +42,7 @@ compacted_text shelf length = codes "shelf " ++ decimal shelf ++ codes " length 
 abbrev pub refused_text : ℕ → Reply → List ℕ
 refused_text shelf reply = codes "shelf " ++ reply_text shelf reply
 
+-- the line that says how many instances of a shelf live after it was opened again
 abbrev pub reopened_text : ℕ → ℕ → List ℕ
 reopened_text shelf live = codes "shelf " ++ decimal shelf ++ codes " live " ++ decimal live ++ codes "\n"
 

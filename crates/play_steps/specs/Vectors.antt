@@ -64,6 +64,7 @@ pub shelves :
 unfolding step_of take_of publish_of get_of tick_of crash_of compact_of aim_of
 shelves = refl
 
+-- lines with a number of a shelf that is none are no steps
 pub no_shelves :
     map step_of (codes "crash 4294967296" ∷ codes "crash 00" ∷ codes "crash 01" ∷ codes "crash" ∷ codes "crash " ∷ codes "crash  0"
     ∷ codes "crash 0 " ∷ codes "crash -1" ∷ codes "crash a" ∷ codes "crash0" ∷ [])
@@ -111,6 +112,7 @@ no_edits = refl
 pub lines_of_edits : map lines_in (edit (codes "a") (codes "x\ny") ∷ edit (codes "a") [] ∷ edit (codes "a") (codes "\n\n") ∷ tick 7 ∷ []) ≡ 3 ∷ 2 ∷ 4 ∷ 1 ∷ []
 lines_of_edits = refl
 
+-- an input without a byte has no steps
 pub no_lines : steps_of [] ≡ []
 unfolding steps_of
 no_lines = refl
@@ -163,10 +165,12 @@ pub record Desk : Type 0 where
   pub next : ℕ
   pub holders : List ℕ
 
+-- whether a worker is among these
 abbrev is_among : ℕ → List ℕ → Bool
 is_among w [] = false
 is_among w (x ∷ xs) = if x == w then true else is_among w xs
 
+-- these workers without this one
 abbrev without : ℕ → List ℕ → List ℕ
 without w [] = []
 without w (x ∷ xs) = if x == w then xs else x ∷ without w xs
@@ -176,59 +180,69 @@ pub data Luck : Type 0 where
   good : Luck
   bad : Luck
 
+-- a take of the small stage: the worker holds a ticket of the next number, or nothing happens
 abbrev taken : Desk → ℕ → Luck → Result ℕ Reply × Desk
 taken d w good = (Ok d.next, record { next = d.next + 1; holders = w ∷ d.holders })
 taken d w bad = (Err replies.Worn, d)
 
+-- a publish of the small stage: it ends with the words `hi`, or memory runs out, and the ticket is spent
 abbrev shown : Desk → ℕ → Luck → Reply × Desk
 shown d w good = (replies.Ended (codes "hi"), record { next = d.next; holders = without w d.holders })
 shown d w bad = (replies.Memory, record { next = d.next; holders = without w d.holders })
 
--- a sweep counts as a number that was drawn
+-- a tick of the small stage counts as a number that was drawn, or the shelf is down
 abbrev swept : Desk → ℕ → Luck → Result ℕ Reply × Desk
 swept d time good = (Ok time, record { next = d.next + 1; holders = d.holders })
 swept d time bad = (Err (replies.Down 1), d)
 
--- a compaction tells the number that is drawn next
+-- a compaction of the small stage tells the number that is drawn next, or the disk fails
 abbrev compacted : Desk → Luck → Result ℕ Reply × Desk
 compacted d good = (Ok d.next, d)
 compacted d bad = (Err (replies.DiskFault 1), d)
 
--- a crash takes each ticket, and a bad one the number too
+-- a crash of the small stage takes each ticket, and a bad one the number too
 abbrev crashed : Desk → Luck → ℕ × Desk
 crashed d good = (d.next, record { next = d.next; holders = [] })
 crashed d bad = (0, record { next = 0; holders = [] })
 
+-- whether an event of the small stage fails
 abbrev is_bad : Luck → Bool
 is_bad good = false
 is_bad bad = true
 
--- a target that begins with `#` names nothing
+-- whether a target names nothing on the small stage: it begins with `#`
 abbrev names_nothing : List ℕ → Bool
 names_nothing [] = false
 names_nothing (b ∷ bytes) = b == 35
 
+-- how the small stage performs a take
 abbrev desk_take : Desk → ℕ → List ℕ → Call Desk Luck (Result ℕ Reply)
 desk_take d w target =
     if names_nothing target then answered (Err (replies.Refused refusals.Unknown)) else event (λ luck. taken d w luck)
 
+-- how the small stage performs a publish
 abbrev desk_publish : Desk → ℕ → Call Desk Luck Reply
 desk_publish d w = event (λ luck. shown d w luck)
 
+-- how the small stage performs a tick
 abbrev desk_sweep : Desk → ℕ → ℕ → Call Desk Luck (Result ℕ Reply)
 desk_sweep d shelf time = event (λ luck. swept d time luck)
 
+-- how the small stage performs a compaction
 abbrev desk_compact : Desk → ℕ → Call Desk Luck (Result ℕ Reply)
 desk_compact d shelf = event (λ luck. compacted d luck)
 
+-- how the small stage performs a crash
 abbrev desk_crash : Desk → ℕ → Call Desk Luck ℕ
 desk_crash d shelf = event (λ luck. crashed d luck)
 
--- an edit of a script whose name begins with `a` sets the number that is drawn next to how long the text is; no other fits
+-- an edit of the small stage: of a script whose name begins with `a` it sets the next number to how long the text is; no other
+-- fits
 abbrev desk_edit : Desk → (name text : List ℕ) → Option Desk
 desk_edit d [] text = None
 desk_edit d (b ∷ bytes) text = if b == 97 then Some (record { next = length text; holders = d.holders }) else None
 
+-- the rules of the small stage
 abbrev desk : StageRules
 desk = record {
   State = Desk;
@@ -245,6 +259,7 @@ desk = record {
   edit = desk_edit;
 }
 
+-- the small stage with this next number and these workers that hold tickets
 abbrev at : ℕ → List ℕ → Desk
 at next holders = record { next = next; holders = holders }
 
@@ -252,6 +267,7 @@ at next holders = record { next = next; holders = holders }
 abbrev seen : Run desk → List ℕ × End × Desk × List Luck
 seen run = (text_of run, run.end, run.state, run.fates)
 
+-- what a run of these lines over the small stage prints and leaves
 abbrev of_lines : List (List ℕ) → List Luck → List ℕ × End × Desk × List Luck
 of_lines ls fates = seen (transcript desk (at 0 []) 1 (played desk (at 0 []) (lines ls)) fates)
 

@@ -5,6 +5,7 @@ use Rattle.play_steps.specs.declared.step.Step as code
 use Rattle.play_steps.specs.declared.step.Step.TheVariants as steps
 use Rattle.play_steps.specs.Step.{Step, take, publish, get, tick, crash, compact, edit, crash_edited}
 
+-- the step that the program's step stands for
 abbrev pub meaning : code.Step → Step
 meaning (steps.Take worker target) = take worker target.now
 meaning (steps.Publish worker) = publish worker

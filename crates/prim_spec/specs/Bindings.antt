@@ -10,6 +10,7 @@ abbrev pub pair_of : Val → Val → Option (List ℕ × List ℕ)
 pair_of (symbol k) (text t) = Some (k, t)
 pair_of _ _ = None
 
+-- the two texts of a list of a key and a text, if it is one
 abbrev pub pair_in : Vals → Option (List ℕ × List ℕ)
 pair_in (val v (val w no_vals)) = pair_of v w
 pair_in _ = None
@@ -19,6 +20,7 @@ abbrev pub binding_in : Val → Option (List ℕ × List ℕ)
 binding_in (list vs) = pair_in vs
 binding_in _ = None
 
+-- whether each of these items is a list of a symbol and a text
 abbrev pub are_bindings : Vals → Bool
 are_bindings no_vals = true
 are_bindings (val v vs) = is_some (binding_in v) && are_bindings vs
@@ -37,6 +39,7 @@ abbrev pub texts_for : List ℕ → Vals → List (List ℕ)
 texts_for key no_vals = []
 texts_for key (val v vs) = text_in key v ++ texts_for key vs
 
+-- the texts that are bound to a key among these values, in their order
 abbrev pub texts_among : List ℕ → List Val → List (List ℕ)
 texts_among key vs = texts_for key (vals_of vs)
 

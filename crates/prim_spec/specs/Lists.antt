@@ -9,6 +9,7 @@ use Rattle.prim_spec.specs.Numbers.{in_range}
 abbrev pub within_depth : Val → Result Val Fault
 within_depth v = if nat_lt 200 (depth v) then Err Deep else Ok v
 
+-- what `list` gives: the list of its operands, or a fault where it would nest too deep
 abbrev pub list_of : List Val → Result Val Fault
 list_of vs = within_depth (list (vals_of vs))
 
@@ -35,6 +36,7 @@ are_lists [] = true
 are_lists (list items ∷ vs) = are_lists vs
 are_lists _ = false
 
+-- the items of a list; none of any other value
 abbrev pub items_in : Val → List Val
 items_in (list vs) = items_of vs
 items_in _ = []
@@ -49,6 +51,7 @@ abbrev pub is_any_too_deep : List Val → Bool
 is_any_too_deep [] = false
 is_any_too_deep (v ∷ vs) = nat_lt 200 (depth v) || is_any_too_deep vs
 
+-- what `append` gives: one list of the items of all its operands, or a fault
 abbrev pub append : List Val → Result Val Fault
 append vs = if are_lists vs then list_of (joined vs) else Err WrongType
 
@@ -62,6 +65,7 @@ abbrev pub reversed : List Val → Result Val Fault
 reversed (list vs ∷ []) = list_of (reverse (items_of vs))
 reversed _ = Err WrongType
 
+-- an item that an operation looked for, or the fault that none stands there
 abbrev pub found : Option Val → Result Val Fault
 found None = Err Bounds
 found (Some v) = within_depth v
@@ -71,6 +75,7 @@ abbrev pub item_at : List Val → ℤ → Result Val Fault
 item_at vs (pos n) = found (slice_get vs n)
 item_at vs (negsuc n) = Err Bounds
 
+-- what `list-ref` gives: the item of this number, from 0 on, or a fault
 abbrev pub item : List Val → Result Val Fault
 item (list vs ∷ number n ∷ []) = item_at (items_of vs) n
 item _ = Err WrongType

@@ -39,6 +39,7 @@ abbrev pub less : ℤ → List Val → Result Val Fault
 less n [] = in_range (neg_ℤ n)
 less n (v ∷ vs) = difference_from n (v ∷ vs)
 
+-- what `-` gives: the first number less the others, or a fault
 abbrev pub difference : List Val → Result Val Fault
 difference (number n ∷ vs) = less n vs
 difference _ = Err WrongType
@@ -51,6 +52,7 @@ quotient_of a b = if int_eq b (pos 0) then Err Zero else in_range (int_div a b)
 abbrev pub remainder_of : ℤ → ℤ → Result Val Fault
 remainder_of a b = if int_eq b (pos 0) then Err Zero else Ok (number (int_rem a b))
 
+-- the two numbers that an operation asks for, or the fault that its operands are others
 abbrev pub two_numbers : List Val → Result (ℤ × ℤ) Fault
 two_numbers (number a ∷ number b ∷ []) = Ok (a, b)
 two_numbers _ = Err WrongType

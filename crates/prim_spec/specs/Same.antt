@@ -4,6 +4,7 @@ use Rattle.std.specs.Ordering.{int_eq}
 use Rattle.std.specs.Str.{bytes_eq}
 use Rattle.script_value.specs.Val.{Val, Vals, number, truth, text, symbol, list, no_vals, val}
 
+-- whether two truths are equal
 abbrev pub same_truth : Bool → Bool → Bool
 same_truth true b = b
 same_truth false b = not b
@@ -18,6 +19,7 @@ abbrev mutual
   same (list vs) (list ws) = same_items vs ws
   same _ _ = false
 
+  -- whether two lists have equal items, as many and in the same order
   pub same_items : Vals → Vals → Bool
   same_items no_vals no_vals = true
   same_items (val v vs) (val w ws) = same v w && same_items vs ws

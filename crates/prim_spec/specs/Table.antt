@@ -56,34 +56,42 @@ abbrev pub is_false : Val → Bool
 is_false (truth false) = true
 is_false _ = false
 
+-- whether a value is a number
 abbrev pub is_number : Val → Bool
 is_number (number n) = true
 is_number _ = false
 
+-- whether a value is a text
 abbrev pub is_text : Val → Bool
 is_text (text t) = true
 is_text _ = false
 
+-- whether a value is a symbol
 abbrev pub is_symbol : Val → Bool
 is_symbol (symbol s) = true
 is_symbol _ = false
 
+-- whether a value is a truth
 abbrev pub is_truth : Val → Bool
 is_truth (truth b) = true
 is_truth _ = false
 
+-- whether a value is a list
 abbrev pub is_list : Val → Bool
 is_list (list vs) = true
 is_list _ = false
 
+-- whether a value is the list without items
 abbrev pub is_empty_list : Val → Bool
 is_empty_list (list no_vals) = true
 is_empty_list _ = false
 
+-- the only operand, where there is just one
 abbrev pub one : List Val → Option Val
 one (v ∷ []) = Some v
 one _ = None
 
+-- both operands, where there are just two
 abbrev pub two : List Val → Option (Val × Val)
 two (v ∷ w ∷ []) = Some (v, w)
 two _ = None

@@ -40,6 +40,7 @@ abbrev pub number_or_false : Option ℤ → Val
 number_or_false None = truth false
 number_or_false (Some n) = number n
 
+-- what `string->number` gives for a text: its number, false where it is none, or a fault for another value
 abbrev pub number_of_text : List Val → Result Val Fault
 number_of_text (text t ∷ []) = Ok (number_or_false (number_in t))
 number_of_text _ = Err WrongType

@@ -28,11 +28,11 @@ pub record IsMadeOf (library : Library) (seen : InOrder (Unit {0})) (b : Book) (
 abbrev pub IsFaultIn : (format : ℕ) → Library → InOrder (Unit {0}) → Book → Record → Option Word → Type 0
 IsFaultIn format library seen b r word = (m : Made) → IsMadeOf library seen b m → word ≡ fault_of format m (Some r)
 
--- so it is in each format
+-- whatever records made this book, in each format, this is the word for a record after them, if it has one
 abbrev pub IsFaultAnyway : Library → InOrder (Unit {0}) → Book → Record → Option Word → Type 0
 IsFaultAnyway library seen b r word = (format : ℕ) → IsFaultIn format library seen b r word
 
--- so it is under each library, whichever numbers were told
+-- this is the word for a record after this book, if it has one, under each library and whichever numbers were told
 abbrev pub IsFaultAlways : Book → Record → Option Word → Type 0
 IsFaultAlways b r word = (library : Library) (seen : InOrder (Unit {0})) → IsFaultAnyway library seen b r word
 

@@ -31,7 +31,7 @@ home_of h = home (named_of h.script.now) h.shelf h.instance
 abbrev pub newest_of : next.Home → (answer : Val) → (number nonce : ℕ) → (cells : List Val) → Answer
 newest_of h answer number nonce cells = record { value = answer; segment = now_of h number nonce (present cells most_fuel) }
 
--- what a script comes to behind segments that ran, in such a newest one
+-- what a script comes to after segments that ran, in a newest one that has this number and nonce and is over these cells
 abbrev pub comes_behind : Home → (past : List Answer) → (answer : Val) → (number nonce : ℕ) → (cells : List Val) → Segment
 comes_behind h past answer number nonce cells =
     run (script_of h.script.now.script) (tape_behind past (newest_of (home_of h) answer number nonce cells))
@@ -53,14 +53,14 @@ abbrev pub is_shown : SendKind → Outcome → Bool
 is_shown kind (paged (shows k) bytes) = is_kind k kind
 is_shown kind _ = false
 
--- this is whether the script of a change runs so, on this book
+-- this is whether the script of a change, run on this book, stops as the change tells
 abbrev pub RunsSo : Library → Book → Change → Bool → Type 0
 RunsSo library b c so = so ≡ runs_so (book_under library b) c
 
--- where the record's page is of a start of the script of this place, this is whether the script runs so
+-- where the record's page is of a start of the script of this place, this is whether the script stops as the record tells
 abbrev pub StartRunsSo : Library → Book → (script : ℕ) → PageRecord → Bool → Type 0
 StartRunsSo library b k p so = origin_of p.origin ≡ fields.start k → RunsSo library b (page_change p) so
 
--- where the record's page is of this answer to this page, this is whether the script runs so
+-- where the record's page is of this answer to this page, this is whether the script stops as the record tells
 abbrev pub AnswerRunsSo : Library → Book → (instance page : ℕ) → (answer : Val) → PageRecord → Bool → Type 0
 AnswerRunsSo library b k n answer p so = origin_of p.origin ≡ fields.answered k n answer → RunsSo library b (page_change p) so

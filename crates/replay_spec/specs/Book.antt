@@ -133,12 +133,15 @@ abbrev pub at_number : {A : Type 0} → (A → ℕ) → ℕ → List A → Optio
 at_number number n [] = None
 at_number number n (x ∷ xs) = if number x == n then Some x else at_number number n xs
 
+-- the instance of this number, if it stands in the book
 abbrev pub instance_at : ℕ → List Instance → Option Instance
 instance_at n is = at_number (λ i. i.number) n is
 
+-- the page of this number, if it is one of these
 abbrev pub page_at : ℕ → List Page → Option Page
 page_at n ps = at_number (λ p. p.number) n ps
 
+-- the page that another one goes on from, if there is one
 abbrev pub parent_of : List Page → Option ℕ → Option Page
 parent_of ps None = None
 parent_of ps (Some n) = page_at n ps
@@ -150,9 +153,11 @@ chain_within zero ps p = []
 chain_within (suc n) ps None = []
 chain_within (suc n) ps (Some p) = chain_within n ps (parent_of ps p.parent) ++ p ∷ []
 
+-- a page and the pages before it that led to it
 abbrev pub chain : List Page → Page → List Page
 chain ps p = chain_within (length ps) ps (Some p)
 
+-- whether the time of a page is over
 abbrev pub is_expired : ℕ → Page → Bool
 is_expired clock p = nat_le p.deadline clock
 

@@ -21,9 +21,11 @@ put_in_order number x [] = x ∷ []
 put_in_order number x (y ∷ ys) =
     if nat_lt (number x) (number y) then x ∷ y ∷ ys else (if number x == number y then x ∷ ys else y ∷ put_in_order number x ys)
 
+-- these pages with one more, at the place of its number
 abbrev pub put_page : Page → List Page → List Page
 put_page p ps = put_in_order (λ q. q.number) p ps
 
+-- these instances with one more, or with one for another of its number
 abbrev pub put_instance : Instance → List Instance → List Instance
 put_instance i is = put_in_order (λ j. j.number) i is
 
@@ -127,6 +129,7 @@ logged_by (ends e) = e.number + 1
 logged_by (finishes f) = f.number + 1
 logged_by (sweeps tick) = 0
 
+-- the time after a change: a sweep sets it to its tick, and no other change moves it
 abbrev pub clock_by : Change → ℕ → ℕ
 clock_by (sweeps tick) clock = tick
 clock_by _ clock = clock

@@ -148,9 +148,11 @@ pub record Moment : Type 0 where
   pub event : Event
   pub fate : Fate
 
+-- the book after one moment
 abbrev pub then_book : Moment → Book → Book
 then_book m b = (step m.rules b m.nonce m.event m.fate).1
 
+-- the book after these moments
 abbrev pub book_after : List Moment → Book → Book
 book_after [] b = b
 book_after (m ∷ ms) b = book_after ms (then_book m b)
@@ -285,6 +287,7 @@ Opens (compacts r) = ⊥
 Opens (replies (shown bytes url)) = ⊥
 Opens (replies r) = ⊤
 
+-- the publish of a start opens an instance with a page, or changes nothing
 abbrev pub AStartOpensOrLeaves : Type 0
 AStartOpensOrLeaves = (rules : Rules) (b : Book) (t : Ticket) (k : ℕ) (s : Named) → Opens (decide rules b t (begins k s))
 
@@ -352,6 +355,7 @@ ClosedIsClosed =
     × ((a : Book) → IsSound a → Leads a c → IsOn name a next.event
     → IsRefusal (step next.rules c next.nonce next.event next.fate).0 × (then_book next c ≡ without_effect next.event c))
 
+-- the transactions that the page of a change in doubt is inside
 abbrev pub names_in_doubt : Work → List TxName
 names_in_doubt (landing c inside) = inside
 names_in_doubt compacting = []
@@ -433,6 +437,7 @@ tickets_by (publish t) r ts = filter (λ u. not (u.number == t.number)) ts
 tickets_by (crash scripts) r ts = []
 tickets_by _ _ ts = ts
 
+-- the tickets that are out after these moments
 abbrev pub tickets_over : List Moment → Book → List Ticket → List Ticket
 tickets_over [] b ts = ts
 tickets_over (m ∷ ms) b ts = tickets_over ms (then_book m b) (tickets_by m.event (step m.rules b m.nonce m.event m.fate).0 ts)
@@ -449,6 +454,7 @@ abbrev pub Rise : ℕ → List (ℕ × Val) → Type 0
 Rise low [] = ⊤
 Rise low (s ∷ ss) = (low ≤ s.0) × Rise (s.0 + 1) ss
 
+-- the bindings of web cells where a run gave its value or stopped
 abbrev pub shadows_at : End Val → List (ℕ × Val)
 shadows_at (got v state) = state.shadows
 shadows_at (stop o entered state) = state.shadows

@@ -45,7 +45,7 @@ eviction_of m = record { page = m.number; by = by_of m.gone }
 abbrev pub uses_of : List Mark → List Use
 uses_of ms = map use_of (filter stays ms)
 
--- the evictions of those that are
+-- the evictions of the pages that were evicted
 abbrev pub evictions_of : List Mark → List Eviction
 evictions_of ms = map eviction_of (filter went ms)
 

@@ -96,6 +96,7 @@ IsDiskFault (disk_failed count) = ⊤
 IsDiskFault (down count) = ⊤
 IsDiskFault _ = ⊥
 
+-- a target is admitted: it begins an instance or goes on from a page
 abbrev pub IsAdmission : Admission → Type 0
 IsAdmission (refused r) = ⊥
 IsAdmission _ = ⊤

@@ -90,6 +90,7 @@ shows_so (paged (shows k) bytes) kind effects left m =
     when (is_kind k kind && are_effects m.effects effects && are_names m.left left) m.entered
 shows_so _ kind effects left m = None
 
+-- the names that a page is inside which is made again from its record, where a run shows one of this kind with these effects
 abbrev pub again : SendKind → List Effect → (left : List TxName) → Segment → Option (List TxName)
 again kind effects left m = shows_so m.outcome kind effects left m
 
@@ -135,6 +136,7 @@ pub record Made : Type 0 where
   pub book : Book
   pub seen : List ℕ
 
+-- what a journal makes before its first change: the empty book of its shelf
 abbrev pub nothing_made : Rules → List Named → (shelf : ℕ) → Made
 nothing_made rules scripts shelf = record { book = empty_book rules scripts shelf; seen = [] }
 
@@ -146,10 +148,12 @@ number_in (ends e) = Some e.number
 number_in (finishes f) = Some f.number
 number_in (sweeps tick) = None
 
+-- whether a record tells a number that was seen before
 abbrev pub is_repeated : Option ℕ → List ℕ → Bool
 is_repeated None seen = false
 is_repeated (Some n) seen = is_one n seen
 
+-- the numbers that were seen, with the one that a record tells
 abbrev pub with_number : Option ℕ → List ℕ → List ℕ
 with_number None seen = seen
 with_number (Some n) seen = n ∷ seen

@@ -12,6 +12,7 @@ use Rattle.replay_spec.specs.Next.{url_of}
 use Rattle.replay_spec.specs.Step.{Event, take, publish, Fate, plain, Reply, shown}
 use Rattle.replay_spec.specs.Runs.{Shelf, answers_to, empty_shelf}
 
+-- the name of the scripts of the rows
 abbrev pub name : List ℕ
 name = codes "s"
 
@@ -23,6 +24,7 @@ script web cells parts = record { name = name; text = []; script = record { web 
 abbrev pub journal : (begun length : ℕ) → Journal
 journal begun length = record { begun = λ ss. begun; renewed = λ ss. length; length_of = λ b c. length }
 
+-- the rules of the rows' shelf, whose journal has 100 bytes with its setup and 50 more by each change
 abbrev pub rules : Rules
 rules = record { fuel = 100000; life = 3600; instances = 256; pages = 64; journal = Some (journal 100 50) }
 
@@ -38,9 +40,11 @@ counted k = k
 abbrev pub Answers : Shelf → List (Event × Fate) → List Reply → Type 0
 Answers s events expected = answers_to counted events s ≡ expected
 
+-- the target that is a page of an instance
 abbrev pub at : (instance n nonce : ℕ) → Destination
 at instance n nonce = page name (record { shelf = 0; instance = instance; page = n; nonce = nonce })
 
+-- the URL of a page of an instance
 abbrev pub url : (instance n nonce : ℕ) → List ℕ
 url instance n nonce = url_of (record { name = name; shelf = 0; instance = instance }) n nonce
 
@@ -48,12 +52,15 @@ url instance n nonce = url_of (record { name = name; shelf = 0; instance = insta
 abbrev pub link_to : (words : List ℕ) → (instance n : ℕ) → Reply
 link_to words instance n = shown words (url instance n n)
 
+-- a take of a target with these pairs, where memory is there
 abbrev pub takes : Destination → Val → Event × Fate
 takes d v = (take d v, plain)
 
+-- the publish of the ticket of this number and nonce, as an event
 abbrev pub publishing : Destination → Val → (n nonce : ℕ) → Event
 publishing d v n nonce = publish (record { target = d; answer = v; number = n; nonce = nonce })
 
+-- a publish of the ticket of this number, where memory is there
 abbrev pub publishes : Destination → Val → (n : ℕ) → Event × Fate
 publishes d v n = (publishing d v n n, plain)
 
@@ -61,9 +68,11 @@ publishes d v n = (publishing d v n n, plain)
 abbrev pub get : Destination → Val → (n : ℕ) → List (Event × Fate)
 get d v n = takes d v ∷ publishes d v n ∷ []
 
+-- the answer without a pair
 abbrev pub nothing : Val
 nothing = list no_vals
 
+-- an expression whose value is a text, as the body of a page
 abbrev pub says : List ℕ → Core
 says words = lit (text words)
 

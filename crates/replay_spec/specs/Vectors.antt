@@ -51,9 +51,11 @@ pub paid_once :
 unfolding step digits
 paid_once = refl
 
+-- the visits of the shop's pages, up to the one that pays
 abbrev to_pay : List (Event × Fate)
 to_pay = get (start name) nothing 0 ++ get (at 0 0 0) nothing 1 ++ get (at 0 1 1) nothing 2
 
+-- the replies to the visits of the shop's pages, up to the one that pays
 abbrev paying : List Reply
 paying = taken 0 0 ∷ link_to (codes "cart") 0 0 ∷ taken 1 1 ∷ link_to (codes "card") 0 1 ∷ taken 2 2 ∷ link_to (codes "pay") 0 2 ∷ []
 
@@ -72,14 +74,16 @@ pub closed_at_the_end :
 unfolding step
 closed_at_the_end = refl
 
--- a payment in doubt is kept or lost at the crash; a lost one's number is drawn again, and the nonces go on
+-- a payment whose record is in doubt until a crash with this fate, and a visit of its page after the crash
 abbrev doubted : Fate → List (Event × Fate)
 doubted fate = to_pay ++ takes (at 0 2 2) nothing ∷ (publishing (at 0 2 2) nothing 3 3, disk_fault 1) ∷ takes (at 0 1 1) nothing ∷ (crash (pay ∷ []), fate) ∷ takes (at 0 1 1) nothing ∷ []
 
+-- a payment that was in doubt and is kept at the crash closes its transaction
 pub payment_kept : Answers (opened rules pay) (doubted kept) (paying ++ taken 3 3 ∷ disk_failed 1 ∷ down 1 ∷ live 1 ∷ refusal (Closed (transaction 1)) ∷ [])
 unfolding step digits
 payment_kept = refl
 
+-- a payment that was in doubt and is lost at the crash may be made again: its number is drawn again, and the nonces go on
 pub payment_lost : Answers (opened rules pay) (doubted lost) (paying ++ taken 3 3 ∷ disk_failed 1 ∷ down 1 ∷ live 1 ∷ taken 3 4 ∷ [])
 unfolding step digits
 payment_lost = refl
@@ -101,6 +105,7 @@ pub crashed :
 unfolding step
 crashed = refl
 
+-- a ticket that was lost in a crash leaves the book empty
 pub nothing_is_out : (after counted (takes (start name) nothing ∷ (crash (hotel ∷ []), lost) ∷ []) (opened rules hotel)).book ≡ empty_book rules (hotel ∷ []) 0
 unfolding step
 nothing_is_out = refl
@@ -123,19 +128,21 @@ pub expired :
 unfolding step
 expired = refl
 
--- a sweep in doubt is kept or lost
+-- a sweep that is in doubt until a crash with this fate, and a visit after it
 abbrev swept_or_not : Fate → List (Event × Fate)
 swept_or_not fate = get (start name) nothing 0 ++ (sweep 100, disk_fault 2) ∷ (sweep 200, plain) ∷ (crash (hotel ∷ []), fate) ∷ takes (at 0 0 0) nothing ∷ []
 
+-- a sweep that was in doubt and is kept at the crash has freed its instance
 pub sweep_kept : Answers (opened (record rules { life = 100 }) hotel) (swept_or_not kept) (taken 0 0 ∷ link_to (codes "list") 0 0 ∷ disk_failed 2 ∷ down 2 ∷ live 0 ∷ refusal Unknown ∷ [])
 unfolding step
 sweep_kept = refl
 
+-- a sweep that was in doubt and is lost at the crash has freed nothing
 pub sweep_lost : Answers (opened (record rules { life = 100 }) hotel) (swept_or_not lost) (taken 0 0 ∷ link_to (codes "list") 0 0 ∷ disk_failed 2 ∷ down 2 ∷ live 1 ∷ taken 1 1 ∷ [])
 unfolding step
 sweep_lost = refl
 
--- limits
+-- a shelf is full where it has as many instances as its limit says
 pub too_many_instances :
     Answers (opened (record rules { instances = 1 }) hotel) (get (start name) nothing 0 ++ get (start name) nothing 1) (taken 0 0 ∷ link_to (codes "list") 0 0 ∷ taken 1 1 ∷ shelf_full 1 ∷ [])
 unfolding step
@@ -199,11 +206,12 @@ pub older_answer :
 unfolding step
 older_answer = refl
 
--- where the limit is lower than the pages are many, several go at once
+-- an instance whose first page was answered three times, each time with a new page
 abbrev four_pages : List (Event × Fate)
 four_pages =
     get (start name) nothing 0 ++ get (at 0 0 0) (text (codes "A")) 1 ++ get (at 0 0 0) (text (codes "B")) 2 ++ get (at 0 0 0) (text (codes "C")) 3
 
+-- where a shelf is opened with a lower limit, the pages that are too many go at once at the next page
 pub lower_limit :
     Answers (record (after counted four_pages (opened rules hotel)) { rules = record rules { pages = 2 } })
     (get (at 0 0 0) (text (codes "D")) 4 ++ takes (at 0 1 1) nothing ∷ takes (at 0 2 2) nothing ∷ takes (at 0 3 3) nothing ∷ get (at 0 4 4) nothing 5)
@@ -219,7 +227,7 @@ pub freed_with_evicted :
 unfolding step
 freed_with_evicted = refl
 
--- also where its own time is not over, as the pages of an earlier opening had a longer life
+-- an instance is freed with a page that was evicted and whose own time is not over, as an earlier opening gave longer lives
 pub freed_with_evicted_young :
     Answers (record (after counted (get (start name) nothing 0 ++ (sweep 50, plain) ∷ []) (opened (record rules { life = 100 }) hotel)) {
       rules = record rules { pages = 1; life = 10 };
@@ -250,12 +258,14 @@ pub too_long_a_record :
 unfolding step
 too_long_a_record = refl
 
+-- a record that would make the journal longer than it may be is refused
 pub too_long_a_journal :
     Answers (opened (record rules { journal = Some (journal (2 ^ 30 - 60) 50) }) hotel) (get (start name) nothing 0 ++ get (start name) nothing 1 ++ (sweep 5, plain) ∷ [])
     (taken 0 0 ∷ link_to (codes "list") 0 0 ∷ taken 1 1 ∷ journal_full 1073741874 ∷ journal_full 1073741874 ∷ [])
 unfolding step
 too_long_a_journal = refl
 
+-- a shelf whose numbers are used up takes no visit
 pub worn_out : (step rules (record (empty_book rules (hotel ∷ []) 0) { drawn = 2 ^ 62 }) 0 (take (start name) nothing) plain).0 ≡ worn
 unfolding step
 worn_out = refl
@@ -265,6 +275,7 @@ pub in_fuel : Answers (opened (record rules { fuel = 11 }) (script [] [] (says (
 unfolding step
 in_fuel = refl
 
+-- a segment whose cost is above its fuel stops with that cost
 pub out_of_it : Answers (opened (record rules { fuel = 11 }) (script [] [] (says (codes "123456789") ∷ []))) (get (start name) nothing 0) (taken 0 0 ∷ out_of_fuel 12 ∷ [])
 unfolding step
 out_of_it = refl

@@ -24,9 +24,11 @@ sized head = record rules { journal = Some (record { begun = λ ss. head; renewe
 abbrev twice : Named
 twice = script [] [] (link (codes "1") ∷ link (codes "2") ∷ says (codes "7") ∷ [])
 
+-- a visitor answers both pages, and the script ends
 abbrev through : List (Event × Fate)
 through = get (start name) nothing 0 ++ get (at 0 0 0) nothing 1 ++ get (at 0 1 1) nothing 2
 
+-- the replies to a visitor who goes through to the end
 abbrev went : List Reply
 went = taken 0 0 ∷ link_to (codes "1") 0 0 ∷ taken 1 1 ∷ link_to (codes "2") 0 1 ∷ taken 2 2 ∷ ended (codes "7") ∷ []
 
@@ -38,41 +40,48 @@ pub freed_and_compacted :
 unfolding step
 freed_and_compacted = refl
 
--- the records of an instance that stands stay, and of sweeps that stand together the last one does
+-- visits of an instance that stands, with two ticks before each
 abbrev live_on : List (Event × Fate)
 live_on = (sweep 5, plain) ∷ (sweep 6, plain) ∷ get (start name) nothing 0 ++ (sweep 7, plain) ∷ (sweep 8, plain) ∷ get (at 0 0 0) nothing 1
 
 abbrev lived : Book
 lived = (after counted live_on (opened (sized 100) twice)).book
 
+-- the file before a compaction has its first record, four records of ticks and two of pages
 pub length_before : lived.length ≡ 100 + 4 * 14 + 2 * 55
 unfolding step
 length_before = refl
 
+-- the compacted file has its first record, the next number, two ticks and both pages
 pub length_behind : file_length (compaction lived) ≡ 100 + 14 + 2 * 14 + 2 * 55
 unfolding step
 length_behind = refl
 
+-- a file makes the book that it was written from, as after a crash
 pub file_makes_the_book : (made_of_file 0 lived.file).book ≡ reopened lived
 unfolding step
 file_makes_the_book = refl
 
+-- the compacted file makes the same book, with its own length
 pub compaction_makes_the_book : (made_of_file 0 (compaction lived)).book ≡ record (reopened lived) { length = 252; file = compaction lived }
 unfolding step
 compaction_makes_the_book = refl
 
--- where the disk fails in a compaction the shelf is down until the crash, which takes the new length or the old one
+-- a compaction that is in doubt until a crash with this fate
 abbrev doubted : Fate → List (Event × Fate)
 doubted fate = live_on ++ (compact, disk_fault 1) ∷ (compact, plain) ∷ (crash (twice ∷ []), fate) ∷ []
 
+-- the disk fails in a compaction: where it is kept at the crash, the file has the new length
 pub compaction_kept : (after counted (doubted kept) (opened (sized 100) twice)).book.length ≡ 252
 unfolding step
 compaction_kept = refl
 
+-- the disk fails in a compaction: where it is lost at the crash, the file has the old length
 pub compaction_lost : (after counted (doubted lost) (opened (sized 100) twice)).book.length ≡ 266
 unfolding step
 compaction_lost = refl
 
+-- a shelf with a compaction in doubt is down until the crash
 pub down_while_in_doubt :
     Answers (opened (sized 100) twice) ((compact, disk_fault 1) ∷ (compact, plain) ∷ (compact, no_memory) ∷ (crash (twice ∷ []), lost) ∷ (compact, plain) ∷ [])
     (disk_failed 1 ∷ down 1 ∷ memory ∷ live 0 ∷ compacted 114 ∷ [])
@@ -84,14 +93,15 @@ pub too_long_a_file : Answers (opened (sized (2 ^ 30 - 13)) twice) ((compact, pl
 unfolding step
 too_long_a_file = refl
 
--- A record tells a setup with another text, and none tells one that is the same. An instance goes on with its own script, also where the
--- file is compacted and read again.
+-- the script of another text, which ends with `v2`
 abbrev renewed : Named
 renewed = record (script [] [] (says (codes "v2") ∷ [])) { text = codes "v2" }
 
+-- a page is answered, the setup changes twice to the same one, and an instance of the new script is begun
 abbrev edited : List (Event × Fate)
 edited = get (start name) nothing 0 ++ get (at 0 0 0) (text (codes "A")) 1 ++ (crash (renewed ∷ []), lost) ∷ (crash (renewed ∷ []), lost) ∷ get (start name) nothing 2 ++ get (at 0 1 1) nothing 3
 
+-- an instance goes on with its own script where the setup changes, and a start is of the new one
 pub edited_answers :
     Answers (opened (sized 100) hotel) edited
     (taken 0 0 ∷ link_to (codes "list") 0 0 ∷ taken 1 1 ∷ link_to (codes "confirm") 0 1 ∷ live 1 ∷ live 1 ∷ taken 2 2 ∷ ended (codes "v2") ∷ taken 3 3 ∷ ended (codes "A") ∷ [])
@@ -101,14 +111,17 @@ edited_answers = refl
 abbrev behind_edits : Book
 behind_edits = (after counted edited (opened (sized 100) hotel)).book
 
+-- a file with another setup has one record more, for both times that it was told
 pub edited_length : behind_edits.length ≡ 100 + 3 * 55 + 45
 unfolding step
 edited_length = refl
 
+-- a file with another setup makes the book that it was written from, as after a crash
 pub edited_file : (made_of_file 0 behind_edits.file).book ≡ reopened behind_edits
 unfolding step
 edited_file = refl
 
+-- the compacted file with another setup makes the same book, where each instance goes on with its own script
 pub edited_compaction :
     (made_of_file 0 (compaction behind_edits)).book ≡ record (reopened behind_edits) { length = 324; file = compaction behind_edits }
 unfolding step

@@ -17,6 +17,7 @@ use Rattle.replay_spec.specs.Samples.{name, rules, opened, Answers, at, link_to,
 abbrev script : List Val → List Core → Core → Named
 script cells tasks body = record { name = name; text = []; script = record { web = []; cells = cells; tasks = cores_of tasks; body = body } }
 
+-- a literal of this symbol
 abbrev sym : List ℕ → Core
 sym s = lit (symbol s)
 
@@ -27,7 +28,7 @@ asking =
     ∷ send Suspend (prim op.List (cores_of (sym (codes "a") ∷ prim op.List (cores_of (prim op.List (cores_of (sym (codes "href") ∷ var 1 ∷ [])) ∷ [])) ∷ var 0 ∷ []))) ∷ []))
     ∷ []))
 
--- two numbers are asked for by one task, and added
+-- a script that asks for two numbers by one task, and adds them
 abbrev ask : Named
 ask = script [] (asking ∷ [])
     (prim op.List (cores_of (sym (codes "p") ∷ prim op.NumberToString (cores_of (prim op.Add (cores_of (call 0 (cores_of (says (codes "1") ∷ [])) ∷ call 0 (cores_of (says (codes "2") ∷ [])) ∷ [])) ∷ [])) ∷ [])))
@@ -36,32 +37,38 @@ ask = script [] (asking ∷ [])
 abbrev n_is : List ℕ → Val
 n_is v = list (val (list (val (symbol (codes "n")) (val (text v) no_vals))) no_vals)
 
--- the page that the segment of this number shows
+-- a run stops at a page with a link of these words
 abbrev linked : List ℕ → Outcome
 linked words = paged (shows Suspend) (codes "<a href=\"u\">" ++ words ++ codes "</a>")
 
+-- a segment of this number that read nothing
 abbrev segment : ℕ → Now
 segment n = record { number = n; url = codes "u"; reads = recorded [] }
 
+-- a tape of these answers, whose segments read nothing
 abbrev over : List Val → Tape
 over answers = record { first = segment 0; later = map (λ v. record { value = v; segment = segment 1 }) answers }
 
+-- without an answer the run stops at the page of the first call
 pub asked_once : (run ask.script (over [])).outcome ≡ linked (codes "1")
 asked_once = refl
 
+-- with one answer the run stops at the page of the second call
 pub asked_twice : (run ask.script (over (n_is (codes "3") ∷ []))).outcome ≡ linked (codes "2")
 asked_twice = refl
 
+-- with two answers both calls give their numbers, which are added
 pub added : (run ask.script (over (n_is (codes "3") ∷ n_is (codes "4") ∷ []))).outcome ≡ paged ends (codes "<p>7</p>")
 unfolding digits
 added = refl
 
--- a transaction in a task is left and closed as one of the expression is
+-- a script of a cart, a task with a transaction of two pages, and a receipt
 abbrev pay : Named
 pay = script (number (pos 0) ∷ [])
     (isolate (seq (cores_of (link (codes "card") ∷ link (codes "pay") ∷ inst_add 0 (lit (number (pos 1))) ∷ []))) ∷ [])
     (seq (cores_of (link (codes "cart") ∷ call 0 no_cores ∷ send Suspend (prim op.NumberToString (cores_of (inst_ref 0 ∷ []))) ∷ says (codes "end") ∷ [])))
 
+-- a transaction in a task is left and closed as one of the expression is: a payment is made once
 pub paid_once :
     Answers (opened rules pay)
     (get (start name) nothing 0 ++ get (at 0 0 0) nothing 1 ++ get (at 0 1 1) nothing 2 ++ get (at 0 1 1) nothing 3 ++ get (at 0 2 2) nothing 4
@@ -71,7 +78,7 @@ pub paid_once :
 unfolding step digits
 paid_once = refl
 
--- a task calls the one before it, and may be called from many places; its variables are its parameters alone, the outermost first
+-- a script of two tasks, of which the second calls the first twice; the variables of a body are its parameters alone
 abbrev twice : Script
 twice = record {
   web = [];
@@ -83,6 +90,7 @@ twice = record {
   body = bind (cores_of (says (codes "x") ∷ [])) (prim op.StringAppend (cores_of (call 1 (cores_of (says (codes "a") ∷ [])) ∷ var 0 ∷ [])));
 }
 
+-- a tape without an answer, over no cell, with a fuel of 100
 abbrev alone : Tape
 alone = record { first = record { number = 0; url = []; reads = present [] 100 }; later = [] }
 

@@ -11,15 +11,19 @@ pub record Count : Type 0 where
   pub failed : ℕ
   pub dropped : ℕ
 
+-- the count before anything was served
 abbrev pub nothing : Count
 nothing = record { pages = 0; refused = 0; failed = 0; dropped = 0 }
 
+-- the count of one connection that was dropped
 abbrev pub one_dropped : Count
 one_dropped = record nothing { dropped = 1 }
 
+-- the count of one connection that failed
 abbrev pub one_failed : Count
 one_failed = record nothing { failed = 1 }
 
+-- the counts of both together
 abbrev pub both : Count → Count → Count
 both a b = record {
   pages = a.pages + b.pages;

@@ -27,9 +27,11 @@ pub record Visited : Type 0 where
   pub pages : ℕ
   pub refused : ℕ
 
+-- the count of a connection that carried no visit
 abbrev pub no_visit : Visited
 no_visit = record { pages = 0; refused = 0 }
 
+-- the counts of the visits of both together
 abbrev pub both : Visited → Visited → Visited
 both a b = record { pages = a.pages + b.pages; refused = a.refused + b.refused }
 
@@ -42,6 +44,7 @@ visited_told (word status bytes) = record { pages = 0; refused = 1 }
 abbrev pub visited : Reply → Visited
 visited reply = visited_told (told reply)
 
+-- what a worker counted of a connection's visits
 abbrev pub links_count : Links → Visited
 links_count links = record { pages = links.pages; refused = links.refused }
 
@@ -54,6 +57,7 @@ pub record Exchange : Type 0 where
   pub visit : Visit
   pub reply : Reply
 
+-- the visits among what a connection carried
 abbrev pub visits_in : List Exchange → List Visit
 visits_in exchanges = map (λ (e : Exchange). e.visit) exchanges
 
@@ -197,6 +201,7 @@ pub record Answered {P : Type 0} (rules : PassRules P) (before after : P) (reque
   pub wrote : WroteReply end (request.closes || last) (reply_text (answers.Reply reply) (request.closes || last)) old.output new.output
   pub number : count' ≡ both count (visited reply)
 
+-- a refusal with this reason was written whole as the connection's last reply, or was begun where writing failed
 abbrev pub WroteRefusal : LinkEnd → Reason → (old new : SinkView) → Type 0
 WroteRefusal (ends.Refused said) reason old new = (said ≡ reason) × Wrote (reply_text (answers.Refused reason) true) old new
 WroteRefusal ends.WriteFault reason old new = WrotePart (reply_text (answers.Refused reason) true) old new

@@ -3,6 +3,7 @@ use Rattle.std.specs.Prelude.{ℕ, ◌<◌}
 use Rattle.request_workers.specs.Counting.{Count}
 use Rattle.request_workers.specs.declared.tally.Tally.{Tally}
 
+-- the counts that the program's tally stands for
 abbrev pub count_of : Tally → Count
 count_of tally = record { pages = tally.pages; refused = tally.refused; failed = tally.failed; dropped = tally.dropped }
 

@@ -19,12 +19,15 @@ pub record Arena : Type 0 where
   pub cells : List Val
   pub tasks : List ℕ
 
+-- the parts of a script: its nodes, its web cells, its instance cells and its tasks
 abbrev parted : Arena → List Node × (List Val × (List Val × List ℕ))
 parted a = (a.nodes, (a.web, (a.cells, a.tasks)))
 
+-- the script of these nodes, web cells, instance cells and tasks
 abbrev joined : List Node × (List Val × (List Val × List ℕ)) → Arena
 joined p = record { nodes = p.0; web = p.1.0; cells = p.1.1.0; tasks = p.1.1.1 }
 
+-- a code of scripts, by a code of their nodes
 abbrev pub arena_code : Coded Node → Coded Arena
 arena_code c =
     code_by (List Node × (List Val × (List Val × List ℕ))) (coded× (coded_list c) (coded× (coded_list val_code) (coded× (coded_list val_code) (coded_list coded_ℕ))))
@@ -97,6 +100,7 @@ shape part (node.InstRef c) = inst_ref c
 shape part (node.InstSet c value) = inst_set c (part value)
 shape part (node.InstAdd c value) = inst_add c (part value)
 
+-- the tree of a node over the trees of its parts; without a node, a literal
 abbrev pub shape_at : (ℕ → Core) → Option Node → Core
 shape_at part None = lit (truth false)
 shape_at part (Some x) = shape part x

@@ -25,6 +25,7 @@ abbrev mutual
   CallsBelow n (inst_set c e) = CallsBelow n e
   CallsBelow n (inst_add c e) = CallsBelow n e
 
+  -- each of these trees calls tasks below a number alone
   pub AllCallBelow : ℕ → Cores → Type 0
   AllCallBelow n no_cores = ⊤
   AllCallBelow n (core c cs) = CallsBelow n c × AllCallBelow n cs

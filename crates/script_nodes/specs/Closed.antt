@@ -4,6 +4,7 @@ use Rattle.std.specs.Prelude.{◌≡◌, ℕ, suc, ◌+◌, ◌<◌, Bool, true,
 use Rattle.prim_spec.specs.Table.{takes}
 use Rattle.script_nodes.specs.Core.{Core, Cores, lit, var, bind, branch, repeat, prim, seq, and_all, or_any, call, send, finish, back, isolate, cell_ref, cell_shadow, inst_ref, inst_set, inst_add, no_cores, core}
 
+-- how many trees these are
 abbrev pub cores_length : Cores → ℕ
 cores_length no_cores = 0
 cores_length (core c cs) = suc (cores_length cs)
@@ -32,6 +33,7 @@ abbrev mutual
   IsClosed web cells tasks scope in_page (inst_set c e) = (in_page ≡ false) × (c < cells) × IsClosed web cells tasks scope false e
   IsClosed web cells tasks scope in_page (inst_add c e) = (in_page ≡ false) × (c < cells) × IsClosed web cells tasks scope false e
 
+  -- each of these trees is closed within so many cells, tasks and variables
   pub AreClosed : (web cells : ℕ) → (tasks : List ℕ) → (scope : ℕ) → (in_page : Bool) → Cores → Type 0
   AreClosed web cells tasks scope in_page no_cores = ⊤
   AreClosed web cells tasks scope in_page (core c cs) = IsClosed web cells tasks scope in_page c × AreClosed web cells tasks scope in_page cs

@@ -5,6 +5,7 @@ use Rattle.script_value.specs.declared.outcome.Op.{Op}
 use Rattle.script_nodes.specs.declared.script.SendKind.{SendKind}
 
 mutual
+  -- an expression of the core language, with the expressions in it
   pub data Core : Type 0 where
     -- a literal; a variable (the outermost is 0); bindings with a body; a choice; turns of a body; an operation
     lit : Val → Core
@@ -27,10 +28,12 @@ mutual
     inst_ref : ℕ → Core
     inst_set inst_add : ℕ → Core → Core
 
+  -- expressions of the core language, one after the other
   pub data Cores : Type 0 where
     no_cores : Cores
     core : Core → Cores → Cores
 
+-- these expressions as the parts of another
 abbrev pub cores_of : List Core → Cores
 cores_of [] = no_cores
 cores_of (c ∷ cs) = core c (cores_of cs)
@@ -58,6 +61,7 @@ abbrev mutual
   count (inst_set c e) = suc (count e)
   count (inst_add c e) = suc (count e)
 
+  -- how many nodes all of these trees have
   pub count_all : Cores → ℕ
   count_all no_cores = 0
   count_all (core c cs) = count c + count_all cs
@@ -85,6 +89,7 @@ abbrev mutual
   height (inst_set c e) = suc (height e)
   height (inst_add c e) = suc (height e)
 
+  -- how high the highest of these trees is
   pub height_all : Cores → ℕ
   height_all no_cores = 0
   height_all (core c cs) = max (height c) (height_all cs)
@@ -112,6 +117,7 @@ abbrev mutual
   OnCells web cells (inst_set c e) = (c < cells) × OnCells web cells e
   OnCells web cells (inst_add c e) = (c < cells) × OnCells web cells e
 
+  -- each of these trees reads and writes cells of a script with so many of them alone
   pub AllOnCells : (web cells : ℕ) → Cores → Type 0
   AllOnCells web cells no_cores = ⊤
   AllOnCells web cells (core c cs) = OnCells web cells c × AllOnCells web cells cs

@@ -46,6 +46,7 @@ abbrev mutual
   layout n (inst_set c e) = node.InstSet c (n + 1) ∷ layout (n + 1) e
   layout n (inst_add c e) = node.InstAdd c (n + 1) ∷ layout (n + 1) e
 
+  -- the nodes of these trees, one tree after the other, from a number on
   pub layout_all : ℕ → Cores → List Node
   layout_all n no_cores = []
   layout_all n (core c cs) = layout n c ++ layout_all (n + count c) cs

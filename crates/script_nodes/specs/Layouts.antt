@@ -4,6 +4,7 @@ use Rattle.script_nodes.specs.Core.{Core, Cores, lit, var, bind, branch, repeat,
 use Rattle.script_nodes.specs.Layout.{layout, layout_all}
 
 mutual
+  -- a tree is laid out in as many nodes as it has
   pub length-layout : (n : ℕ) (c : Core) → length (layout n c) ≡ count c
   length-layout n (lit v) = refl
   length-layout n (var k) = refl
@@ -26,10 +27,12 @@ mutual
   length-layout n (inst_set c e) = omega (arith, length-layout (n + 1) e)
   length-layout n (inst_add c e) = omega (arith, length-layout (n + 1) e)
 
+  -- trees are laid out in as many nodes as they have together
   pub length-layout_all : (n : ℕ) (cs : Cores) → length (layout_all n cs) ≡ count_all cs
   length-layout_all n no_cores = refl
   length-layout_all n (core c cs) = simp length-append (omega (arith, length-layout n c, length-layout_all (n + count c) cs))
 
+-- a tree has a node
 pub count_pos : (c : Core) → 0 < count c
 count_pos (lit v) = omega arith
 count_pos (var k) = omega arith

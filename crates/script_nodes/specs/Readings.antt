@@ -10,6 +10,7 @@ use Rattle.script_nodes.specs.Layout.{layout, layout_all, starts, value_from}
 use Rattle.script_nodes.specs.Layouts.{length-layout, length-layout_all, count_pos}
 use Rattle.script_value.proofs.Folds.{vals_of-items_of}
 
+-- the first node after a front stands at the front's length
 slice_get_seam : (before : List Node) (x : Node) (xs : List Node) → slice_get (before ++ x ∷ xs) (length before) ≡ Some x
 slice_get_seam [] x xs = refl
 slice_get_seam (y ∷ before) x xs = slice_get_seam before x xs
@@ -19,14 +20,17 @@ abbrev pub StandAt : List Node → ℕ → List Node → Type 0
 StandAt nodes n [] = ⊤
 StandAt nodes n (x ∷ xs) = (slice_get nodes n ≡ Some x) × StandAt nodes (n + 1) xs
 
+-- where nodes stand at a place, the first of them do
 pub front : (nodes : List Node) (n : ℕ) (xs ys : List Node) → StandAt nodes n (xs ++ ys) → StandAt nodes n xs
 front nodes n [] ys h = tt
 front nodes n (x ∷ xs) ys h = (h.0, front nodes (n + 1) xs ys h.1)
 
+-- where nodes stand at a place, the last of them stand so much further on
 pub behind : (nodes : List Node) (n m : ℕ) (xs ys : List Node) → n + length xs ≡ m → StandAt nodes n (xs ++ ys) → StandAt nodes m ys
 behind nodes n m [] ys e h = let f : n ≡ m = omega arith in rw (← f) h
 behind nodes n m (x ∷ xs) ys e h = behind nodes (n + 1) m xs ys (omega arith) h.1
 
+-- a value of the program that was made for a value stands for it
 pub meaning-value_from : (v : Val) → meaning (value_from v) ≡ v
 meaning-value_from (number n) = refl
 meaning-value_from (truth b) = refl
@@ -37,6 +41,7 @@ meaning-value_from (list vs) = ap list (vals_of-items_of vs)
 mutual
   unfolding tree_within
 
+  -- the tree that stands at the place of a layout is the tree that was laid out
   pub reads : (nodes : List Node) (bound n : ℕ) (c : Core) → StandAt nodes n (layout n c) → count c ≤ bound → tree_within bound nodes n ≡ c
   reads nodes zero n c s h = absurd (omega (arith, count_pos c))
   reads nodes (suc b) n (lit v) s h = rw s.0 (ap lit (meaning-value_from v))
@@ -71,6 +76,7 @@ mutual
   reads nodes (suc b) n (inst_set c e) s h = let part = reads nodes b (n + 1) e s.1 (omega arith) in rw s.0 (cc)
   reads nodes (suc b) n (inst_add c e) s h = let part = reads nodes b (n + 1) e s.1 (omega arith) in rw s.0 (cc)
 
+  -- the trees that stand at the places of their layouts are the trees that were laid out
   pub reads_all : (nodes : List Node) (bound n : ℕ) (cs : Cores) → StandAt nodes n (layout_all n cs) → count_all cs ≤ bound
       → cores_of (map (tree_within bound nodes) (starts n cs)) ≡ cs
   reads_all nodes b n no_cores s h = refl
@@ -79,6 +85,7 @@ mutual
       let rest = reads_all nodes b (n + count c) cs (behind nodes n _ (layout n c) _ (omega (arith, length-layout n c)) s) (omega arith) in
       cc
 
+-- nodes that were put after others stand at the length of these
 pub at_end : (before xs nodes : List Node) → nodes ≡ before ++ xs → StandAt nodes (length before) xs
 at_end before [] nodes e = tt
 at_end before (x ∷ xs) nodes e =

@@ -7,11 +7,13 @@ use Rattle.segment_progress.specs.declared.halt.How.{How}
 use Rattle.segment_progress.specs.declared.halt.How.TheVariants.{Shows, Finishes, Ends}
 use Rattle.segments.specs.ReplaySpec.Tape as spec
 
+-- which kind of page a segment stops with
 abbrev pub how_of : How → spec.How
 how_of (Shows kind) = spec.shows kind
 how_of Finishes = spec.finishes
 how_of Ends = spec.ends
 
+-- a segment stopped with a page
 abbrev pub IsPaged : spec.Outcome → Type 0
 IsPaged (spec.paged how bytes) = ⊤
 IsPaged (spec.faulted k) = ⊥

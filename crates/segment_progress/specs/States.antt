@@ -34,6 +34,7 @@ effects_left (source.Present trail fuel) = effects_of trail
 abbrev pub next_of : Next → spec.Answer
 next_of n = record { value = meaning n.answer.now; segment = now_of n.segment }
 
+-- the answer that is next on a tape, if there is one, as a list
 abbrev pub listed : Option Next → List spec.Answer
 listed None = []
 listed (Some n) = next_of n ∷ []

@@ -18,6 +18,7 @@ abbrev pub source_of : Reads → spec.Reads
 source_of (reads.Recorded vs) = spec.recorded vs.now
 source_of (reads.Present cells fuel) = spec.present cells.now fuel
 
+-- the segment that runs now, as the program's value says it
 abbrev pub now_of : Now → spec.Now
 now_of n = record { number = n.number; url = n.url.now; reads = source_of n.reads }
 
@@ -25,6 +26,7 @@ now_of n = record { number = n.number; url = n.url.now; reads = source_of n.read
 abbrev pub ran_of : Answer → spec.Now
 ran_of a = record { number = a.number; url = a.url; reads = spec.recorded a.reads }
 
+-- an answer of a tape, with the segment that it begins
 abbrev pub answer_of : Answer → spec.Answer
 answer_of a = record { value = meaning a.value; segment = ran_of a }
 
@@ -32,9 +34,11 @@ answer_of a = record { value = meaning a.value; segment = ran_of a }
 abbrev pub newest_of : Tape → spec.Answer
 newest_of t = record { value = meaning t.answer.now; segment = now_of t.newest }
 
+-- the tape of a run, that the program's tape stands for
 abbrev pub tape_of : Tape → spec.Tape
 tape_of t = spec.tape_behind (map answer_of t.past.now) (newest_of t)
 
+-- how a run stopped: with a page, at a fault, or out of fuel
 abbrev pub outcome_of : RunEnd → spec.Outcome
 outcome_of (Shown page kind) = spec.paged (spec.shows kind) page
 outcome_of (Finished page) = spec.paged spec.finishes page

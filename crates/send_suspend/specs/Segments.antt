@@ -36,6 +36,7 @@ abbrev pub FitsFrom : Arena → Origin → Type 0
 FitsFrom a Start = ⊤
 FitsFrom a (Page d) = Fits a (suspended_of d)
 
+-- how many frames a segment goes on with: none from a start, and those of a page's state
 abbrev pub frames_in : Origin → ℕ
 frames_in Start = 0
 frames_in (Page d) = length d.frames.items

@@ -69,7 +69,7 @@ pub record IsLoaded (l : LoadOptions) (fates : List Fate) (last : Desk) : Type 0
   pub goes_on : (run_drawn desk_rules count (source_of l.number) (desk_for l.options load_scripts) fates).end ≡ done
   pub state : (run_drawn desk_rules count (source_of l.number) (desk_for l.options load_scripts) fates).state ≡ last
 
--- what remains where not all steps of a measured run were performed, where such a shelf is told and so many calls failed besides
+-- what remains where not all steps of a measured run were performed, a lost shelf is told, and so many calls failed besides
 abbrev pub RemainsLoaded : Racks → LoadOptions → Chances → (ℕ → OpenCause → Type 0) → (more : ℕ) → Type 0
 RemainsLoaded rack l chances IsTold more =
     AreLeft rack l.options.shelves load_scripts [] IsTold (IsLoaded l chances.fates) (IsLostBehind rack l chances) × HaveFailed rack chances.fates more

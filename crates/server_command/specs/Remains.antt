@@ -81,8 +81,8 @@ IsLostBehind o setup fates text shelf last =
     (replied : Replied o setup fates (IsCrashOf shelf) text)
     × ((run_of o setup.scripts replied.front fates).state ≡ last)
 
--- what remains on the disks where the steps of a setup were told up to this text, and such a shelf, and so many calls failed besides; a
--- check takes no disks, nor are any taken where the input is no setup
+-- what remains on the disks where the steps of a setup were told up to this text, with a shelf that is lost, and so many calls
+-- failed besides; a check takes no disks, nor are any taken where the input is no setup
 abbrev pub Remains : Racks → Command → Result Parsed Fault → Chances → (text : List ℕ) → (ℕ → OpenCause → Type 0) → (more : ℕ) → Type 0
 Remains rack (Play o) (Ok setup) chances text IsTold more =
     AreLeft rack o.shelves setup.scripts text IsTold (IsBehind o setup chances.fates text)
@@ -131,7 +131,8 @@ abbrev pub HasOutgrown : Racks → Option (Command × Parsed) → Chances → Ty
 HasOutgrown rack (Some (Play o, setup)) chances = (shelf : ℕ) × (length : ℕ) × (text : List ℕ) × Outgrows rack o setup chances shelf length text
 HasOutgrown rack _ chances = ⊥
 
--- the sink grew by the whole replies to the steps before such a crash, and then by the line that names the shelf and the length
+-- the sink grew by the whole replies to the steps before a crash whose edit outgrows a journal, and then by the line that names
+-- the shelf and the length
 abbrev pub TellsOutgrown : Racks → Option (Command × Parsed) → Chances → Sinks → Type 0
 TellsOutgrown rack (Some (Play o, setup)) chances out =
     (shelf : ℕ) × (length : ℕ) × (text : List ℕ) × Outgrows rack o setup chances shelf length text

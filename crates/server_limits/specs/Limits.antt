@@ -1,24 +1,31 @@
 -- The limits of a server's options.
 use Rattle.std.specs.Prelude.{ℕ, ◌≤◌}
 
+-- how many shelves a server may have
 abbrev pub most_shelves : ℕ
 most_shelves = 16
 
+-- how much fuel a segment may be given
 abbrev pub most_fuel : ℕ
 most_fuel = 10000000
 
+-- how many seconds a page may live
 abbrev pub most_life : ℕ
 most_life = 2147483648
 
+-- how many instances a shelf may hold
 abbrev pub most_instances : ℕ
 most_instances = 4096
 
+-- how many live pages an instance may have
 abbrev pub most_pages : ℕ
 most_pages = 1024
 
+-- how many connections a worker may be told to serve
 abbrev pub most_connections : ℕ
 most_connections = 1000000
 
+-- a number is in the range from `low` up to `high`
 abbrev pub IsWithin : (low high n : ℕ) → Type 0
 IsWithin low high n = (low ≤ n) × (n ≤ high)
 

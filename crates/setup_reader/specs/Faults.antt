@@ -9,6 +9,7 @@ use Rattle.setup_reader.specs.declared.fault.SetupKind.{SetupKind}
 use Rattle.setup_reader.specs.declared.fault.SetupKind.TheVariants as setup
 use Rattle.setup_reader.specs.Setup.{Fault, at_section, at_text, at_form}
 
+-- the word that a fault line has for a fault of the sections
 abbrev pub setup_word : SetupKind → List ℕ
 setup_word setup.Section = codes "section"
 setup_word setup.Repeat = codes "repeat"
@@ -16,6 +17,7 @@ setup_word setup.Many = codes "many"
 setup_word setup.Empty = codes "empty"
 setup_word setup.End = codes "end"
 
+-- the word that a fault line has for a fault of a script's text
 abbrev pub read_word : ReadKind → List ℕ
 read_word reading.Long = codes "long"
 read_word reading.Utf8 = codes "utf8"
@@ -26,6 +28,7 @@ read_word reading.Mismatch = codes "mismatch"
 read_word reading.Range = codes "range"
 read_word reading.Deep = codes "deep"
 
+-- the word that a fault line has for a fault of a script's forms
 abbrev pub syntax_word : SyntaxKind → List ℕ
 syntax_word syntax.Shape = codes "shape"
 syntax_word syntax.Unbound = codes "unbound"

@@ -38,10 +38,12 @@ section_in input = do
     rest ← behind (10 ∷ []) (drop len line.1)
     Some (record { name = name; text = take len line.1; rest = rest })) else None
 
+-- the script of a section, where its forms make one, or the fault with the number of its form
 abbrev pub by_forms : List ℕ → List ℕ → Result Script (SyntaxKind × ℕ) → Result Named Fault
 by_forms name text (Ok s) = Ok (record { name = name; text = text; script = s })
 by_forms name text (Err e) = Err (at_form name e.1 e.0)
 
+-- the script of a section, where its text is data, or the fault with its place
 abbrev pub by_data : List ℕ → List ℕ → Result (List Val) (ℕ × ReadKind) → Result Named Fault
 by_data name text (Ok vs) = by_forms name text (expanded vs)
 by_data name text (Err e) = Err (at_text name e.0 e.1)

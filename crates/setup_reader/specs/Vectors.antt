@@ -13,10 +13,12 @@ pub nothing_before_steps : setup_of Steps [] ≡ Err (at_section 0 End)
 unfolding setup_of
 nothing_before_steps = refl
 
+-- an input without a byte has no script
 pub nothing : setup_of Input [] ≡ Err (at_section 0 Empty)
 unfolding setup_of
 nothing = refl
 
+-- a setup of the line `steps` alone has no script
 pub steps_alone : setup_of Steps (codes "steps\n") ≡ Err (at_section 0 Empty)
 unfolding setup_of
 steps_alone = refl
@@ -26,10 +28,12 @@ pub steps_elsewhere : setup_of Input (codes "steps\n") ≡ Err (at_section 0 Sec
 unfolding setup_of section_in
 steps_elsewhere = refl
 
+-- a section whose text is shorter than its line says is damaged at that section
 pub cut_short : setup_of Input (codes "script a 3\nxy\n") ≡ Err (at_section 0 Section)
 unfolding setup_of section_in
 cut_short = refl
 
+-- the length of a text has no leading zero
 pub leading_zero : setup_of Input (codes "script a 01\nx\n") ≡ Err (at_section 0 Section)
 unfolding setup_of section_in
 leading_zero = refl

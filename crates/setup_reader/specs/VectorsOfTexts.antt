@@ -16,6 +16,7 @@ ten name = (name, codes "'(p \"10\")")
 abbrev two : List (List ℕ × List ℕ)
 two = ten (codes "b-1") ∷ (codes "a", codes "'a") ∷ []
 
+-- the names and texts of two scripts are read as a setup of these
 pub scripts_are_read : option_map texts_of (setup_of_texts two) ≡ Some two
 unfolding setup_of_texts is_utf8 chars encode utf8_valid_len expanded syntax_of page_form_of number_operation_of test_of list_operation_of text_operation_of
 scripts_are_read = refl

@@ -15,9 +15,11 @@ use Rattle.setup_reader.specs.declared.setup.Parsed.{Parsed}
 use Rattle.setup_reader.specs.Setup as spec
 use Rattle.setup_reader.specs.Faults.{fault_line}
 
+-- a section of a setup: the name and the text of its script, and the bytes after it
 abbrev pub piece_of : Section → spec.Piece
 piece_of s = record { name = name_of s.name; text = s.text.now; rest = s.rest.now }
 
+-- the scripts that a setup has, and the bytes of the steps after it
 abbrev pub parsed_of : Parsed → spec.Parsed
 parsed_of p = record { scripts = scripts_of p.setup; steps = p.steps.now }
 
@@ -25,6 +27,7 @@ parsed_of p = record { scripts = scripts_of p.setup; steps = p.steps.now }
 abbrev pub told_of : ScriptText → List ℕ × List ℕ
 told_of t = (t.name, t.text)
 
+-- the fault of a setup that the program's error stands for
 abbrev pub fault_of : SetupError → spec.Fault
 fault_of (error.Setup place kind) = spec.at_section place kind
 fault_of (error.Read name e) = spec.at_text (name_of name) e.place e.kind

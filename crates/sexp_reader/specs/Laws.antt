@@ -62,6 +62,7 @@ pub record FirstFault (bytes : List ℕ) (place : ℕ) (kind : ReadKind) : Type 
   pub stays : (more : List ℕ) → MayFollow piece more → IsUtf8 (before ++ (piece ++ more)) → length (before ++ (piece ++ more)) ≤ most_bytes
       → read (before ++ (piece ++ more)) ≡ Err (place, kind)
 
+-- a text that is refused for what stands in it is refused at its first fault
 abbrev pub FirstFaults : Type 0
 FirstFaults =
     (bytes : List ℕ) (place : ℕ) (kind : ReadKind) → read bytes ≡ Err (place, kind) → is_met_inside kind ≡ true → FirstFault bytes place kind

@@ -53,6 +53,7 @@ abbrev mutual
         | false ↦ elim (b == 92) [ true ↦ escape_from place done bs | false ↦ text_from place (done ++ b ∷ []) bs ]
       ]
 
+  -- the text after a backslash, up to its end, after the bytes that were read before
   pub escape_from : ℕ → List ℕ → List ℕ → Result (List ℕ × List ℕ) Fault
   escape_from place done [] = Err (place, Unclosed)
   escape_from place done (c ∷ bs) = elim (escaped c) [ None ↦ Err (place, Token) | Some d ↦ text_from place (done ++ d ∷ []) bs ]

@@ -34,6 +34,7 @@ level_of (Marked mark at) = marked mark at
 abbrev pub stack_of : List LevelOf → List Level
 stack_of levels = reverse (map level_of levels)
 
+-- the items and the open lists that a reader has so far
 abbrev pub state_of : Reader → State
 state_of reader = record { items = map meaning reader.items.items; levels = stack_of reader.levels.items }
 

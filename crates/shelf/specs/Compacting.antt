@@ -35,7 +35,7 @@ pub record IsPlanOf (notes : FileNotes) (p : Planned) : Type 0 where
   pub first : p.notes.head ≤ p.longest + 14
   pub low : p.longest ≤ 2 ^ 30
 
--- it is what stays when the file of this book is compacted
+-- these records stay when the file of this book is compacted, and the file is so long
 pub record IsPlannedFor (library : Library) (b : Book) (notes : FileNotes) (p : Planned) : Type 0 where
   pub plan : IsPlanned b notes.notes.items p.plan.items
   pub its : IsPlanOf notes p

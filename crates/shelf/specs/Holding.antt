@@ -64,11 +64,13 @@ pub record IsWhole (a : Arena) (d : Suspended) (inside : List TxName) : Type 0 w
 abbrev pub ShowsWhole : Arena → Segment → Type 0
 ShowsWhole a r = Keeps r.outcome (λ d. IsWhole a d r.entered.items)
 
--- so it is of a segment of the ticket's script
+-- A page that a segment of the ticket's script shows is inside the transactions of its state's frames, and its state fits that
+-- script where it has a spelling.
 abbrev pub ShowsWholeFrom : List Named → Ticket → Segment → Type 0
 ShowsWholeFrom all t r = (named : Named) → slice_get all t.script ≡ Some named → ShowsWhole (arena_of named.script) r
 
--- so it is of the page that a change shows: a start's under the script of its instance, and another one under the ticket's
+-- The page that a change shows is inside the transactions of its state's frames, and its state fits its script where it has a
+-- spelling: a start the script of its instance, and another page that of the ticket.
 abbrev pub IsWholeFrom : List Named → Ticket → Change → Type 0
 IsWholeFrom all t (Opens o) =
     IfSome (slice_get all o.instance.script) (λ s. IsWhole (arena_of s.script) (suspended_of o.state) o.page.item.inside.items)

@@ -60,6 +60,7 @@ StaysBy notes plan number found.Nothing = (plan ≡ []) × (number ≡ 0)
 StaysBy notes plan number (found.Made b library) = IsPlanned b notes.notes.items plan × (number ≡ b.logged)
 StaysBy notes plan number _ = ⊥
 
+-- these records of a file that was read stay, and this number is told
 abbrev pub StaysOf : ReadBook → Vec Bool × ℕ → Type 0
 StaysOf read x = StaysBy read.notes x.0.items x.1 read.found
 
@@ -71,6 +72,7 @@ IsNoBookBy found.Memory e = e ≡ fault.Memory
 IsNoBookBy (found.Made b library) e = e ≡ fault.Memory
 IsNoBookBy found.Nothing e = ⊥
 
+-- why the file that was read makes no book
 abbrev pub IsNoBook : ReadBook → BeginFault → Type 0
 IsNoBook read e = IsNoBookBy read.found e
 
@@ -79,6 +81,7 @@ abbrev pub HasLowNumber : Found → Type 0
 HasLowNumber (found.Made b library) = b.logged ≤ 2 ^ 62
 HasLowNumber _ = ⊤
 
+-- records can tell the next number of the book that was read, if there is one
 abbrev pub HasLow : ReadBook → Type 0
 HasLow read = HasLowNumber read.found
 
@@ -126,6 +129,7 @@ IsMigrationFault format shelf bodies (fault.Full n) = IsTooLongAnew format shelf
 IsMigrationFault format shelf bodies fault.DiskFault = ⊤
 IsMigrationFault format shelf bodies fault.Memory = ⊤
 
+-- where a file of an older format does not give place to one of the newest, the fault says why
 abbrev pub TellsMigrationFault : {T : Type 0} → (format shelf : ℕ) → List (List ℕ) → Result T BeginFault → Type 0
 TellsMigrationFault format shelf bodies (Ok x) = ⊤
 TellsMigrationFault format shelf bodies (Err e) = IsMigrationFault format shelf bodies e

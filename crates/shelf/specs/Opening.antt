@@ -58,6 +58,7 @@ abbrev pub now_in_bytes : (shelf : ℕ) → List ℕ → Making
 now_in_bytes shelf [] = nothing
 now_in_bytes shelf (b ∷ bytes) = now_by_log (format_of (b ∷ bytes)) shelf (records (b ∷ bytes))
 
+-- what the bytes of a disk make, where the shelf is opened on them
 abbrev pub making_after : (shelf : ℕ) → View → Making
 making_after shelf v = now_in_bytes shelf v.seen
 
@@ -298,6 +299,8 @@ OpensOrMigrates shelf scripts old new =
     (before after : Book) (k : Between setup_of_texts shelf before after) → HoldIn k old.images
     → LeavesOnly old new (λ bytes. HeldOpened k scripts bytes ⊎ (HoldsAnew shelf scripts before bytes ⊎ HoldsAnew shelf scripts after bytes))
 
+-- a crash at any moment of an opening leaves a book that stood there, or the opened one, each perhaps in a file of the newest
+-- format
 abbrev pub MigratesThroughout : {D N : Type 0} → (D → View) → List Named → (shelf : ℕ) → D → Result (Shelf D N) (BeginFault × D × N) → Type 0
 MigratesThroughout view scripts shelf disk result = OpensOrMigrates shelf scripts (view disk) (view (disk_of result))
 

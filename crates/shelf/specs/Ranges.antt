@@ -3,6 +3,7 @@ use Rattle.std.specs.Prelude.{◌<◌}
 use Rattle.server_limits.specs.Limits.{AreShelves, IsFuel, IsLife, AreInstances, ArePages}
 use Rattle.shelf.specs.declared.rules.Rules.{Rules}
 
+-- the rules of a shelf are within the limits of the options
 pub record AreInRange (r : Rules) : Type 0 where
   pub number : r.number < r.shelves
   pub shelves : AreShelves r.shelves

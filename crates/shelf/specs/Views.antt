@@ -202,6 +202,7 @@ abbrev pub HoldIn : Book → Destination → List Effect → Type 0
 HoldIn b (start name) effects = ⊤
 HoldIn b (page name n) effects = IfSome (cells_in n.instance b) (λ cells. Holds effects cells)
 
+-- no second run of a ticket's segment is due, by the effects that its run had
 abbrev pub HoldNow : Book → Ticket → ran.Segment → Type 0
 HoldNow b t r = HoldIn b (target_of t.target) (map effect_of r.effects.items)
 

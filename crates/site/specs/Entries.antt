@@ -12,6 +12,7 @@ use Rattle.site.specs.declared.entry.KeptEntry.{KeptEntry}
 use Rattle.site.specs.declared.entry.Did.{Did}
 use Rattle.site.specs.declared.entry.Did.TheVariants.{Take, Publish, Sweep, Compact}
 
+-- what one caller did and what it was answered, as an entry of a history
 abbrev pub entry : (caller : ℕ) → Event → step.Reply → Entry
 entry caller event reply = record { caller = caller; event = event; reply = reply }
 
@@ -23,9 +24,11 @@ done_by caller (Publish ticket told) = entry caller (step.publish (ticket_of tic
 done_by caller (Sweep tick told) = entry caller (step.sweep tick) (swept_of told.value)
 done_by caller (Compact told) = entry caller step.compact (compacted_of told.value)
 
+-- the entry of a history that the program's entry stands for
 abbrev pub entry_of : KeptEntry → Entry
 entry_of e = done_by e.caller e.did
 
+-- the history that the program's entries stand for
 abbrev pub entries_of : List KeptEntry → List Entry
 entries_of es = map entry_of es
 

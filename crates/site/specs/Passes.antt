@@ -86,6 +86,7 @@ module _ {D N : Type 0} (view : D → View) (tells : Bool) (coming : N → ℕ �
     pub target_is : (ticket_of t).target ≡ target
     pub answer_is : (ticket_of t).answer ≡ answer
 
+  -- a take gave the caller a ticket, or the reply why there is none
   abbrev pub Took : Known D N → Destination → Val → Result Ticket Reply → Known D N → Type 0
   Took v target answer (Ok t) w = Takes v target answer t w
   Took v target answer (Err r) w =

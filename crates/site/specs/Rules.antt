@@ -12,5 +12,6 @@ module _ {D N : Type 0} (view : D → View) (tells : Bool) (coming : N → ℕ �
   TicksAs old tick (Ok answers) new = Ticks view tells coming old tick answers new
   TicksAs old tick (Err e) new = new ≡ old
 
+  -- what a service does to the passes of a site, as the definitions have it
   abbrev pub site_rules : Site D N → PassRules (Spots D N)
   site_rules site = record { IsOwn = IsOwn site; Visits = VisitsAt view tells coming; Ticks = TicksAs }

@@ -58,6 +58,7 @@ module _ {D N : Type 0} (view : D → View) (tells : Bool) (coming : N → ℕ �
   TakesOn (Some k) old target answer result new =
       At k (λ v w. Took view tells coming v target answer result w) old new
 
+  -- what a take comes to, on the shelf that the target and the caller lead to
   abbrev pub TakesAt : Spots D N → Destination → Val → Result Ticket Reply → Spots D N → Type 0
   TakesAt old target answer result new = TakesOn (shelf_for (length old) (caller_at old) target) old target answer result new
 

@@ -116,7 +116,7 @@ abbrev pub SweepsOn : List Opened → (worker tick : ℕ) → Swept → (old new
 SweepsOn openings worker tick (Ok answers) old new = AreSwept openings worker tick answers old new
 SweepsOn openings worker tick (Err e) old new = new ≡ old
 
--- what visits and ticks of a worker make of what it has seen, where the shelves were opened so
+-- what visits and ticks of a worker make of what it has seen, where the shelves have these openings
 abbrev pub history_rules : List Opened → (worker : ℕ) → PassRules (List Seen)
 history_rules openings worker = record {
   IsOwn = λ seen. ⊤;

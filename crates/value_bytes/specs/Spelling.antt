@@ -47,6 +47,7 @@ abbrev mutual
   Fits (symbol s) = IsUtf8 s × (length s < 2 ^ 32)
   Fits (list vs) = (count_of vs < 2 ^ 32) × AllFit vs
 
+  -- each of these values can be written
   pub AllFit : Vals → Type 0
   AllFit no_vals = ⊤
   AllFit (val v vs) = Fits v × AllFit vs

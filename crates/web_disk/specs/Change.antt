@@ -10,6 +10,7 @@ pub data Change : Type 0 where
   CutTo : (len : ℕ) → Change
   Synced : Change
 
+-- the range of bytes from one place up to another
 abbrev pub span : ℕ → ℕ → Span
 span low high = record { low = low; high = high }
 

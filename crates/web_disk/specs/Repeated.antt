@@ -53,5 +53,6 @@ pub record Serves {T E : Type 0} (met : Bool) (old new : RepeatDisk) (result : R
   pub faults : new.faults ≡ faults_behind result old.faults
   pub start : start_of new ≡ start_of old
 
+-- a disk that tells no bytes promises nothing of them
 pub nothing_told : IsTrue false → ⊥
 nothing_told told = cc

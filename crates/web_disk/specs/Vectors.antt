@@ -9,6 +9,7 @@ use Rattle.web_disk.specs.declared.wreck.Wreck.{Wreck}
 written : (replayed (Put 2 (7 ∷ 8 ∷ []) ∷ []) (fresh (1 ∷ 2 ∷ 3 ∷ []))).seen ≡ 1 ∷ 2 ∷ 7 ∷ 8 ∷ []
 written = refl
 
+-- a write touches the places that it writes
 touched : (replayed (Put 2 (7 ∷ 8 ∷ []) ∷ []) (fresh (1 ∷ 2 ∷ 3 ∷ []))).touched ≡ span 2 4 ∷ []
 touched = refl
 
@@ -24,9 +25,11 @@ failed = refl
 low_end : is_touched (span 2 4 ∷ []) 2 ≡ true
 low_end = refl
 
+-- a range does not have its high end
 high_end : is_touched (span 2 4 ∷ []) 4 ≡ false
 high_end = refl
 
+-- a crash that loses what was changed from place 3 on: it holds zeros, and is gone where nothing stands after it
 abbrev wreck : Wreck
 wreck = record { reached = 3; fill = 0; short = true }
 
@@ -38,5 +41,6 @@ reached_three = refl
 stopped : has_stopped (Some 2) 2 ≡ true
 stopped = refl
 
+-- the second call does not fail after a stop at two
 not_yet : has_stopped (Some 2) 1 ≡ false
 not_yet = refl

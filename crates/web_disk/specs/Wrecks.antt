@@ -23,7 +23,7 @@ sound_end wreck touched (suc n) = if is_lost wreck touched n then sound_end wrec
 abbrev pub end_of : Wreck → List Span → ℕ → ℕ
 end_of wreck touched len = if wreck.short then sound_end wreck touched len else len
 
--- these bytes are what a chosen crash leaves of those
+-- the new bytes are what a chosen crash leaves of the old ones
 pub record IsLeft (wreck : Wreck) (touched : List Span) (old new : List ℕ) : Type 0 where
   pub long : length new ≡ end_of wreck touched (length old)
   pub lost : (k : ℕ) → k < length new → is_lost wreck touched k ≡ true → slice_get new k ≡ Some wreck.fill

@@ -57,6 +57,7 @@ all_coming porches = map porch_coming porches
 abbrev pub links_at : ListDoor → (port : ℕ) → Option (List (List TextLink))
 links_at door port = if port == door.port then Some (all_coming door.porches.items) else None
 
+-- what contracts see of a door in memory: the links that it has left, those that it closed, and its faults
 abbrev pub door_view : ListDoor → DoorView ListPorch TextLink
 door_view door = record { links = links_at door; closed = Some door.closed.items; faults = door.faults }
 
