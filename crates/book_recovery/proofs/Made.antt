@@ -509,13 +509,3 @@ module _ (format shelf place : ℕ) (body : List ℕ) (number : ℕ) (named : Li
 abbrev pub IsNoBegin : Record → Type 0
 IsNoBegin (begins s named) = ⊥
 IsNoBegin _ = Unit {0}
-
-pub first_unread : (format : ℕ) (shelf place : ℕ) (body : List ℕ) (seen : InOrder (Unit {0})) (m : Making) → IsNothing (place + 1) seen m → read_record_in format body ≡ None → with_body_at format setup_of_texts shelf place body m ≡ damaged place
-first_unread format shelf place body seen m is read = ap (with_body_at format setup_of_texts shelf place body) is.is ∙ ap (first_by setup_of_texts shelf place (length body)) read
-
-pub first_no_begin : (format : ℕ) (shelf place : ℕ) (body : List ℕ) (seen : InOrder (Unit {0})) (m : Making) → IsNothing (place + 1) seen m → (r : Record) → read_record_in format body ≡ Some r → IsNoBegin r
-    → with_body_at format setup_of_texts shelf place body m ≡ damaged place
-first_no_begin format shelf place body seen m is (begins s named) read h = absurd h
-first_no_begin format shelf place body seen m is (changes c state) read h = ap (with_body_at format setup_of_texts shelf place body) is.is ∙ ap (first_by setup_of_texts shelf place (length body)) read
-first_no_begin format shelf place body seen m is (renews named) read h = ap (with_body_at format setup_of_texts shelf place body) is.is ∙ ap (first_by setup_of_texts shelf place (length body)) read
-first_no_begin format shelf place body seen m is (draws number) read h = ap (with_body_at format setup_of_texts shelf place body) is.is ∙ ap (first_by setup_of_texts shelf place (length body)) read

@@ -1,5 +1,5 @@
 -- What records that are told again make of a book.
-use Rattle.std.proofs.Common.{◌≡◌, ◌∙◌, ap, sym, subst, ℕ, zero, suc, ◌+◌, ◌<◌, ◌≤◌, ◌^◌, max, Bool, true, false, List, [], map, length, Option, Some, None, option_map, Result, Ok, Err, refl, arith, Bor, inl, inr}
+use Rattle.std.proofs.Common.{◌≡◌, ◌∙◌, ap, sym, subst, ℕ, zero, suc, ◌+◌, ◌<◌, ◌≤◌, Bool, true, false, List, [], map, length, Option, Some, None, option_map, Result, Ok, Err, refl, arith, Bor, inl, inr}
 use Rattle.std.specs.Prelude.{IfOk, IfSome, IfNone, nat_lt, ◌⊎◌, not}
 use Rattle.std.specs.Option.{is_some, option_copied}
 use Rattle.std.specs.declared.alloc.AllocError.{AllocError}
@@ -36,17 +36,16 @@ use Rattle.instance_book.specs.declared.page.KeptPage.{KeptPage}
 use Rattle.instance_book.specs.declared.instance.KeptInstance.{KeptInstance}
 use Rattle.instance_book.specs.declared.place.Place as lent
 use Rattle.instance_book.specs.declared.after.After.{After}
-use Rattle.instance_book.specs.declared.change.Change as Change_kept
 use Rattle.instance_book.specs.declared.shown.ShownState.{ShownState}
 use Rattle.instance_book.specs.declared.book.Book as kept
-use Rattle.instance_book.specs.Views.{Beside, no_journal, book_of, instances_of, instance_of, pages_of}
+use Rattle.instance_book.specs.Views.{Beside, book_of, instances_of, instance_of, pages_of}
 use Rattle.instance_book.specs.Places.{own, given, source_in, AreStatesOf, arena_of}
-use Rattle.instance_book.specs.Makes.{shelf_from, HasSomeStates, KeepsStates, Makes, StaysLow, Reopens}
+use Rattle.instance_book.specs.Makes.{shelf_from, HasSomeStates, KeepsStates, Makes, Reopens}
 use Rattle.instance_book.specs.Changes.{answered_by, ended_with}
 use Rattle.instance_book.specs.Standing.{book_under, place_of, IsKeptAt, IsPlacedAt, IsPlaceOf, IsKeptWhere}
 use Rattle.instance_book.specs.Segments.{IsLeftBy}
 use Rattle.instance_book.specs.Swept.{swept}
-use Rattle.book_redo.specs.Redo.{no_rules, counted_to, Counts, are_held, IsStateTold, IsBeforeIn, IsAnswerTold, HasNoAnswer, told_of, is_read, names_told, told_states, IsLandedBy, IsLanded, LandsAs, IsEndedIn, ended_in, MakesSo, IsLandedRecord, IsRedoneBy, file_with, StandsThere}
+use Rattle.book_redo.specs.Redo.{no_rules, counted_to, Counts, are_held, IsStateTold, IsBeforeIn, IsAnswerTold, HasNoAnswer, told_of, is_read, names_told, told_states, IsLandedBy, IsLanded, IsEndedIn, ended_in, MakesSo, IsLandedRecord, IsRedoneBy, file_with, StandsThere}
 use Rattle.instance_book.proofs.Seen.{mend_agrees}
 use Rattle.book_redo.proofs.Passed.{of_some, held_on, states_unread, same_states, none_either, unread_again, unread_new, counted_passed}
 
@@ -165,12 +164,6 @@ sweep_on library tick old new later made keeps =
     made library beside ∙ ap (λ (n : ℕ). record (swept tick b) { logged = n }) (sym (max-zero b.logged))) keeps
 
 -- ---- as after a crash
-
--- the number that is counted
-pub low_landed : (c : Change_kept.Change) (n : ℕ) (old new : kept.Book) → n < 2 ^ 62 → LandsAs c n old new → StaysLow old new
-low_landed c n old new low lands below =
-    let logged : new.logged ≡ max old.logged (n + 1) = ap (λ (b : Book). b.logged) (lands (record { all = []; setup = [] }) no_journal) in
-    omega (arith, low, below, logged)
 
 -- rules have to do with a record's length and its line in the file alone
 lengthened : (n : ℕ) (c : Change) (o : Option (List TxName)) (b : Book)

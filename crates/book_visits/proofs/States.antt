@@ -13,7 +13,7 @@ use Rattle.replay_spec.specs.Tape.{recorded, Tape}
 use Rattle.replay_spec.specs.Book.{Page, Instance, Book, page_at, instance_at, parent_of, chain}
 use Rattle.replay_spec.specs.Change.{put_page}
 use Rattle.replay_spec.specs.Admission.{Place, Admission, begins, resumes, refused, refusal_of, admit}
-use Rattle.replay_spec.specs.Next.{Home, Visit, home, home_of, tape_for, page_tape, start_visit, page_visit}
+use Rattle.replay_spec.specs.Next.{Home, home, tape_for, page_tape, start_visit, page_visit}
 use Rattle.replay_spec.specs.Next as next
 use Rattle.replay_spec.specs.Invariant.{AreAncestors, Lineage, IsOrderly}
 use Rattle.replay_spec.proofs.Ancestors.{Grown, put_grown, ancestors_grown, chain_is}
@@ -39,7 +39,7 @@ use Rattle.instance_book.specs.Places.{Source, own, given, source_in, arena_of, 
 use Rattle.instance_book.specs.FrameCodec.Spelling.{StateHasBytes}
 use Rattle.instance_book.specs.Changes.{OpensKept}
 use Rattle.book_visits.specs.Changes.{HasStateBy, IsSpelledBy}
-use Rattle.book_visits.specs.Fits.{GoesOnFrom, GoesOnBySource, FitsAs, IsForSome, IsStateOver}
+use Rattle.book_visits.specs.Fits.{GoesOnFrom, GoesOnBySource, FitsAs, IsStateOver}
 use Rattle.instance_book.specs.Makes.{shelf_from}
 use Rattle.book_visits.specs.Prepares.{OpensAs, ExtendsAs, KeepsStateOf}
 use Rattle.book_visits.specs.Laws.{KeepsStateAs, AShownPageHasItsState}
@@ -222,9 +222,3 @@ module _ (all : List Named) (b : Book) (orderly : IsOrderly b) (t : Ticket) (out
 
 pub a_shown_page_has_its_state : AShownPageHasItsState
 a_shown_page_has_its_state all b orderly t out a adm ok fits r over c keeps has = keeps_by all b orderly t out r (target_of t.target) a adm ok fits over c keeps has
-
--- a ticket whose target is admitted and that fits is for the visit
-pub some_visit : (scripts : List Named) (b : Book) (t : Ticket) (a : Admission) → refusal_of a ≡ None → FitsAs scripts b t a → IsForSome scripts t
-some_visit scripts b t (begins k s) ok fits = record { visit = start_visit b (ticket_of t) k s; ticket = refl; fits = fits.run }
-some_visit scripts b t (resumes at) ok fits = record { visit = page_visit b (ticket_of t) at; ticket = refl; fits = fits }
-some_visit scripts b t (refused why) ok fits = absurd (cc)

@@ -1,11 +1,9 @@
 -- Plain words are taken, and mean what they say.
 use Rattle.std.proofs.Common.{◌≡◌, ◌∙◌, ◌||◌, ◌&&◌, ◌<◌, Bool, cond, true, false, not, refl, sym, ap, subst, List, [], ◌∷◌, Option, Some, None, is_some, map, codes, arith, inl, inr, unwrap_or, ltb-true}
-use Rattle.std.specs.List.{AllByRecursion as Each, fold, list_any}
+use Rattle.std.specs.List.{AllByRecursion as Each, fold}
 use Rattle.std.specs.Str.{bytes_eq}
 use Rattle.std.specs.Str.Parse.{IsNumeral, digits_value, without_leading_plus}
 use Rattle.std.proofs.lemmas.Fmt.{decimal_is_IsNumeral}
-use Rattle.std.proofs.lemmas.List.Elements.{All-from_recursion}
-use Rattle.std.proofs.lemmas.List.Folds.{list_any_none}
 use Rattle.clap.specs.Faults.{check_fault, fault_of}
 use Rattle.clap.specs.Simple.{Shape, subcommand_of}
 use Rattle.clap.specs.Takes.{is_given}
@@ -107,9 +105,6 @@ each_in P table (t ∷ rest) all known = (at_item P table t.item all known.0, ea
 each_to : {A : Type 0} (P Q : A → Type 0) (xs : List A) → ((x : A) → P x → Q x) → Each P xs → Each Q xs
 each_to P Q [] to all = tt
 each_to P Q (x ∷ xs) to all = (to x all.0, each_to P Q xs to all.1)
-
-required_there : (s : Shape) (rows : List Row) → Each (λ a. (a.required && not (is_given a.id rows)) ≡ false) s.rules → list_any (λ a. a.required && not (is_given a.id rows)) s.rules ≡ false
-required_there s rows e = list_any_none (λ (a : Rule). a.required && not (is_given a.id rows)) s.rules (All-from_recursion (λ (a : Rule). (a.required && not (is_given a.id rows)) ≡ false) s.rules e)
 
 none_yet : (set : List Setting) → Each (λ t. find_row t.item.name [] ≡ None) set
 none_yet [] = tt

@@ -110,11 +110,6 @@ pub record Setting : Type 0 where
 abbrev pub IsPlainNumber : ℕ → ℕ → Text → Type 0
 IsPlainNumber low high text = (n : ℕ) × (text ≡ decimal n) × (low ≤ n) × (n ≤ high)
 
--- whether a word begins with a hyphen, as options do
-abbrev pub begins_with_hyphen : Text → Bool
-begins_with_hyphen [] = false
-begins_with_hyphen (x ∷ xs) = x == 45
-
 -- a text is written as an option of this kind asks for
 abbrev pub IsPlainText : Kind → Text → Type 0
 IsPlainText (number low high) text = IsPlainNumber low high text

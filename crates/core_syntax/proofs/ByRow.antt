@@ -28,10 +28,6 @@ use Rattle.core_syntax.specs.RowCores.{names_in, with_name, distinct, core_in_ro
 abbrev read_row : CellNames → List (List ℕ) → Bool → Result Row SyntaxKind → Result Core SyntaxKind
 read_row cells scope p r = r >>= core_in_row cells scope p
 
-then_then : {A B C : Type 0} (r : Result A SyntaxKind) (f : A → Result B SyntaxKind) (g : B → Result C SyntaxKind) → (r >>= f) >>= g ≡ r >>= (λ x. f x >>= g)
-then_then (Ok x) f g = refl
-then_then (Err k) f g = refl
-
 if_then : {A B : Type 0} (b : Bool) (k : SyntaxKind) (x : A) (f : A → Result B SyntaxKind) → (if b then Ok x else Err k) >>= f ≡ (if b then f x else Err k)
 if_then true k x f = refl
 if_then false k x f = refl
@@ -322,11 +318,6 @@ row_goes_on cells scope p v r e = core_by_row cells scope p v ∙ ap (read_row c
 any_part : {A : Type 0} (P : Row → Type 0) (r : Result A SyntaxKind) (f : A → Row) → ((x : A) → P (f x)) → Holds P (r >>= (λ x. Ok (f x)))
 any_part P (Ok x) f h = h x
 any_part P (Err k) f h = tt
-
-only_light : (vs : Vals) → Holds (λ v. weight v ≤ weight_all vs) (row.only_part vs)
-only_light (val v no_vals) = omega arith
-only_light no_vals = tt
-only_light (val v (val w vs)) = tt
 
 only_in_light : (v : Val) → Holds (λ u. weight u + 1 ≤ weight v) (row.only_in v)
 only_in_light (list (val v no_vals)) = omega arith

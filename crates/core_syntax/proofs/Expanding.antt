@@ -87,9 +87,6 @@ too_many d v c number old e o h =
     let lacks : Lacks 0 1024 (count_all (core c (cores_of d.tasks))) (height_all (core c (cores_of d.tasks))) = rw none at h in
     rw (e, past_limits (core c (cores_of d.tasks)) lacks) refl
 
-pub expression_stops : (d : Defined) (v : Val) (k : SyntaxKind) (number : ℕ) → core_of d.names [] false v ≡ Err k → at_form number (limited d (core_of d.names [] false v)) ≡ Err (k, number)
-expression_stops d v k number e = rw e refl
-
 first_fault : {A : Type 0} (r : Result A SyntaxKind) (k : SyntaxKind) → told r ≡ Err k → r ≡ Err k
 first_fault (Ok x) k e = absurd (let no : ⊥ = cc in no)
 first_fault (Err j) k e = cc

@@ -1,10 +1,10 @@
 -- One form after the other.
-use Rattle.std.proofs.Common.{◌≡◌, ℕ, ◌+◌, ◌<◌, Bool, true, false, List, [], ◌∷◌, ◌++◌, length, Option, Some, None, Result, Ok, Err, refl, sym, subst, arith, length-append}
+use Rattle.std.proofs.Common.{◌≡◌, ℕ, ◌+◌, Bool, true, false, List, [], ◌∷◌, ◌++◌, length, Option, Some, None, Result, Ok, Err, refl, sym, subst, arith, length-append}
 use Rattle.std.specs.Prelude.{codes, nat_lt, nat_le, ◌||◌, if◌then◌else◌}
 use Rattle.std.proofs.lemmas.List.{map-append}
 use Rattle.script_value.specs.Val.{Val}
 use Rattle.core_syntax.specs.declared.faults.SyntaxKind.{SyntaxKind}
-use Rattle.core_syntax.specs.declared.faults.SyntaxKind.TheVariants.{Shape, Duplicate, TooMany}
+use Rattle.core_syntax.specs.declared.faults.SyntaxKind.TheVariants.{Duplicate, TooMany}
 use Rattle.core_syntax.specs.declared.heads.CellKind.{CellKind}
 use Rattle.core_syntax.specs.declared.heads.CellKind.TheVariants.{Web, Instance}
 use Rattle.script_nodes.specs.Core.{Core, cores_of}
@@ -137,8 +137,3 @@ pub next_form : (v : Val) (vs : List Val) (s t : Defined) → Stays s → is_def
 next_form v vs s t l h e =
     let n = form_next (is_headed (codes "define") v) v vs s t l e in
     (n, rw (h, e, n.one) refl)
-
--- a form that is no definition and not the last
-pub stray_form : (s : Defined) (v : Val) (vs : List Val) → is_definition v ≡ false → 0 < length vs → expanded_from (total s) s (v ∷ vs) ≡ Err (Shape, total s)
-stray_form s v [] h l = absurd (omega arith)
-stray_form s v (w ∷ vs) h l = rw h refl

@@ -32,10 +32,6 @@ pub known_if : (b : Bool) (n : ℕ) → 0 < (if b then n else 0) → b ≡ true
 known_if true n lt = refl
 known_if false n lt = absurd (omega arith)
 
-pub if_known : (b : Bool) (n : ℕ) → b ≡ true → (if b then n else 0) ≡ n
-if_known true n is = refl
-if_known false n is = absurd (cc is)
-
 pub if_unknown : (b : Bool) (n : ℕ) → b ≡ false → (if b then n else 0) ≡ 0
 if_unknown true n is = absurd (cc is)
 if_unknown false n is = refl

@@ -42,13 +42,6 @@ pub note_told : (l : Line) → is_told (note_of l) ≡ true
 note_told (changed c n) = by_told c n
 note_told (renewed scripts n) = refl
 
-stays_told : (is : List Live) (n : Note) → stays_note is n ≡ true → is_told n ≡ true
-stays_told is (Instance number n) e = refl
-stays_told is (Freed n) e = absurd (let no : ⊥ = cc e in no)
-stays_told is (Time n) e = refl
-stays_told is (Setup n) e = refl
-stays_told is (Passed n) e = absurd (let no : ⊥ = cc e in no)
-
 pub untold_goes : (is : List Live) (n : Note) → is_told n ≡ false → stays_note is n ≡ false
 untold_goes is (Instance number n) e = absurd (let no : ⊥ = cc e in no)
 untold_goes is (Freed n) e = refl

@@ -1,7 +1,5 @@
 -- A history of values that stand for entries: what holds of the values' list holds of the entries.
-use Rattle.std.proofs.Common.{◌≡◌, ◌==◌, ℕ, Bool, true, false, cond, List, [], ◌∷◌, map, filter, refl, sym, ◌∙◌, ap}
-use Rattle.std.proofs.lemmas.List.{map-append}
-use mathlib.Core.List.{IsPrefix}
+use Rattle.std.proofs.Common.{◌≡◌, ◌==◌, ℕ, Bool, true, false, cond, List, [], ◌∷◌, map, filter, refl, ◌∙◌, ap}
 use Rattle.history_spec.specs.Histories.{Entry, own_of}
 
 module _ {E : Type 0} (entry_of : E → Entry) (caller : E → ℕ) (same : (x : E) → (entry_of x).caller ≡ caller x) where
@@ -16,6 +14,3 @@ module _ {E : Type 0} (entry_of : E → Entry) (caller : E → ℕ) (same : (x :
       ap (λ (n : ℕ). cond (n == who) (entry_of x ∷ own_of who (map entry_of xs)) (own_of who (map entry_of xs))) (same x)
       ∙ (ap (λ (l : List Entry). cond (caller x == who) (entry_of x ∷ l) l) (own_mapped who xs)
       ∙ map_one (caller x == who) x (filter (λ y. caller y == who) xs))
-
-pub prefix_mapped : {E : Type 0} (entry_of : E → Entry) (xs ys : List E) → IsPrefix xs ys → IsPrefix (map entry_of xs) (map entry_of ys)
-prefix_mapped entry_of xs ys front = (map entry_of front.0, sym (map-append entry_of xs front.0) ∙ ap (map entry_of) front.1)

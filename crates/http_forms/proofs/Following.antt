@@ -1,7 +1,7 @@
 -- How many bytes decide.
-use Rattle.std.proofs.Common.{◌≡◌, ◌≤◌, ◌<◌, ◌+◌, ◌-◌, ◌++◌, ℕ, List, [], Bool, true, false, length, take, drop, nat_le, Some, None, Result, Ok, Err, arith, refl, sym, ap, ◌∙◌, subst, length-append, append-nil}
+use Rattle.std.proofs.Common.{◌≡◌, ◌≤◌, ◌<◌, ◌+◌, ◌-◌, ◌++◌, ℕ, List, [], Bool, true, false, length, take, drop, nat_le, Some, None, Result, Ok, Err, arith, refl, sym, subst, length-append, append-nil}
 use Rattle.std.proofs.lemmas.Bool.Decides.{nat_tests}
-use Rattle.std.proofs.lemmas.List.{take-append-le, length-drop, nil_from_length}
+use Rattle.std.proofs.lemmas.List.{take-append-le, length-drop}
 use Rattle.httparse.specs.Spans.{IsWithin}
 use Rattle.http_forms.specs.Head.{head_end, without_blank}
 use Rattle.http_forms.specs.Judged.{asked_of}
@@ -10,7 +10,7 @@ use Rattle.http_forms.specs.Request.{unfinished, refused, visit_of, with_head, D
 use Rattle.http_forms.specs.Progress.{IsDecided, IsDecidedAt, HasHead, Suffices, lines_in}
 use Rattle.http_forms.specs.declared.progress.ReadHead.{ReadHead}
 use Rattle.http_forms.specs.declared.refused.Refused.{Refused}
-use Rattle.http_forms.specs.declared.refused.Refused.TheVariants.{Head, BadRequest}
+use Rattle.http_forms.specs.declared.refused.Refused.TheVariants.{Head}
 use Rattle.http_forms.proofs.Ends.{head_inside, head_stays}
 use Rattle.http_forms.proofs.Decisions.{requests_stand_alone, refused_long}
 
@@ -34,10 +34,6 @@ refused_head bytes n r is judges = subst (λ e. DecidesAt e bytes false (refused
 
 pub refused_stays : (bytes more : List ℕ) (r : Refused) → Decides bytes false (refused r) → Decides (bytes ++ more) false (refused r)
 refused_stays bytes more r d = requests_stand_alone bytes more false (refused r) d (λ e. cc)
-
--- wherever the link ends
-pub refused_ended : (bytes : List ℕ) (ended : Bool) (r : Refused) → Decides bytes false (refused r) → Decides bytes ended (refused r)
-refused_ended bytes ended r d = subst (λ xs. Decides xs ended (refused r)) (append-nil bytes) (requests_stand_alone bytes [] ended (refused r) d (λ e. cc))
 
 pub head_more : (head : ReadHead) (bytes more : List ℕ) → HasHead head bytes → HasHead head (bytes ++ more)
 head_more head bytes more h =
@@ -77,16 +73,6 @@ part_of_body head bytes h few =
     let outcome : with_head head.end (Ok asked) behind false ≡ unfinished = rw test refl in
     subst (Decides bytes false) outcome (known bytes head.end (Ok asked) h.end h.judges false)
 
--- with a part of it, behind which the link ended
-pub part_of_last : (head : ReadHead) (bytes : List ℕ) → HasHead head bytes → length bytes < head.end + head.asked.length → Decides bytes true (refused BadRequest)
-part_of_last head bytes h few =
-    let asked = asked_of (lines_in head.end bytes) head.asked in
-    let behind = drop head.end bytes in
-    let inside = head_inside bytes head.end h.end in
-    let test : nat_le head.asked.length (length behind) ≡ false = grind (arith, nat_tests, few, inside, length-drop head.end bytes) in
-    let outcome : with_head head.end (Ok asked) behind true ≡ refused BadRequest = rw test refl in
-    subst (Decides bytes true) outcome (known bytes head.end (Ok asked) h.end h.judges true)
-
 pub sized : (head : ReadHead) (bytes : List ℕ) → HasHead head bytes → IsDecidedAt (head.end + head.asked.length) bytes
 sized head bytes h = record {
   whole = λ more fits. record {
@@ -106,16 +92,8 @@ decided_here total bytes d h = subst IsDecided (append-nil bytes) (d.whole [] (o
 pub short_of : (total : ℕ) (bytes more : List ℕ) → IsDecidedAt total bytes → length more < total - length bytes → Decides (bytes ++ more) false unfinished
 short_of total bytes more d h = d.short more (omega (arith, length-append bytes more))
 
-pub short_of_one : (bytes more : List ℕ) → Decides bytes false unfinished → length more < 1 → Decides (bytes ++ more) false unfinished
-short_of_one bytes more d h =
-    let none : more ≡ [] = nil_from_length more (omega arith) in
-    subst (λ xs. Decides xs false unfinished) (sym (ap (λ (m : List ℕ). bytes ++ m) none ∙ append-nil bytes)) d
-
 pub enough_of : (total : ℕ) (bytes : List ℕ) → IsDecidedAt total bytes → Suffices (total - length bytes) bytes
 enough_of total bytes d = λ more ends h. d.whole more (omega (arith, length-append bytes more))
-
-pub enough_without : (bytes : List ℕ) → head_end bytes ≡ None → Suffices 1 bytes
-enough_without bytes none = λ more ends h. absurd (cc (ends, none))
 
 pub enough_refused : (bytes : List ℕ) (r : Refused) → Decides bytes false (refused r) → Suffices 0 bytes
 enough_refused bytes r d = λ more ends h. refused_decided (bytes ++ more) r (refused_stays bytes more r d)

@@ -6,7 +6,7 @@ use Rattle.httparse.specs.declared.spans.HeaderSpan.{HeaderSpan}
 use Rattle.httparse.specs.declared.spans.RequestSpans.{RequestSpans}
 use Rattle.std.proofs.lemmas.Bool.Decides.{nat_tests}
 use Rattle.std.specs.List.{count_by, flat_map}
-use Rattle.httparse.specs.Grammar.{LineEnd, crlf, lf, Field, RequestHead, ReadsRequest, HasNoRequest, print_request, print_end, print_field, print_section, print_blank, print_version}
+use Rattle.httparse.specs.Grammar.{LineEnd, crlf, lf, Field, RequestHead, ReadsRequest, print_request, print_end, print_field, print_section, print_blank, print_version}
 use Rattle.httparse.specs.Spans.{IsRequestAt, IsRequestOf, RequestOverflows, header_bytes, span_bytes}
 use Rattle.httparse.proofs.GrammarLemmas.{request_unique, print_request-append}
 use Rattle.http_forms.specs.Head.{is_line_feed, field_lines}
@@ -103,9 +103,6 @@ verdict_of lines headers r h method verdict at is said =
     ∙ (ap (λ (m : List ℕ). fields_verdict h.minor m (span_bytes lines r.path) (map (header_bytes lines) (take r.headers headers))) a
     ∙ (ap (λ (t : List ℕ). fields_verdict h.minor h.method t (map (header_bytes lines) (take r.headers headers))) at.path
     ∙ ap (fields_verdict h.minor h.method h.target) at.fields)))
-
-pub none_partial : (bytes : List ℕ) → HasNoRequest bytes → IsParsed bytes None
-none_partial bytes none h reads = none h [] reads
 
 -- a head that has no room for its fields has too many lines
 pub none_fits : (bytes : List ℕ) (room : ℕ) → room ≡ 64 → field_lines bytes ≤ 64 → RequestOverflows room bytes → IsParsed bytes None

@@ -6,6 +6,5 @@ pub mod States
 pub mod Given
 pub mod Behind
 pub mod Whole
-pub mod Redone
 pub mod Going
 pub use Rattle.kept_states.proofs.FrameCodec

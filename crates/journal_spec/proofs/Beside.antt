@@ -97,10 +97,6 @@ pub unread_states : (number : Option ℕ) (ss : States) → with_state number un
 unread_states None ss = refl
 unread_states (Some n) ss = refl
 
-no_states : (number : Option ℕ) (x : Told) (ss : States) → number ≡ None → with_state number x ss ≡ ss
-no_states None x ss e = refl
-no_states (Some n) x ss e = absurd (let no : ⊥ = cc in no)
-
 -- a state that is told of another page
 same_cons : (q : ℕ) (d : Suspended) (n : ℕ) (ss ts : States) → ((q ≡ n → ⊥) → state_at n ts ≡ state_at n ss) → state_at n ((q, d) ∷ ts) ≡ state_at n ((q, d) ∷ ss)
 same_cons q d n ss ts old = by_test (q == n) refl

@@ -47,9 +47,6 @@ read_as texts shelf bodies (b ∷ bytes) is = ap (by_log (format_of (b ∷ bytes
 pub makes_now : (texts : Texts) (shelf : ℕ) (bodies : List (List ℕ)) (b : Book) → Makes texts shelf bodies b → MakesOf texts shelf newest bodies b
 makes_now texts shelf bodies b (earlier, is) = (earlier, ap made_in (format_of_now texts shelf bodies) ∙ is)
 
-pub now_makes : (texts : Texts) (shelf : ℕ) (bodies : List (List ℕ)) (b : Book) → MakesOf texts shelf newest bodies b → Makes texts shelf bodies b
-now_makes texts shelf bodies b (earlier, is) = (earlier, sym (ap made_in (format_of_now texts shelf bodies)) ∙ is)
-
 -- the format that the bytes of a journal tell
 pub closed_format : (f : ℕ) (bodies : List (List ℕ)) (bytes : List ℕ) → IsClosed f bodies bytes → format_of bytes ≡ f
 closed_format f bodies bytes closed = ap (λ (l : List ℕ). get_or l 7 0) closed.is

@@ -4,7 +4,7 @@ use Rattle.std.proofs.lemmas.Option.{same_Some}
 use Rattle.script_nodes.specs.Setup.{Named}
 use Rattle.web_disk.specs.View.{View, NoNewImage, Elapses, LeavesOnly}
 use Rattle.web_disk.proofs.Moments.{started, goes_on}
-use Rattle.page_journal.specs.Records.{newest, is_format}
+use Rattle.page_journal.specs.Records.{is_format}
 use Rattle.page_journal.specs.Holding.{IsClosed, MayHoldNowAndThroughout, ClosedNowAndThroughout, EitherNowAndThroughout}
 use Rattle.page_journal.specs.Settled.{IsSettled, view_of, bodies_in}
 use Rattle.page_journal.specs.declared.journal.Journal.{Journal}
@@ -17,7 +17,7 @@ use Rattle.replay_spec.specs.Recovery.{of_length}
 use Rattle.journal_spec.specs.Making.{Texts, Making, nothing, begun, made, damaged, other, made_in}
 use Rattle.journal_spec.specs.Bytes.{book_in_bytes}
 use Rattle.journal_spec.specs.Opening.{opened_book, opened_on}
-use Rattle.journal_spec.specs.Standing.{MakesOf, MakesIn, Flight, still, adds, puts, IsFoundOne, IsOneOf, HasRoom, Between, Carries, Hold, Held, HeldOpened, if_kept, Stands, Throughout, ThroughoutFrom, StaysThroughout, OpensThroughout}
+use Rattle.journal_spec.specs.Standing.{MakesOf, MakesIn, Flight, still, adds, puts, IsFoundOne, IsOneOf, HasRoom, Between, Carries, Hold, Held, HeldOpened, if_kept, Stands, Throughout, StaysThroughout, OpensThroughout}
 use Rattle.journal_spec.proofs.Between.{make_books, stand_alike}
 
 -- a moment that is over leaves what a crash now may leave
@@ -72,12 +72,6 @@ closed_then f bodies v0 v1 v2 only_now closed no_new time k format these run =
     let held : (image : List ℕ) → v0.images image → Held k image =
     λ image left. carried f bodies k.flight k (record { format = format; bodies_are = these; flight_is = refl }) image (closed_holds f bodies k.flight image (closed image left)) in
     leaves_then v0 v1 v2 (Held k) (goes_on v0 v0 v1 (Held k) (started v0 (Held k) (λ image left. held image (only_now image left))) time (λ image left. held image (no_new image left))) run
-
--- the same on a journal's file of the newest format
-pub after_quiet : (bodies : List (List ℕ)) (texts : Texts) (shelf : ℕ) (before after : Book) (v0 v1 v2 : View) → OnlyNow v0 → ((image : List ℕ) → v0.images image → IsClosed newest bodies image)
-    → NoNewImage v0 v1 → Elapses v0 v1 → ThroughoutFrom bodies texts shelf before after v1 v2 → ThroughoutFrom bodies texts shelf before after v0 v2
-after_quiet bodies texts shelf before after v0 v1 v2 only_now closed no_new time (k, format, these, run) =
-    (k, format, these, closed_then newest bodies v0 v1 v2 only_now closed no_new time k format these run)
 
 -- a journal's file and nothing else stands for the book that its records make
 pub settled_stands : {D : Type 0} (view : D → View) (texts : Texts) (shelf : ℕ) (j : Journal D) (b : Book) → IsSettled view j → MakesOf texts shelf j.format (bodies_in view j) b

@@ -23,12 +23,6 @@ spells_itself {A} spelled fits read otherwise exact x bytes fit same =
 pub values_exact : IsExact values_bytes HaveBytes read_values
 values_exact = list_exact value_bytes HasBytes read_value (value_exact most_levels)
 
-pub value_back : (x : Val) (bytes : List ℕ) → HasBytes x → bytes ≡ value_bytes x → read_value bytes ≡ Some (x, [])
-value_back x bytes fit same = read_back value_bytes HasBytes read_value (value_exact most_levels) x bytes fit same
-
-pub values_back : (xs : List Val) (bytes : List ℕ) → HaveBytes xs → bytes ≡ values_bytes xs → read_values bytes ≡ Some (xs, [])
-values_back xs bytes fit same = read_back values_bytes HaveBytes read_values values_exact xs bytes fit same
-
 pub value_read : (x : Val) (bytes : List ℕ) → HasBytes x → bytes ≡ value_bytes x → value_spelled bytes ≡ x
 value_read x bytes fit same = spells_itself value_bytes HasBytes read_value (number (pos 0)) (value_exact most_levels) x bytes fit same
 

@@ -13,10 +13,8 @@ use Rattle.frame_codec.specs.FormViews.{ReadsForm, ReadsDifference}
 use Rattle.frame_codec.specs.Deltas.{joined}
 use Rattle.frame_codec.specs.DeltaViews.{delta_of, FindsDelta}
 use Rattle.frame_codec.specs.Difference.{read_difference}
-use Rattle.frame_codec.specs.Parted.{Parted, whole_of, state_parts, delta_parts}
 use Rattle.frame_codec.specs.declared.difference.Delta.{Delta}
-use Rattle.frame_codec.proofs.Parts.{delta_whole}
-use Rattle.kept_states.specs.Kept.{spelled, form_of}
+use Rattle.kept_states.specs.Kept.{form_of}
 use Rattle.kept_states.specs.declared.form.ToldForm.{ToldForm}
 use Rattle.kept_states.specs.Told.{TellsDelta, IsDeltaTold, IsKeptAsTold, KeepsForm, IsTold}
 
@@ -50,22 +48,6 @@ delta_is exact a p bytes spelling small stored (Ok (Some x)) same told spells =
     let d = joined (suspended_of p) (delta_of x) in
     let form = (exact.exact a (Some (suspended_of p)) stored).exact bytes d small (sym told) in
     record { whole = same ∙ ap (λ (l : List ℕ). 1 ∷ l) spells.whole; is = spells.is; stored = spells.stored; binds = form.binds }
-
--- of a state that is read by itself the bytes are kept
-pub alone_kept : (a : Arena) (bytes : List ℕ) (d : Suspended) (parts : Parted) → SpellsForm a None bytes d → parts ≡ state_parts d
-    → IsKeptAsTold a None bytes d (spelled parts)
-alone_kept a bytes d parts spells is =
-    record { stored = spells.stored; formed = (spells.stored.bytes, is); bytes_are = ap (λ (x : Parted). Some (whole_of x)) is ∙ ap Some (sym spells.whole) }
-
--- and of one that is read behind another
-pub behind_kept : (a : Arena) (p : stored.Suspended) (bytes : List ℕ) (x : Delta) (d : Suspended) (parts : Parted) → IsDeltaTold a p bytes x
-    → d ≡ joined (suspended_of p) (delta_of x) → parts ≡ delta_parts (delta_of x) → IsKeptAsTold a (Some (suspended_of p)) bytes d (spelled parts)
-behind_kept a p bytes x d parts told same is =
-    subst (λ (e : Suspended). IsKeptAsTold a (Some (suspended_of p)) bytes e (spelled parts)) (sym same) (record {
-      stored = told.stored;
-      formed = ((told.stored.bytes, told.binds), (delta_of x, (told.is, is)));
-      bytes_are = ap Some (delta_whole parts (delta_of x) is ∙ sym told.whole);
-    })
 
 -- a state that was told is kept so
 pub kept_told : (a : Arena) (before : Option Suspended) (links : ℕ) (bytes : List ℕ) (o : Option ToldForm) (x : ToldForm) → o ≡ Some x → KeepsForm a before bytes o

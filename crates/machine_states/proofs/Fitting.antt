@@ -17,7 +17,7 @@ use Rattle.script_nodes.specs.Arena.{Arena, parts}
 use Rattle.replay_spec.specs.Tape.{recorded, Answer, sent, State, Outcome, End, got, stop, Run, ◌>>=◌, after, answer, choose, charge, url, halt, ends, send_page, enter, leave, lookup, read_cell, as_number}
 use Rattle.replay_spec.specs.Eval.{value_at, copied, is_not_false}
 use Rattle.replay_spec.specs.Laws.{Waits}
-use Rattle.machine_states.specs.Machine.{Frame, in_binding, in_operand, in_body, in_seq, in_and, in_or, in_if, in_count, in_store, in_turn, in_isolate, in_call, in_task, in_page, in_finish, in_back, Control, visit, value, Point, inside_of, visits, gives, given, node_at, part_in, part_at, parts_from, bindings_from, bindings_in, body_at, body_in, op_at, op_in, first_of, task_in, task_at, store_by, next_binding, next_part, next_operand, next_argument, next_turn, first_turn, visited, cut, taken, next, Machine, Suspended, Step, goes, stopped, stepped, step_at, step, then, steps}
+use Rattle.machine_states.specs.Machine.{Frame, in_binding, in_operand, in_body, in_seq, in_and, in_or, in_if, in_count, in_store, in_turn, in_isolate, in_call, in_task, in_page, in_finish, in_back, Control, visit, value, Point, inside_of, visits, gives, given, node_at, part_in, part_at, parts_from, bindings_from, bindings_in, body_at, body_in, op_at, first_of, task_in, task_at, store_by, next_binding, next_part, next_operand, next_argument, next_turn, first_turn, visited, cut, taken, Machine, Suspended, Step, goes, stopped, stepped, step_at, step, then, steps}
 use Rattle.machine_states.specs.Laws.{started}
 use Rattle.machine_states.specs.Fits.{node_of, IsKind, IsPart, Binds, Works, FitsAt, IsSend, Fits, EachStateFits}
 use Rattle.machine_states.proofs.Meaning.{cut_back, length_more, drop_all}
@@ -37,9 +37,6 @@ is_for n turns done x h = grind (arith, h)
 
 is_count : (n : ℕ) (x : Node) → IsKind (in_count n) x → x ≡ node.For (part_in x 0) (body_in x)
 is_count n x h = grind (arith, h)
-
-is_prim : (n : ℕ) (done : List Val) (x : Node) → IsKind (in_operand n done) x → x ≡ node.Prim (op_in x) (parts x)
-is_prim n done x h = grind (arith, h)
 
 is_call : (n : ℕ) (done : List Val) (x : Node) → IsKind (in_call n done) x → x ≡ node.Call (task_in x) (parts x)
 is_call n done x h = grind (arith, h)
@@ -264,13 +261,6 @@ frame_suits a (in_isolate n name) v env fs s kind w = leaf a n env fs w (leave n
 frame_suits a (in_page n sent) v env fs s kind w = leaf a n env fs w (send_page (inside_of fs) sent v s)
 frame_suits a (in_finish n) v env fs s kind w = tt
 frame_suits a (in_back n) v env fs s kind w = tt
-
-next_suits : (a : Arena) (c : Control) (env : List Val) (fs : List Frame) (s : State) → FitsAt a c env fs → Suits a (next a c env fs s)
-next_suits a (visit n) env fs s w = node_suits a n (node_at a n) refl env fs s w
-next_suits a (value v) env [] s w = tt
-next_suits a (value v) env (f ∷ fs) s w =
-    let outer = w.1.1.1.0 in
-    subst (λ (z : List Val). Suits a (taken a f v z fs s)) (sym (cut_outer f outer env w.1.1.1.1.0)) (frame_suits a f v outer fs s w.1.0 w.1.1.1.1.1)
 
 -- ## Stops
 

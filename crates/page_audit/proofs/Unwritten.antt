@@ -6,7 +6,6 @@ use Rattle.web_disk.proofs.Moments.{started, goes_on}
 use Rattle.disk_trio.specs.Trio.{trio_view}
 use Rattle.disk_trio.specs.Laws.{only_left}
 use Rattle.disk_trio.specs.declared.trio.Disks.{Disks}
-use Rattle.page_journal.specs.Scanned.{IsQuiet}
 use Rattle.page_journal.specs.Stored.{IsUnwritten}
 use Rattle.page_audit.specs.Audits.{IsOnlyRead}
 
@@ -21,10 +20,6 @@ unwritten_then v0 v1 v2 a b = record {
   };
   faults = omega (arith, a.faults, b.faults);
 }
-
--- a quiet run writes nothing
-pub quiet_unwritten : (v0 v1 : View) → IsQuiet v0 v1 → IsUnwritten v0 v1
-quiet_unwritten v0 v1 q = record { images = q.images; moments = q.moments; faults = q.faults }
 
 -- nor does a call behind which a crash leaves nothing else
 pub elapsed_unwritten : (v0 v1 : View) → ((image : List ℕ) → v0.since v0.moment image → v0.images image) → NoNewImage v0 v1 → Elapses v0 v1 → IsUnwritten v0 v1

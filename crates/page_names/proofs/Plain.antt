@@ -96,11 +96,6 @@ unfolding destination_of
 target_spelled None path e = tt
 target_spelled (Some t) path e = (named_spelled (percent_decode path) (target_of t) (sym e)).0
 
-pub target_named : (o : Option Target) (path : List ℕ) → option_map target_of o ≡ destination_of path → IfSome o (λ t. IsDestination (target_of t))
-unfolding destination_of
-target_named None path e = tt
-target_named (Some t) path e = (named_spelled (percent_decode path) (target_of t) (sym e)).1
-
 pub target_found : (o : Option Target) (path : List ℕ) → option_map target_of o ≡ destination_of path
     → (d : Destination) → IsDestination d → percent_decode path ≡ spelling d → option_map target_of o ≡ Some d
 unfolding destination_of

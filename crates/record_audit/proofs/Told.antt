@@ -2,7 +2,6 @@
 use Rattle.std.proofs.Common.{◌≡◌, ◌∙◌, ap, sym, subst, ℕ, ◌==◌, List, Bool, true, false, Option, Some, None, slice_get, is_some, refl, if◌then◌else◌}
 use Rattle.std.specs.Prelude.{◌↔◌, IsTrue}
 use Rattle.std.specs.Bool.{Decides}
-use Rattle.script_value.specs.declared.outcome.TxName.{TxName}
 use Rattle.script_nodes.specs.Setup.{Named, Library}
 use Rattle.replay_spec.specs.Tape.{present}
 use Rattle.replay_spec.specs.Book as spec
@@ -42,11 +41,6 @@ again_so b (extends x) h =
 again_so b (ends e) h = absurd h
 again_so b (finishes f) h = absurd h
 again_so b (sweeps tick) h = absurd h
-
--- one that does not come to it does not run so
-pub not_again : (b : spec.Book) (c : Change) → IsPage c → runs_so b c ≡ true → comes_again b c ≡ None → ⊥
-not_again b c page so none =
-    let no : false ≡ true = ap (λ (o : Option (List TxName)). is_some o) (sym none) ∙ (sym (again_so b c page) ∙ so) in absurd (let never : ⊥ = cc in never)
 
 held : {A : Type 0} (test : A → Bool) (o : Option A) → holds_of test o ≡ true → (x : A) × (o ≡ Some x)
 held test None h = absurd (let never : ⊥ = cc in never)

@@ -101,9 +101,6 @@ gone_by scripts (ends e) inside is n other none = mend_still n e.instance (ended
 gone_by scripts (finishes f) inside is n other none = filter_still n (λ i. not (i.number == f.instance)) is none
 gone_by scripts (sweeps tick) inside is n other none = filter_still n (is_live tick) is none
 
-IsGone : ℕ → Made → Type 0
-IsGone n m = Among n m.seen × (instance_at n m.book.instances ≡ None)
-
 pub gone_stays : (ls : List Line) (m : Made) (n : ℕ) → AreTaken ls m → Among n m.seen → instance_at n m.book.instances ≡ None → instance_at n (lines_after ls m).book.instances ≡ None
 gone_stays [] m n taken seen none = none
 gone_stays (changed c k ∷ ls) m n ((inside, e), taken) seen none =

@@ -1,5 +1,5 @@
 -- The turns of reading a setup.
-use Rattle.std.proofs.Common.{◌≡◌, ℕ, suc, ◌-◌, ◌≤◌, ◌<◌, List, [], ◌∷◌, ◌++◌, length, length-append, Some, None, Result, Ok, Err, refl, sym, ◌∙◌, ap, arith}
+use Rattle.std.proofs.Common.{◌≡◌, ℕ, suc, ◌-◌, ◌≤◌, ◌<◌, List, [], ◌∷◌, ◌++◌, length, length-append, None, Result, Ok, Err, refl, sym, ◌∙◌, ap, arith}
 use Rattle.script_nodes.specs.Setup.{Named}
 use Rattle.setup_reader.specs.declared.setup.Ending.{Ending}
 use Rattle.setup_reader.specs.declared.fault.SetupKind.TheVariants.{End}
@@ -24,14 +24,6 @@ by_count ending scripts total rest few = ap (λ n. setup_from n ending total scr
 abbrev section : Ending → ℕ → List Named → List ℕ → Result Parsed Fault
 section ending total scripts rest =
     after (script_at (total - length rest) scripts (section_in rest)) (λ found. setup_from (15 - length scripts) ending total (scripts ++ found.0 ∷ []) found.1)
-
--- the setup ends here
-pub at_steps : (ending : Ending) (total : ℕ) (scripts : List Named) (rest steps : List ℕ) → length scripts ≤ 15 → 0 < length rest
-    → ending_at ending rest ≡ Some steps → setup_from (16 - length scripts) ending total scripts rest ≡ ended (total - length rest) scripts steps
-at_steps ending total scripts [] steps few some e = absurd (omega arith)
-at_steps ending total scripts (b ∷ bs) steps few some e =
-    by_count ending scripts total (b ∷ bs) few
-    ∙ ap (λ o. unless_ended o (ended (total - length (b ∷ bs)) scripts) (section ending total scripts (b ∷ bs))) e
 
 -- a section stands here, or a fault
 pub at_other : (ending : Ending) (total : ℕ) (scripts : List Named) (rest : List ℕ) → length scripts ≤ 15 → 0 < length rest

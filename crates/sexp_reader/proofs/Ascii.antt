@@ -49,9 +49,6 @@ number_ascii [] h = tt
 number_ascii (b ∷ bs) h =
     signed_ascii b bs (all_ascii is_ascii_digit digit_ascii (without_leading_sign (b ∷ bs)) (and_parts (nat_lt 0 (length (without_leading_sign (b ∷ bs)))) (list_all is_ascii_digit (without_leading_sign (b ∷ bs))) h).1)
 
-pub number_utf8 : (token : List ℕ) → is_number token ≡ true → IsUtf8 token
-number_utf8 token h = ascii_utf8 token (number_ascii token h)
-
 pub symbol_ascii : (token : List ℕ) → is_symbol token ≡ true → AllAscii token
 symbol_ascii [] h = tt
 symbol_ascii (b ∷ bs) h =

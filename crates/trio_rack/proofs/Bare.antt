@@ -1,6 +1,5 @@
 -- Whether the disks of a shelf are empty.
-use Rattle.std.proofs.Common.{◌≡◌, ◌≢◌, ◌⊎◌, inl, inr, ℕ, ◌<◌, Bool, List, [], ◌∷◌, refl, sym, subst, arith}
-use Rattle.std.proofs.lemmas.Bool.{lt-ltb}
+use Rattle.std.proofs.Common.{◌≡◌, ◌≢◌, ◌⊎◌, inl, inr, ℕ, ◌<◌, List, [], ◌∷◌, refl, subst, arith}
 use Rattle.web_disk.specs.View.{RackView, AreAmong}
 use Rattle.web_disk.specs.declared.disk.Disk.{Ghosts}
 use Rattle.disk_trio.specs.Trio.{AreEmpty, first, three_of, file_of, read_side, trio_view}
@@ -8,7 +7,7 @@ use Rattle.disk_trio.specs.declared.side.Side.{Side}
 use Rattle.disk_trio.specs.declared.side.Side.TheVariants.{A, B}
 use Rattle.disk_trio.specs.declared.trio.Disks.{Disks}
 use Rattle.trio_rack.specs.Numbers.{file_number, root_number, IsOneOfThree, IsNoneOf}
-use Rattle.trio_rack.specs.Trios.{AreFrom, MayBeBare, MayHoldSome, held_by, shelves_of}
+use Rattle.trio_rack.specs.Trios.{AreFrom, MayBeBare, MayHoldSome}
 
 -- the disks of another shelf are none of a shelf
 pub of_another : (shelf n number : ℕ) → shelf < 16 → n < 16 → n ≢ shelf → IsOneOfThree n number → IsNoneOf shelf number
@@ -32,11 +31,6 @@ pub some_among : (these those : RackView) (shelf : ℕ) → ((number : ℕ) → 
     → MayHoldSome these shelf → MayHoldSome those shelf
 some_among these those shelf among h =
     record { number = h.number; its = h.its; image = h.image; held = among h.number h.its h.image h.held; some = h.some }
-
--- disks that may hold nothing may hold nothing as one
-pub bare_holds : (rack : RackView) (shelf : ℕ) → shelf < 16 → MayBeBare rack shelf → (shelves_of rack).holds shelf []
-bare_holds rack shelf low bare =
-    subst (λ (b : Bool). held_by b rack shelf []) (sym (lt-ltb shelf 16 low)) (record { naming = []; root = bare.root; file = bare.a })
 
 some_or_none : (xs : List ℕ) → (xs ≡ []) ⊎ (xs ≢ [])
 some_or_none [] = inl refl

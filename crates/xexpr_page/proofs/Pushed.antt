@@ -41,10 +41,6 @@ pub none_appended : (old : List ℕ) (p : Option (List ℕ)) → appended old p 
 none_appended old None e = refl
 none_appended old (Some a) e = let h : Some (old ++ a) ≡ None = e in cc
 
-pub appended_nil : (new : List ℕ) (p : Option (List ℕ)) → appended [] p ≡ Some new → p ≡ Some new
-appended_nil new None e = e
-appended_nil new (Some a) e = e
-
 pub no_pair : (xs : List Value) → (length xs ≡ 2 → ⊥) → pair_in (vals_of (map meaning xs)) ≡ None
 no_pair [] h = refl
 no_pair (x ∷ []) h = refl
