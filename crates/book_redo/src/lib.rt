@@ -1,4 +1,6 @@
 //! What a record of any format tells, made again in a book or passed over, as recovery decides: one door for all kinds of records, for recovery and the audit.
+//!
+//! It is a part of the book, and a crate of its own so that it is proved beside others.
 #![tactic(auto)]
 
 mod again;

@@ -1,4 +1,6 @@
 //! Visits of a book: admission, the ticket of one, and what its segment comes to: for the shelf and the audit.
+//!
+//! It is a part of the book, and a crate of its own so that it is proved beside others.
 #![tactic(auto)]
 
 ghost use Rattle.instance_book.specs.Places.{OneMoreHasItsState};

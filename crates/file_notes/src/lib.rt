@@ -1,4 +1,6 @@
 //! What is known of a journal's file without its bytes: its records, of which instance each is and how long: for recovery and the shelf.
+//!
+//! By what it does it is a part of the shelf. It is a crate of its own so that it is proved beside others.
 #![tactic(auto)]
 
 mod note;

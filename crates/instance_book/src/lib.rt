@@ -1,4 +1,6 @@
 //! The book of a shelf, with its instances, pages and cells, and how a change lands in it: for what is told again and for visits.
+//!
+//! With `book_visits` and `book_redo` it is one book. Each is a crate of its own so that they are proved one beside the other.
 #![tactic(auto)]
 
 mod after;
