@@ -7,7 +7,8 @@ use Rattle.core_syntax.specs.declared.faults.SyntaxKind.TheVariants.{Shape, Unbo
 use Rattle.script_nodes.specs.declared.script.SendKind.TheVariants.{Suspend}
 use Rattle.script_nodes.specs.Core.{Core, lit, var, bind, branch, repeat, prim, seq, send, cell_ref, cell_shadow, inst_ref, inst_add, no_cores, cores_of}
 use Rattle.script_nodes.specs.Setup.{Script}
-use Rattle.core_syntax.specs.Heads.{syntax_of, page_form_of, number_operation_of, test_of, list_operation_of, text_operation_of}
+use Rattle.prim_spec.specs.Table.{number_operation_of, test_of, list_operation_of, text_operation_of}
+use Rattle.core_syntax.specs.Heads.{syntax_of, page_form_of}
 use Rattle.core_syntax.specs.Definitions.{expanded, are_too_many}
 use Rattle.core_syntax.specs.Vectors.{form}
 

@@ -6,7 +6,8 @@ use Rattle.core_syntax.specs.declared.faults.SyntaxKind.{SyntaxKind}
 use Rattle.core_syntax.specs.declared.faults.SyntaxKind.TheVariants.{Shape, Unbound, Arity, Duplicate, NestedSend, TooMany}
 use Rattle.script_nodes.specs.Core.{lit, var, bind, prim, call, seq, cell_ref, no_cores, cores_of}
 use Rattle.script_nodes.specs.Setup.{Script}
-use Rattle.core_syntax.specs.Heads.{syntax_of, page_form_of, number_operation_of, test_of, list_operation_of, text_operation_of}
+use Rattle.prim_spec.specs.Table.{number_operation_of, test_of, list_operation_of, text_operation_of}
+use Rattle.core_syntax.specs.Heads.{syntax_of, page_form_of}
 use Rattle.core_syntax.specs.Definitions.{expanded}
 use Rattle.core_syntax.specs.Vectors.{form}
 

@@ -1,6 +1,7 @@
 ghost use Rattle.std.specs.Prelude.{◌≡◌};
-ghost use Rattle.core_syntax.specs.Heads.{head_of, syntax_of, page_form_of, operation_of, number_operation_of, test_of, list_operation_of, text_operation_of};
+ghost use Rattle.core_syntax.specs.Heads.{head_of, syntax_of, page_form_of, operation_of};
 
+use prim_ops::operation;
 use script_nodes::SendKind;
 use script_value::Op;
 
@@ -105,88 +106,11 @@ fn page_form_of(name: &str) -> Option<Head>
     }
 }
 
-// The operation of a name on numbers.
-#[tactic(auto, unfolding(crate::specs::Heads::number_operation_of))]
-fn number_operation_of(name: &str) -> Option<Head>
-    ensures { result ≡ number_operation_of name.now }
-{
-    match name {
-        "+" => Some(Head::Apply(Op::Add)),
-        "*" => Some(Head::Apply(Op::Multiply)),
-        "-" => Some(Head::Apply(Op::Subtract)),
-        "quotient" => Some(Head::Apply(Op::Quotient)),
-        "remainder" => Some(Head::Apply(Op::Remainder)),
-        "=" => Some(Head::Apply(Op::Equal)),
-        "<" => Some(Head::Apply(Op::Less)),
-        ">" => Some(Head::Apply(Op::Greater)),
-        "<=" => Some(Head::Apply(Op::AtMost)),
-        ">=" => Some(Head::Apply(Op::AtLeast)),
-        _ => None,
-    }
-}
-
-// The test of truth, of sameness or of what a value is that has a name.
-#[tactic(auto, unfolding(crate::specs::Heads::test_of))]
-fn test_of(name: &str) -> Option<Head>
-    ensures { result ≡ test_of name.now }
-{
-    match name {
-        "not" => Some(Head::Apply(Op::Not)),
-        "equal?" => Some(Head::Apply(Op::IsEqual)),
-        "number?" => Some(Head::Apply(Op::IsNumber)),
-        "string?" => Some(Head::Apply(Op::IsString)),
-        "symbol?" => Some(Head::Apply(Op::IsSymbol)),
-        "boolean?" => Some(Head::Apply(Op::IsBoolean)),
-        "list?" => Some(Head::Apply(Op::IsList)),
-        "null?" => Some(Head::Apply(Op::IsNull)),
-        _ => None,
-    }
-}
-
-// The operation of a name on lists.
-#[tactic(auto, unfolding(crate::specs::Heads::list_operation_of))]
-fn list_operation_of(name: &str) -> Option<Head>
-    ensures { result ≡ list_operation_of name.now }
-{
-    match name {
-        "list" => Some(Head::Apply(Op::List)),
-        "cons" => Some(Head::Apply(Op::Cons)),
-        "car" => Some(Head::Apply(Op::Car)),
-        "cdr" => Some(Head::Apply(Op::Cdr)),
-        "append" => Some(Head::Apply(Op::Append)),
-        "length" => Some(Head::Apply(Op::Length)),
-        "reverse" => Some(Head::Apply(Op::Reverse)),
-        "list-ref" => Some(Head::Apply(Op::ListRef)),
-        _ => None,
-    }
-}
-
-// The operation of a name on texts or answers.
-#[tactic(auto, unfolding(crate::specs::Heads::text_operation_of))]
-fn text_operation_of(name: &str) -> Option<Head>
-    ensures { result ≡ text_operation_of name.now }
-{
-    match name {
-        "string-append" => Some(Head::Apply(Op::StringAppend)),
-        "string-length" => Some(Head::Apply(Op::StringLength)),
-        "string=?" => Some(Head::Apply(Op::StringEqual)),
-        "number->string" => Some(Head::Apply(Op::NumberToString)),
-        "string->number" => Some(Head::Apply(Op::StringToNumber)),
-        "symbol->string" => Some(Head::Apply(Op::SymbolToString)),
-        "string->symbol" => Some(Head::Apply(Op::StringToSymbol)),
-        "extract-binding/single" => Some(Head::Apply(Op::ExtractBindingSingle)),
-        "extract-bindings" => Some(Head::Apply(Op::ExtractBindings)),
-        "exists-binding?" => Some(Head::Apply(Op::ExistsBinding)),
-        _ => None,
-    }
-}
-
+// The operation of a name.
 fn operation_of(name: &str) -> Option<Head>
     ensures { result ≡ operation_of name.now }
 {
-    number_operation_of(name)
-        .or(test_of(name))
-        .or(list_operation_of(name).or(text_operation_of(name)))
+    operation(name).map(Head::Apply)
 }
 
 /// The form or the operation of a name.

@@ -11,4 +11,4 @@ mod table;
 mod texts;
 
 pub use fault::ApplyFault;
-pub use table::{apply, takes};
+pub use table::{apply, operation, takes};

@@ -20,6 +20,91 @@ use crate::texts::{
 use script_value::{Items, Op, Value};
 use std::alloc::Global;
 
+// The operation of a name on numbers.
+#[tactic(auto, unfolding(prim_spec::specs::Table::number_operation_of))]
+fn number_operation_of(name: &str) -> Option<Op>
+    ensures { result ≡ spec.number_operation_of name.now }
+{
+    match name {
+        "+" => Some(Op::Add),
+        "*" => Some(Op::Multiply),
+        "-" => Some(Op::Subtract),
+        "quotient" => Some(Op::Quotient),
+        "remainder" => Some(Op::Remainder),
+        "=" => Some(Op::Equal),
+        "<" => Some(Op::Less),
+        ">" => Some(Op::Greater),
+        "<=" => Some(Op::AtMost),
+        ">=" => Some(Op::AtLeast),
+        _ => None,
+    }
+}
+
+// The test of truth, of sameness or of what a value is that has a name.
+#[tactic(auto, unfolding(prim_spec::specs::Table::test_of))]
+fn test_of(name: &str) -> Option<Op>
+    ensures { result ≡ spec.test_of name.now }
+{
+    match name {
+        "not" => Some(Op::Not),
+        "equal?" => Some(Op::IsEqual),
+        "number?" => Some(Op::IsNumber),
+        "string?" => Some(Op::IsString),
+        "symbol?" => Some(Op::IsSymbol),
+        "boolean?" => Some(Op::IsBoolean),
+        "list?" => Some(Op::IsList),
+        "null?" => Some(Op::IsNull),
+        _ => None,
+    }
+}
+
+// The operation of a name on lists.
+#[tactic(auto, unfolding(prim_spec::specs::Table::list_operation_of))]
+fn list_operation_of(name: &str) -> Option<Op>
+    ensures { result ≡ spec.list_operation_of name.now }
+{
+    match name {
+        "list" => Some(Op::List),
+        "cons" => Some(Op::Cons),
+        "car" => Some(Op::Car),
+        "cdr" => Some(Op::Cdr),
+        "append" => Some(Op::Append),
+        "length" => Some(Op::Length),
+        "reverse" => Some(Op::Reverse),
+        "list-ref" => Some(Op::ListRef),
+        _ => None,
+    }
+}
+
+// The operation of a name on texts or answers.
+#[tactic(auto, unfolding(prim_spec::specs::Table::text_operation_of))]
+fn text_operation_of(name: &str) -> Option<Op>
+    ensures { result ≡ spec.text_operation_of name.now }
+{
+    match name {
+        "string-append" => Some(Op::StringAppend),
+        "string-length" => Some(Op::StringLength),
+        "string=?" => Some(Op::StringEqual),
+        "number->string" => Some(Op::NumberToString),
+        "string->number" => Some(Op::StringToNumber),
+        "symbol->string" => Some(Op::SymbolToString),
+        "string->symbol" => Some(Op::StringToSymbol),
+        "extract-binding/single" => Some(Op::ExtractBindingSingle),
+        "extract-bindings" => Some(Op::ExtractBindings),
+        "exists-binding?" => Some(Op::ExistsBinding),
+        _ => None,
+    }
+}
+
+/// The operation that a name spells.
+pub fn operation(name: &str) -> Option<Op>
+    ensures { result ≡ spec.spelled name.now }
+{
+    number_operation_of(name)
+        .or(test_of(name))
+        .or(list_operation_of(name).or(text_operation_of(name)))
+}
+
 /// Whether an operation takes this number of operands.
 pub fn takes(op: Op, count: usize) -> bool
     ensures { result ≡ spec.takes op count }

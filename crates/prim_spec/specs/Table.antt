@@ -1,5 +1,7 @@
--- The table of operations: a value or a fault, one row an operation.
-use Rattle.std.specs.Prelude.{ℕ, ◌==◌, pos, int_lt, int_le, Bool, true, false, List, [], ◌∷◌, Option, Some, None, Result, Ok, Err, nat_lt, if◌then◌else◌}
+-- The table of operations: the names that spell them, how many operands each takes, and a value or a fault, one row an operation.
+use Rattle.std.specs.Prelude.{ℕ, ◌==◌, pos, int_lt, int_le, Bool, true, false, List, [], ◌∷◌, Option, Some, None, Result, Ok, Err, codes, nat_lt, if◌then◌else◌}
+use Rattle.std.specs.Str.{bytes_eq}
+use Rattle.std.specs.Option.{option_or}
 use Rattle.std.specs.Ordering.{int_eq}
 use Rattle.script_value.specs.Val.{Val, number, truth, text, symbol, list, no_vals}
 use Rattle.script_value.specs.declared.outcome.Op.{Op}
@@ -11,6 +13,62 @@ use Rattle.prim_spec.specs.Numbers as numbers
 use Rattle.prim_spec.specs.Lists as lists
 use Rattle.prim_spec.specs.Texts as texts
 use Rattle.prim_spec.specs.Bindings as bindings
+
+-- the operations on numbers, by their names
+unfoldable pub number_operation_of : List ℕ → Option Op
+number_operation_of s =
+    if bytes_eq s (codes "+") then Some op.Add else
+    if bytes_eq s (codes "*") then Some op.Multiply else
+    if bytes_eq s (codes "-") then Some op.Subtract else
+    if bytes_eq s (codes "quotient") then Some op.Quotient else
+    if bytes_eq s (codes "remainder") then Some op.Remainder else
+    if bytes_eq s (codes "=") then Some op.Equal else
+    if bytes_eq s (codes "<") then Some op.Less else
+    if bytes_eq s (codes ">") then Some op.Greater else
+    if bytes_eq s (codes "<=") then Some op.AtMost else
+    if bytes_eq s (codes ">=") then Some op.AtLeast else None
+
+-- the tests of truth, of sameness and of what a value is, by their names
+unfoldable pub test_of : List ℕ → Option Op
+test_of s =
+    if bytes_eq s (codes "not") then Some op.Not else
+    if bytes_eq s (codes "equal?") then Some op.IsEqual else
+    if bytes_eq s (codes "number?") then Some op.IsNumber else
+    if bytes_eq s (codes "string?") then Some op.IsString else
+    if bytes_eq s (codes "symbol?") then Some op.IsSymbol else
+    if bytes_eq s (codes "boolean?") then Some op.IsBoolean else
+    if bytes_eq s (codes "list?") then Some op.IsList else
+    if bytes_eq s (codes "null?") then Some op.IsNull else None
+
+-- the operations on lists, by their names
+unfoldable pub list_operation_of : List ℕ → Option Op
+list_operation_of s =
+    if bytes_eq s (codes "list") then Some op.List else
+    if bytes_eq s (codes "cons") then Some op.Cons else
+    if bytes_eq s (codes "car") then Some op.Car else
+    if bytes_eq s (codes "cdr") then Some op.Cdr else
+    if bytes_eq s (codes "append") then Some op.Append else
+    if bytes_eq s (codes "length") then Some op.Length else
+    if bytes_eq s (codes "reverse") then Some op.Reverse else
+    if bytes_eq s (codes "list-ref") then Some op.ListRef else None
+
+-- the operations on texts and answers, by their names
+unfoldable pub text_operation_of : List ℕ → Option Op
+text_operation_of s =
+    if bytes_eq s (codes "string-append") then Some op.StringAppend else
+    if bytes_eq s (codes "string-length") then Some op.StringLength else
+    if bytes_eq s (codes "string=?") then Some op.StringEqual else
+    if bytes_eq s (codes "number->string") then Some op.NumberToString else
+    if bytes_eq s (codes "string->number") then Some op.StringToNumber else
+    if bytes_eq s (codes "symbol->string") then Some op.SymbolToString else
+    if bytes_eq s (codes "string->symbol") then Some op.StringToSymbol else
+    if bytes_eq s (codes "extract-binding/single") then Some op.ExtractBindingSingle else
+    if bytes_eq s (codes "extract-bindings") then Some op.ExtractBindings else
+    if bytes_eq s (codes "exists-binding?") then Some op.ExistsBinding else None
+
+-- the operation that a name spells
+abbrev pub spelled : List ℕ → Option Op
+spelled s = option_or (option_or (number_operation_of s) (test_of s)) (option_or (list_operation_of s) (text_operation_of s))
 
 -- an operation takes this number of operands
 abbrev pub takes : Op → ℕ → Bool
