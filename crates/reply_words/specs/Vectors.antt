@@ -2,7 +2,7 @@
 use Rattle.std.specs.Prelude.{◌≡◌, [], ◌∷◌, codes, map, refl}
 use Rattle.script_value.specs.declared.outcome.Fault.TheVariants.{Binding, NotPage}
 use Rattle.script_value.specs.declared.outcome.Refusal.TheVariants.{Unknown, Closed}
-use Rattle.script_value.specs.declared.outcome.Reply.TheVariants.{Page, Ended, Refused, Fault, Fuel, Memory}
+use Rattle.script_value.specs.declared.outcome.Reply.TheVariants.{Page, Ended, Refused, Fault, Fuel, Following, Memory}
 use Rattle.reply_words.specs.Words.{status_number, page, word, told}
 use Rattle.reply_words.specs.declared.status.ReplyStatus.TheVariants.{NotFound, Gone, InternalServerError, ServiceUnavailable}
 
@@ -18,9 +18,9 @@ not_admitted = refl
 
 -- a script that stopped by itself, and what it is not given
 pub stopped :
-    map told (Fault Binding ∷ Fault NotPage ∷ Fuel 100001 ∷ Memory ∷ [])
+    map told (Fault Binding ∷ Fault NotPage ∷ Fuel 100001 ∷ Following ∷ Memory ∷ [])
     ≡ word InternalServerError (codes "binding") ∷ word InternalServerError (codes "page")
-    ∷ word ServiceUnavailable (codes "fuel") ∷ word ServiceUnavailable (codes "memory") ∷ []
+    ∷ word ServiceUnavailable (codes "fuel") ∷ word ServiceUnavailable (codes "following") ∷ word ServiceUnavailable (codes "memory") ∷ []
 stopped = refl
 
 -- the number of each status

@@ -31,6 +31,7 @@ impl<'a> Told<'a> {
             Reply::JournalFull(_) => Told::Word(ReplyStatus::ServiceUnavailable, "journal-full"),
             Reply::DiskFault(_) => Told::Word(ReplyStatus::ServiceUnavailable, "disk"),
             Reply::Down(_) => Told::Word(ReplyStatus::ServiceUnavailable, "down"),
+            Reply::Following => Told::Word(ReplyStatus::ServiceUnavailable, "following"),
             Reply::Worn => Told::Word(ReplyStatus::ServiceUnavailable, "worn"),
             Reply::Memory => Told::Word(ReplyStatus::ServiceUnavailable, "memory"),
         }
