@@ -6,11 +6,12 @@ use Rattle.replay_spec.specs.Book.{Book, Doubt, instance_at}
 use Rattle.replay_spec.specs.Rules.{Rules}
 use Rattle.replay_spec.specs.Admission.{Place, place_at, when, or_else, Admission, resumes, refusal_of, admit}
 use Rattle.replay_spec.specs.Next.{Ticket}
-use Rattle.replay_spec.specs.Step.{take, plain, taken, worn, down_by, refused_by, take_unless, step}
+use Rattle.replay_spec.specs.Step.{take, plain, taken, worn, refused_by, take_unless, step}
 use Rattle.replay_spec.specs.Runs.{Shelf}
 use Rattle.replay_spec.specs.Invariant.{IsOrderly}
 use Rattle.replay_spec.specs.Laws.{Leads, IsSame}
 use Rattle.replay_spec.specs.Promises.{IsAdmission}
+use Rattle.replay_spec.proofs.Barred.{barred_by}
 use Rattle.replay_spec.proofs.Admitted.{page_stands, resumes_place, start_is_no_page}
 use Rattle.replay_spec.proofs.Stays.{stay}
 use Rattle.history_spec.specs.Histories.{Entry, shelf_behind, book_behind, IsLegal}
@@ -30,13 +31,13 @@ split_at (x ∷ es) e h = elim (contains_cases x e es h) [
 ]
 
 -- what was told a ticket was admitted
-told_admitted : (b : Book) (nonce number given : ℕ) (o : Option Doubt) (is_worn : Bool) (a : Admission)
-    → (take_unless (or_else (down_by o) (or_else (when is_worn worn) (refused_by (refusal_of a)))) b nonce).0 ≡ taken number given → IsAdmission a
-told_admitted b nonce number given o is_worn a h = grind arith
+told_admitted : (b : Book) (nonce number given : ℕ) (o : Option Doubt) (follows is_worn : Bool) (a : Admission)
+    → (take_unless (or_else (barred_by o follows) (or_else (when is_worn worn) (refused_by (refusal_of a)))) b nonce).0 ≡ taken number given → IsAdmission a
+told_admitted b nonce number given o follows is_worn a h = grind arith
 
 take_admitted : (rules : Rules) (b : Book) (nonce number given : ℕ) (t : Ticket) → (step rules b nonce (take t.target t.answer) plain).0 ≡ taken number given → IsAdmission (admit b t.target)
 unfolding step
-take_admitted rules b nonce number given t h = told_admitted b nonce number given b.down (b.drawn == 2 ^ 62) (admit b t.target) h
+take_admitted rules b nonce number given t h = told_admitted b nonce number given b.down b.follows (b.drawn == 2 ^ 62) (admit b t.target) h
 
 -- the page that stands is the one that stood
 same_page : (b c : Book) (name : List ℕ) (n : PageName) (x y : Place) → IsOrderly b → Leads b c → place_at b name n ≡ Some x → place_at c name n ≡ Some y → instance_at n.instance c.instances ≡ Some y.instance

@@ -11,8 +11,9 @@ use Rattle.replay_spec.specs.Book.{Change, Doubt, Book, spend}
 use Rattle.replay_spec.specs.Rules.{Journal, Rules}
 use Rattle.replay_spec.specs.Admission.{when, or_else, Admission, begins, resumes, refused, refusal_of, admit}
 use Rattle.replay_spec.specs.Next.{Ticket, Visit, url_for, comes_to, start_visit, page_visit}
-use Rattle.replay_spec.specs.Step.{Event, take, publish, sweep, compact, crash, Fate, plain, no_memory, disk_fault, lost, kept, Reply, taken, disk_failed, worn, memory, swept, Decision, replies, records, compacts, gone_for, compact_comes, decide_compact, unless, down_by, refused_by, no_take, take_unless, change_by, reply_by, full, with_room, stopped, settles, decide, decide_sweep, publish_comes, sweep_comes, fate_of, settle, take_by, step}
+use Rattle.replay_spec.specs.Step.{Event, take, publish, sweep, compact, crash, Fate, plain, no_memory, disk_fault, lost, kept, Reply, taken, disk_failed, worn, memory, swept, Decision, replies, records, compacts, gone_for, compact_comes, decide_compact, unless, barred, too_long, full_journal, refused_by, no_take, take_unless, change_by, reply_by, full, with_room, stopped, settles, decide, decide_sweep, publish_comes, sweep_comes, fate_of, settle, take_by, step}
 use Rattle.replay_spec.specs.Runs.{Shelf, drawn_by, shelf_step}
+use Rattle.replay_spec.proofs.Barred.{barred_by}
 use Rattle.history_spec.specs.Histories.{Entry, fate_by, shelf_behind, MayCome}
 use Rattle.history_spec.specs.Laws.{EachEventIsAnEntry}
 use Rattle.history_spec.proofs.Going.{is_step}
@@ -37,12 +38,18 @@ unless_plain : (o : Option Reply) (d : Decision) → MayBePlain o → DecidesPla
 unless_plain None d h k = k
 unless_plain (Some r) d h k = h
 
-down_plain : (o : Option Doubt) → MayBePlain (down_by o)
-down_plain None = tt
-down_plain (Some doubt) = tt
+barred_plain : (o : Option Doubt) (follows : Bool) → MayBePlain (barred_by o follows)
+barred_plain None false = tt
+barred_plain None true = tt
+barred_plain (Some doubt) follows = tt
+
+no_room_plain : (journal : Option Journal) (b : Book) (c : Change) → MayBePlain (or_else (too_long journal b c) (full_journal journal b c))
+no_room_plain journal b c = grind arith
 
 room_plain : (rules : Rules) (b : Book) (r : Reply) (inside : List TxName) (o : Option Change) → IsPlain r → DecidesPlain (with_room rules b r inside o)
-room_plain rules b r inside o h = grind arith
+room_plain rules b r inside None h = h
+room_plain rules b r inside (Some c) h =
+    unless_plain (or_else (too_long rules.journal b c) (full_journal rules.journal b c)) (records r c inside) (no_room_plain rules.journal b c) h
 
 page_plain : (how : How) (bytes url : List ℕ) → IsPlain (reply_by how bytes url)
 page_plain how bytes url = grind arith
@@ -66,13 +73,13 @@ decide_plain rules b t (resumes at) = settles_plain rules b (gone_for rules t at
 decide_plain rules b t (refused r) = tt
 
 pub publish_plain : (rules : Rules) (b : Book) (t : Ticket) → DecidesPlain (publish_comes rules b t)
-publish_plain rules b t = unless_plain (down_by b.down) (decide rules b t (admit b t.target)) (down_plain b.down) (decide_plain rules b t (admit b t.target))
+publish_plain rules b t = unless_plain (barred b) (decide rules b t (admit b t.target)) (barred_plain b.down b.follows) (decide_plain rules b t (admit b t.target))
 
 pub sweep_plain : (rules : Rules) (b : Book) (tick : ℕ) → DecidesPlain (sweep_comes rules b tick)
-sweep_plain rules b tick = unless_plain (down_by b.down) (decide_sweep rules tick b) (down_plain b.down) (grind arith)
+sweep_plain rules b tick = unless_plain (barred b) (decide_sweep rules tick b) (barred_plain b.down b.follows) (grind arith)
 
 pub compact_plain : (rules : Rules) (b : Book) → DecidesPlain (compact_comes rules b)
-compact_plain rules b = unless_plain (down_by b.down) (decide_compact rules b) (down_plain b.down) (grind arith)
+compact_plain rules b = unless_plain (barred b) (decide_compact rules b) (barred_plain b.down b.follows) (grind arith)
 
 plain_fate : (r : Reply) → IsPlain r → fate_by r ≡ plain
 plain_fate memory h = absurd h
@@ -120,8 +127,8 @@ abbrev IsNoWant : Reply → Type 0
 IsNoWant memory = ⊥
 IsNoWant r = ⊤
 
-no_want : (b : Book) (nonce : ℕ) (o : Option Doubt) (is_worn : Bool) (a : Option Refusal) → IsNoWant (take_unless (or_else (down_by o) (or_else (when is_worn worn) (refused_by a))) b nonce).0
-no_want b nonce o is_worn a = grind arith
+no_want : (b : Book) (nonce : ℕ) (o : Option Doubt) (follows is_worn : Bool) (a : Option Refusal) → IsNoWant (take_unless (or_else (barred_by o follows) (or_else (when is_worn worn) (refused_by a))) b nonce).0
+no_want b nonce o follows is_worn a = grind arith
 
 took_again : (b : Book) (target : Destination) (nonce : ℕ) (r : Reply) → IsNoWant r → take_by b target nonce (fate_by r) ≡ take_unless (no_take b target) b nonce
 took_again b target nonce memory h = absurd h
@@ -130,10 +137,10 @@ took_again b target nonce r h = refl
 
 took : (b : Book) (target : Destination) (nonce : ℕ) (fate : Fate) → take_by b target nonce fate ≡ take_by b target nonce (fate_by (take_by b target nonce fate).0)
 took b target nonce no_memory = refl
-took b target nonce plain = sym (took_again b target nonce _ (no_want b nonce b.down (b.drawn == 2 ^ 62) (refusal_of (admit b target))))
-took b target nonce (disk_fault count) = sym (took_again b target nonce _ (no_want b nonce b.down (b.drawn == 2 ^ 62) (refusal_of (admit b target))))
-took b target nonce lost = sym (took_again b target nonce _ (no_want b nonce b.down (b.drawn == 2 ^ 62) (refusal_of (admit b target))))
-took b target nonce kept = sym (took_again b target nonce _ (no_want b nonce b.down (b.drawn == 2 ^ 62) (refusal_of (admit b target))))
+took b target nonce plain = sym (took_again b target nonce _ (no_want b nonce b.down b.follows (b.drawn == 2 ^ 62) (refusal_of (admit b target))))
+took b target nonce (disk_fault count) = sym (took_again b target nonce _ (no_want b nonce b.down b.follows (b.drawn == 2 ^ 62) (refusal_of (admit b target))))
+took b target nonce lost = sym (took_again b target nonce _ (no_want b nonce b.down b.follows (b.drawn == 2 ^ 62) (refusal_of (admit b target))))
+took b target nonce kept = sym (took_again b target nonce _ (no_want b nonce b.down b.follows (b.drawn == 2 ^ 62) (refusal_of (admit b target))))
 
 -- a sweep
 swept_told : (rules : Rules) (b : Book) (tick : ℕ) (fate : Fate) (is_late : Bool)

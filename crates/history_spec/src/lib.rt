@@ -5,6 +5,7 @@ ghost use Rattle.history_spec.specs.Laws.{HistoriesGoOn, OneEntryIsAStep, EachEv
 ghost use Rattle.history_spec.specs.Passes.{ATurnGoes, CallsCompose, SeenStays, ATakeIsOwed, TwoCallsVisit};
 ghost use Rattle.history_spec.specs.Kept.{KeptGoesOn, WhatIsKeptIsSound, WhatIsLeftOpens};
 ghost use Rattle.history_spec.specs.Room.{NoneGoesTooSoon};
+ghost use Rattle.history_spec.specs.Following.{AFollowerStays};
 
 /// A legal history goes on by each entry that comes next; a front of it is legal; and it stays so while the disk's count of
 /// faults rises.
@@ -117,4 +118,9 @@ pub fn what_is_left_opens()
 /// No page goes for a new one while there is room for it: no more go than are too many with it.
 pub fn none_goes_too_soon()
     ensures { NoneGoesTooSoon }
+{}
+
+/// A shelf that follows another one's journal stays as it was opened, and answers no visit.
+pub fn a_follower_stays()
+    ensures { AFollowerStays }
 {}

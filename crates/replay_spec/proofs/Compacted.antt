@@ -5,13 +5,14 @@ use Rattle.std.proofs.lemmas.Bool.Decides.{nat_tests}
 use Rattle.script_value.specs.declared.outcome.TxName.{TxName}
 use Rattle.script_nodes.specs.Setup.{Named}
 use Rattle.replay_spec.specs.Book.{Instance, Change, opens, extends, ends, finishes, sweeps, Line, changed, renewed, File, Book, reopened, instance_at, page_at, is_live}
+use Rattle.replay_spec.specs.Rules.{Rules}
 use Rattle.replay_spec.specs.Change.{mend, page_by, shown_by, ended_by, opened_by, instances_by, logged_by, clock_by, land}
 use Rattle.server_limits.specs.Limits.{most_fuel}
 use Rattle.replay_spec.specs.Tape.{present}
 use Rattle.replay_spec.specs.Next.{comes_to}
 use Rattle.replay_spec.specs.Admission.{is_one, when, ◌>>=◌, Place}
 use Rattle.replay_spec.specs.Compaction.{is_there, stays_in, stays, is_sweep, ahead_of, last_sweeps, compaction, file_length}
-use Rattle.replay_spec.specs.Recovery.{page_of_numbers, if_can_go, again, extension_visit, ended_so, remade, Made, number_in, is_repeated, with_number, taken_in, redo, of_length, resettled, then_line, lines_after, first_of, made_of_file}
+use Rattle.replay_spec.specs.Recovery.{page_of_numbers, if_can_go, again, extension_visit, ended_so, remade, Made, number_in, is_repeated, with_number, taken_in, redone, redo, of_length, resettled, then_line, lines_after, first_of, made_of_file}
 use Rattle.replay_spec.specs.Invariant.{Among, IsOf}
 use Rattle.replay_spec.specs.Remade.{IsTakenIn, IsTakenLine, AreTaken, IsLike, IsFiled, IsOrderlyMade, CompactionKeepsTheBook}
 use Rattle.replay_spec.proofs.Admitted.{came_from, when_is}
@@ -384,12 +385,27 @@ parted shelf scripts clock logged length file is = record {
   file = file;
   out = [];
   down = None;
+  follows = false;
   instances = is;
 }
 
 pub parts_same : (c b : Book) (length : ℕ) (file : File) → c.shelf ≡ b.shelf → c.scripts ≡ b.scripts → c.clock ≡ b.clock → c.logged ≡ b.logged → c.length ≡ length → c.file ≡ file → c.instances ≡ b.instances
     → parted c.shelf c.scripts c.clock c.logged c.length c.file c.instances ≡ parted b.shelf b.scripts b.clock b.logged length file b.instances
 parts_same c b length file e1 e2 e3 e4 e5 e6 e7 = cc
+
+redone_follows : (r : Rules) (c : Change) (o : Option (List TxName)) (b : Book) → (redone r c o b).follows ≡ b.follows
+redone_follows r c None b = refl
+redone_follows r c (Some inside) b = refl
+
+-- lines make no shelf follow, and none cease to
+pub lines_follow : (ls : List Line) (m : Made) → (lines_after ls m).book.follows ≡ m.book.follows
+lines_follow [] m = refl
+lines_follow (changed c n ∷ ls) m = lines_follow ls (redo (of_length n) c m) ∙ redone_follows (of_length n) c (taken_in m c) m.book
+lines_follow (renewed scripts n ∷ ls) m = lines_follow ls (resettled n scripts m)
+
+-- a book of a shelf that does not follow is known by its parts
+pub unfollowed : (c : Book) → c.follows ≡ false → reopened c ≡ parted c.shelf c.scripts c.clock c.logged c.length c.file c.instances
+unfollowed c e = ap (λ (f : Bool). record (reopened c) { follows = f }) e
 
 -- the compacted file of a book makes a book like it, and passes over no record
 pub compacted_parts : (b : Book) → IsFiled b
@@ -429,4 +445,4 @@ keeps_the_book b h =
     let again : c ≡ reopened c = (lines_orderly g.lines k (first_orderly b.shelf g)).again in
     let file : c.file ≡ g = file_of_lines g.lines k parts.0 in
     let size : c.length ≡ file_length g = length_of_lines g.lines k parts.0 in
-    (again ∙ parts_same c b (file_length g) g like.shelf like.scripts like.clock parts.2 size file like.instances, parts.0)
+    (again ∙ unfollowed c (lines_follow g.lines k) ∙ parts_same c b (file_length g) g like.shelf like.scripts like.clock parts.2 size file like.instances, parts.0)

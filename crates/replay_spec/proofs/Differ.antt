@@ -152,10 +152,10 @@ went_names rules b d o (publishes t c inside r) l less g h =
     landed_names rules b (land rules c inside (spend t.number b)) c inside g.orderly.instances.apart h (recorded_differs rules b t c inside less g h.pages r l) refl r.up
 went_names rules b d o (fails count t c inside r) l less g h =
     doubted_names b (doubting count (landing c inside) (spend t.number b)) count (landing c inside) h (recorded_differs rules b t c inside less g h.pages r l) refl refl
-went_names rules b d o (goes_to tick later up) l less g h = landed_names rules b (land rules (sweeps tick) [] b) (sweeps tick) [] g.orderly.instances.apart h tt refl up
-went_names rules b d o (fails_at count tick later up) l less g h = doubted_names b (doubting count (landing (sweeps tick) []) b) count (landing (sweeps tick) []) h tt refl refl
-went_names rules b d o (rewrites up) l less g h = record { pages = h.pages; doubt = h.doubt }
-went_names rules b d o (fails_to_rewrite count up) l less g h = doubted_names b (doubting count compacting b) count compacting h tt refl refl
+went_names rules b d o (goes_to tick later up unfed) l less g h = landed_names rules b (land rules (sweeps tick) [] b) (sweeps tick) [] g.orderly.instances.apart h tt refl up
+went_names rules b d o (fails_at count tick later up unfed) l less g h = doubted_names b (doubting count (landing (sweeps tick) []) b) count (landing (sweeps tick) []) h tt refl refl
+went_names rules b d o (rewrites up unfed) l less g h = record { pages = h.pages; doubt = h.doubt }
+went_names rules b d o (fails_to_rewrite count up unfed) l less g h = doubted_names b (doubting count compacting b) count compacting h tt refl refl
 went_names rules b d o (keeps scripts count c inside down) l less g h =
     landed_names rules b (reopened_with rules.journal scripts (land rules c inside b)) c inside g.orderly.instances.apart h (h.doubt (record { count = count; work = landing c inside }) down) refl refl
 went_names rules b d o (keeps_rewritten scripts count down) l less g h = record { pages = h.pages; doubt = λ x e. absurd (let no : ⊥ = cc in no) }

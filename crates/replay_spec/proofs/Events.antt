@@ -7,12 +7,13 @@ use Rattle.script_nodes.specs.Setup.{Named}
 use Rattle.replay_spec.specs.Book.{Instance, Opening, Change, opens, extends, ends, finishes, sweeps, Book, is_live, instance_at, spend}
 use Rattle.replay_spec.specs.Rules.{Rules}
 use Rattle.replay_spec.specs.Change.{mend, root_by, page_by, shown_by, ended_by, fresh, opened_by, instances_by}
-use Rattle.replay_spec.specs.Step.{Event, take, publish, sweep, compact, crash, Fate, swept, Decision, publish_comes, sweep_comes, compact_comes, fate_of, settle, take_by, step}
+use Rattle.replay_spec.specs.Step.{Event, take, publish, sweep, compact, crash, Fate, swept, Decision, publish_comes, sweep_comes, compact_comes, fate_of, settle, recovered, take_by, step}
 use Rattle.replay_spec.specs.Runs.{lands}
 use Rattle.replay_spec.specs.Invariant.{Apart, IsOrderly}
 use Rattle.replay_spec.specs.Laws.{Moment, then_book}
 use Rattle.replay_spec.specs.Remade.{NamesItsCells, NameTheirCells, GivesNamed, CellsStayNamed}
 use Rattle.replay_spec.proofs.Found.{KeepsNumber, keep_found}
+use Rattle.replay_spec.proofs.Barred.{some_setup, recovered_setup}
 use Rattle.replay_spec.proofs.Going.{goes}
 use Rattle.replay_spec.proofs.Lands.{LandsAs, lands_as}
 use Rattle.replay_spec.proofs.Differ.{put_from, mend_from}
@@ -73,7 +74,10 @@ given rules b nonce (sweep tick) fate h named k s at =
     h.setup k s (ap (λ (ss : List Named). slice_get ss k) (sym (swept_setup rules b tick (fate_of rules.journal fate) (nat_le tick b.clock))) ∙ at)
 given rules b nonce compact fate h named k s at =
     h.setup k s (ap (λ (ss : List Named). slice_get ss k) (sym (settled_setup rules b (fate_of rules.journal fate) (compact_comes rules b))) ∙ at)
-given rules b nonce (crash scripts) fate h named k s at = named k s at
+given rules b nonce (crash scripts) fate h named k s at =
+    let c = recovered rules fate b.down b in
+    some_setup (λ (ss : List Named). slice_get ss k ≡ Some s → NamesItsCells s) c scripts
+    (λ there. h.setup k s (ap (λ (ss : List Named). slice_get ss k) (sym (recovered_setup rules fate b.down b)) ∙ there)) (named k s) at
 
 pub stay_named : CellsStayNamed
 stay_named = (

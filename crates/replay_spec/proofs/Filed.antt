@@ -23,6 +23,7 @@ bare shelf scripts clock is = record {
   file = record { scripts = []; head = 0; drawn = None; lines = [] };
   out = [];
   down = None;
+  follows = false;
   instances = is;
 }
 

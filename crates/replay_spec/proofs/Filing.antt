@@ -6,20 +6,21 @@ use Rattle.script_nodes.specs.Setup.{Named}
 use Rattle.replay_spec.specs.Book.{Change, opens, extends, ends, finishes, sweeps, Work, landing, compacting, Doubt, Line, changed, renewed, Book, spend, reopened, are_same}
 use Rattle.replay_spec.specs.Rules.{Journal, Rules, empty_book}
 use Rattle.replay_spec.specs.Change.{logged_by, record_length, land}
-use Rattle.replay_spec.specs.Compaction.{compaction, rewritten, renewed_length, renewed_file, reopened_with}
-use Rattle.replay_spec.specs.Step.{Event, take, publish, sweep, compact, crash, Fate, publish_comes, compact_comes, fate_of, step}
+use Rattle.replay_spec.specs.Compaction.{compaction, rewritten, renewed_length, renewed_file, setup_for, going_on_with, reopened_with}
+use Rattle.replay_spec.specs.Step.{Event, take, publish, sweep, compact, crash, Fate, publish_comes, compact_comes, fate_of, recovered, step}
 use Rattle.replay_spec.specs.Runs.{lands}
 use Rattle.replay_spec.specs.Recovery.{remade, Made, number_in, is_repeated, with_number, taken_in, of_length, then_line, lines_after, first_of, made_of_file}
 use Rattle.replay_spec.specs.Invariant.{Among, IsOf, Unused, IsSound}
 use Rattle.replay_spec.specs.Laws.{IsLawful, Moment, then_book, book_after, AreLawful}
 use Rattle.replay_spec.specs.Remade.{IsRemade, IsRemadeWork, IsRemadeDoubt, NameTheirCells, IsTakenLine, AreTaken, IsLike, IsFiled, IsExact, GivesByText, EventsAreFiled, AreUnder, FilesSuffice}
+use Rattle.replay_spec.proofs.Barred.{some_setup, recovered_setup}
 use Rattle.replay_spec.proofs.Going.{Goes, stays, draws, spends, publishes, fails, goes_to, fails_at, rewrites, fails_to_rewrite, keeps, keeps_rewritten, loses, goes}
 use Rattle.replay_spec.proofs.Orderly.{recorded_orderly, drawn_fewer, spent_fewer, doubt_fewer, is_out, lost_fewer, published_fewer, swept_fewer, kept_fewer, is_doubted}
 use Rattle.replay_spec.proofs.Again.{recorded_remade, swept_remade}
 use Rattle.replay_spec.proofs.Events.{settled_setup, took_setup, swept_setup, stay_named}
 use Rattle.replay_spec.proofs.Steps.{stepped}
 use Rattle.replay_spec.proofs.Filed.{file_of_lines, length_of_lines, remade_like, land_like, taken_redo, taken_from}
-use Rattle.replay_spec.proofs.Compacted.{not_repeated, first_orderly, lines_orderly, parts_same, compacted_parts}
+use Rattle.replay_spec.proofs.Compacted.{not_repeated, first_orderly, lines_orderly, lines_follow, unfollowed, parts_same, compacted_parts}
 use Rattle.server_limits.specs.Limits.{most_fuel}
 
 -- the file with one line more makes what that line makes after the others
@@ -111,6 +112,7 @@ exact_landed r j b c inside drawn out down e (names, (made, same)) here filed =
       filed = filed;
       logged = ap (λ (x : Made). x.book.logged) next ∙ ap (λ (n : ℕ). max n (logged_by c)) e.logged;
       length = ap (λ (x : Made). x.book.length) next ∙ ap (λ (n : ℕ). n + (k + 5)) e.length;
+      follows = e.follows;
     }
 
 -- the setups of two books are the same where their names and texts are
@@ -118,8 +120,8 @@ abbrev ByText : Book → Book → Type 0
 ByText b d = are_same d.scripts b.scripts ≡ true → d.scripts ≡ b.scripts
 
 -- the file of a book after another setup tells it
-filed_reopened : (j : Journal) (scripts : List Named) (b : Book) → IsFiled b → (are_same scripts b.scripts ≡ true → scripts ≡ b.scripts) → IsFiled (reopened_with (Some j) scripts b)
-filed_reopened j scripts b h text = by_test (are_same scripts b.scripts) text
+filed_going_on : (j : Journal) (scripts : List Named) (b : Book) → IsFiled b → (are_same scripts b.scripts ≡ true → scripts ≡ b.scripts) → IsFiled (going_on_with (Some j) scripts b)
+filed_going_on j scripts b h text = by_test (are_same scripts b.scripts) text
   where
     by_test : (same : Bool) → (same ≡ true → scripts ≡ b.scripts)
         → IsFiled (record (reopened b) {
@@ -146,8 +148,8 @@ filed_reopened j scripts b h text = by_test (are_same scripts b.scripts) text
           used = λ n there x. h.used n (subst (λ (y : Made). Among n y.seen) next there) (lost_fewer (Some j) b scripts n x);
         }
 
-exact_reopened : (j : Journal) (scripts : List Named) (b : Book) → IsExact b → IsFiled (reopened_with (Some j) scripts b) → IsExact (reopened_with (Some j) scripts b)
-exact_reopened j scripts b e filed = by_test (are_same scripts b.scripts) filed
+exact_going_on : (j : Journal) (scripts : List Named) (b : Book) → IsExact b → IsFiled (going_on_with (Some j) scripts b) → IsExact (going_on_with (Some j) scripts b)
+exact_going_on j scripts b e filed = by_test (are_same scripts b.scripts) filed
   where
     by_test : (same : Bool)
         → IsFiled (record (reopened b) {
@@ -160,13 +162,14 @@ exact_reopened j scripts b e filed = by_test (are_same scripts b.scripts) filed
           length = if same then b.length else renewed_length (Some j) scripts b.length;
           file = if same then b.file else renewed_file (Some j) scripts b.file;
         })
-    by_test true f = record { filed = f; logged = e.logged; length = e.length }
+    by_test true f = record { filed = f; logged = e.logged; length = e.length; follows = e.follows }
     by_test false f =
         let next = after_more b.file.lines (renewed scripts (j.renewed scripts)) (first_of b.shelf b.file) in
         record {
           filed = f;
           logged = ap (λ (x : Made). x.book.logged) next ∙ e.logged;
           length = ap (λ (x : Made). x.book.length) next ∙ ap (λ (n : ℕ). n + (j.renewed scripts + 5)) e.length;
+          follows = e.follows;
         }
 
 pub exact_rewritten : (r : Rules) (j : Journal) (b : Book) → IsFiled b → IsFiled (rewritten (over r j) b) → IsExact (rewritten (over r j) b)
@@ -174,6 +177,7 @@ exact_rewritten r j b h filed = record {
   filed = filed;
   logged = (compacted_parts b h).2;
   length = length_of_lines (compaction b).lines (first_of b.shelf (compaction b)) (compacted_parts b h).0;
+  follows = refl;
 }
 
 -- the compacted file of a book tells it
@@ -193,12 +197,13 @@ abbrev Leaves : Book → Book → Type 0
 Leaves b d = IsFiled d × IsRemadeDoubt d d.down × (IsExact b → IsExact d)
 
 -- a crash after what is in doubt was kept or lost leaves a book that its file tells
-then_reopened : (j : Journal) (scripts : List Named) (b c : Book) → IsFiled c → (IsExact b → IsExact c) → (are_same scripts c.scripts ≡ true → scripts ≡ c.scripts)
-    → Leaves b (reopened_with (Some j) scripts c)
-then_reopened j scripts b c h exact text = let f = filed_reopened j scripts c h text in (f, tt, λ e. exact_reopened j scripts c (exact e) f)
+then_reopened : (j : Journal) (scripts : List Named) (b c : Book) → IsFiled c → (IsExact b → IsExact c)
+    → (are_same (setup_for c scripts) c.scripts ≡ true → setup_for c scripts ≡ c.scripts) → Leaves b (reopened_with (Some j) scripts c)
+then_reopened j scripts b c h exact text =
+    let ss = setup_for c scripts in let f = filed_going_on j ss c h text in (f, tt, λ e. exact_going_on j ss c (exact e) f)
 
 exact_moved : (b : Book) (drawn : ℕ) (out : List ℕ) (down : Option Doubt) → IsFiled (moved b drawn b.length out down) → IsExact b → IsExact (moved b drawn b.length out down)
-exact_moved b drawn out down f e = record { filed = f; logged = e.logged; length = e.length }
+exact_moved b drawn out down f e = record { filed = f; logged = e.logged; length = e.length; follows = e.follows }
 
 went : {lawful : Type 0} (r : Rules) (j : Journal) (b d : Book) (o : Option Change) → Goes lawful (over r j) b o d → lawful → r.fuel ≤ most_fuel → IsSound b → NameTheirCells b
     → IsRemadeDoubt b b.down → IsFiled b → ByText b d → Leaves b d
@@ -224,16 +229,16 @@ went r j b d o (fails count t c inside at) l less g names doubt h text =
     let down = Some (record { count = count; work = landing c inside }) in
     let f = filed_moved b b.drawn b.length out down (doubt_fewer b count t.number c inside (is_out b t.number c (at.out l) is_it)) h in
     (f, again_moved b b.drawn b.length out down c inside again, exact_moved b b.drawn out down f)
-went r j b d o (goes_to tick later up) l less g names doubt h text =
+went r j b d o (goes_to tick later up unfed) l less g names doubt h text =
     let f = filed_landed r j b (sweeps tick) [] b.drawn b.out b.down h (swept_remade b tick later) (λ m e. absurd e) (swept_fewer (over r j) b tick up) in
     (f, subst (IsRemadeDoubt d) (sym up) tt, λ e. exact_landed r j b (sweeps tick) [] b.drawn b.out b.down e (swept_remade b tick later) (λ m no. absurd no) f)
-went r j b d o (fails_at count tick later up) l less g names doubt h text =
+went r j b d o (fails_at count tick later up unfed) l less g names doubt h text =
     let down = Some (record { count = count; work = landing (sweeps tick) [] }) in
     let f = filed_moved b b.drawn b.length b.out down (λ m x. ⊎_elim (λ out. inl out) (λ y. ⊎_elim (λ no. absurd no) (λ high. inr (inr high)) y) x) h in
     (f, again_moved b b.drawn b.length b.out down (sweeps tick) [] (swept_remade b tick later), exact_moved b b.drawn b.out down f)
-went r j b d o (rewrites up) l less g names doubt h text =
+went r j b d o (rewrites up unfed) l less g names doubt h text =
     let f = filed_rewritten r j b h in (f, subst (IsRemadeDoubt d) (sym up) tt, λ e. exact_rewritten r j b h f)
-went r j b d o (fails_to_rewrite count up) l less g names doubt h text =
+went r j b d o (fails_to_rewrite count up unfed) l less g names doubt h text =
     let down = Some (record { count = count; work = compacting }) in
     let f = filed_moved b b.drawn b.length b.out down (λ m x. ⊎_elim (λ out. inl out) (λ y. ⊎_elim (λ no. absurd no) (λ high. inr (inr high)) y) x) h in
     (f, tt, exact_moved b b.drawn b.out down f)
@@ -253,7 +258,9 @@ by_text rules b nonce (take target answer) fate h same = took_setup b target non
 by_text rules b nonce (publish t) fate h same = settled_setup rules (spend t.number b) (fate_of rules.journal fate) (publish_comes rules b t)
 by_text rules b nonce (sweep tick) fate h same = swept_setup rules b tick (fate_of rules.journal fate) (nat_le tick b.clock)
 by_text rules b nonce compact fate h same = settled_setup rules b (fate_of rules.journal fate) (compact_comes rules b)
-by_text rules b nonce (crash scripts) fate h same = h same
+by_text rules b nonce (crash scripts) fate h same =
+    let c = recovered rules fate b.down b in
+    some_setup (λ (ss : List Named). are_same ss b.scripts ≡ true → ss ≡ b.scripts) c scripts (λ _. recovered_setup rules fate b.down b) h same
 
 abbrev Files : Book → (nonce : ℕ) → Event → Fate → Rules → Type 0
 Files b nonce event fate r = let d = (step r b nonce event fate).1 in IsFiled d × IsRemadeDoubt d d.down × (IsExact b → IsExact d)
@@ -284,7 +291,7 @@ exact_made b e =
     let again : c ≡ reopened c = (lines_orderly b.file.lines m (first_orderly b.shelf b.file)).again in
     let file : c.file ≡ b.file = file_of_lines b.file.lines m e.filed.taken in
     let like = e.filed.made in
-    again ∙ parts_same c b b.length b.file like.shelf like.scripts like.clock e.logged e.length file like.instances
+    again ∙ unfollowed c (lines_follow b.file.lines m) ∙ parts_same c b b.length b.file like.shelf like.scripts like.clock e.logged e.length file like.instances ∙ sym (unfollowed b e.follows)
 
 ran : (j : Journal) (ms : List Moment) (b : Book) → IsSound b → NameTheirCells b → IsRemadeDoubt b b.down → IsFiled b → AreLawful ms b → AreUnder j ms b
     → IsFiled (book_after ms b) × (IsExact b → IsExact (book_after ms b))
@@ -297,7 +304,7 @@ ran j (m ∷ ms) b g names doubt h lawful under =
 
 pub suffice : FilesSuffice
 suffice = (
-  λ (rules : Rules) (scripts : List Named) (shelf : ℕ). record { filed = empty_filed rules scripts shelf; logged = refl; length = omega arith },
+  λ (rules : Rules) (scripts : List Named) (shelf : ℕ). record { filed = empty_filed rules scripts shelf; logged = refl; length = omega arith; follows = refl },
   λ (j : Journal) (ms : List Moment) (b : Book) (g : IsSound b) (names : NameTheirCells b) (doubt : IsRemadeDoubt b b.down) (h : IsFiled b)
       (lawful : AreLawful ms b) (under : AreUnder j ms b).
       let all = ran j ms b g names doubt h lawful under in (all.0, λ e. exact_made (book_after ms b) (all.1 e)),

@@ -14,16 +14,18 @@ use Rattle.replay_spec.specs.Tape as tape
 use Rattle.replay_spec.specs.Eval.{Segment}
 use Rattle.replay_spec.specs.Admission.{when, or_else, Admission, begins, resumes, refused, admit}
 use Rattle.replay_spec.specs.Next.{Ticket, Visit, url_for, comes_to, start_visit, page_visit}
-use Rattle.replay_spec.specs.Step.{Event, take, publish, sweep, compact, crash, Fate, plain, no_memory, disk_fault, lost, kept, Reply, swept, Decision, replies, records, compacts, unless, down_by, full_journal, full, too_long, with_room, change_by, reply_by, stopped, gone_for, doubting, decide, most_of_journal, journal_full, compacted, fate_of, settle, recovered, no_take, take_unless, take_by, step}
+use Rattle.replay_spec.specs.Step.{Event, take, publish, sweep, compact, crash, Fate, plain, no_memory, disk_fault, lost, kept, Reply, swept, Decision, replies, records, compacts, unless, barred, full_journal, full, too_long, with_room, change_by, reply_by, stopped, gone_for, doubting, decide, most_of_journal, journal_full, compacted, fate_of, settle, recovered, no_take, take_unless, take_by, step}
 use Rattle.replay_spec.specs.Runs.{recorded_under, change_in, kept_under, lands}
 use Rattle.replay_spec.specs.Invariant.{Among}
 use Rattle.replay_spec.specs.Laws.{IsLawful}
 use Rattle.replay_spec.proofs.Stand.{among_of}
+use Rattle.replay_spec.proofs.Barred.{not_barred}
 
--- what a publish records of a ticket, which is out where it is lawful, on a shelf that is up
+-- what a publish records of a ticket, which is out where it is lawful, on a shelf that is up and does not follow another one's journal
 pub record Records (lawful : Type 0) (rules : Rules) (b : Book) (t : Ticket) (c : Change) (inside : List TxName) : Type 0 where
   pub out : lawful → Among t.number b.out
   pub up : b.down ≡ None
+  pub unfed : b.follows ≡ false
   pub reply : Reply
   pub decided : decide rules b t (admit b t.target) ≡ records reply c inside
 
@@ -34,10 +36,10 @@ pub data Goes (lawful : Type 0) (rules : Rules) (b : Book) : Option Change → B
   spends : (n : ℕ) → (lawful → Among n b.out) → Goes lawful rules b None (spend n b)
   publishes : (t : Ticket) (c : Change) (inside : List TxName) → Records lawful rules b t c inside → Goes lawful rules b (Some c) (land rules c inside (spend t.number b))
   fails : (count : ℕ) (t : Ticket) (c : Change) (inside : List TxName) → Records lawful rules b t c inside → Goes lawful rules b None (doubting count (landing c inside) (spend t.number b))
-  goes_to : (tick : ℕ) → b.clock < tick → b.down ≡ None → Goes lawful rules b (Some (sweeps tick)) (land rules (sweeps tick) [] b)
-  fails_at : (count tick : ℕ) → b.clock < tick → b.down ≡ None → Goes lawful rules b None (doubting count (landing (sweeps tick) []) b)
-  rewrites : b.down ≡ None → Goes lawful rules b None (rewritten rules b)
-  fails_to_rewrite : (count : ℕ) → b.down ≡ None → Goes lawful rules b None (doubting count compacting b)
+  goes_to : (tick : ℕ) → b.clock < tick → b.down ≡ None → b.follows ≡ false → Goes lawful rules b (Some (sweeps tick)) (land rules (sweeps tick) [] b)
+  fails_at : (count tick : ℕ) → b.clock < tick → b.down ≡ None → b.follows ≡ false → Goes lawful rules b None (doubting count (landing (sweeps tick) []) b)
+  rewrites : b.down ≡ None → b.follows ≡ false → Goes lawful rules b None (rewritten rules b)
+  fails_to_rewrite : (count : ℕ) → b.down ≡ None → b.follows ≡ false → Goes lawful rules b None (doubting count compacting b)
   keeps : (scripts : List Named) (count : ℕ) (c : Change) (inside : List TxName) → b.down ≡ Some (record { count = count; work = landing c inside })
       → Goes lawful rules b (Some c) (reopened_with rules.journal scripts (land rules c inside b))
   keeps_rewritten : (scripts : List Named) (count : ℕ) → b.down ≡ Some (record { count = count; work = compacting })
@@ -90,17 +92,17 @@ decided_no_file rules b t (resumes at) =
     let v = page_visit b t at in let m = comes_to v (present at.instance.cells rules.fuel) in stopped_no_file rules b (gone_for rules t at) v m m.outcome
 decided_no_file rules b t (refused r) = tt
 
-settled : {lawful : Type 0} (rules : Rules) (b : Book) (t : Ticket) (fate : Fate) (d : Decision) (o : Option Doubt) → (lawful → Among t.number b.out) → b.down ≡ o
+settled : {lawful : Type 0} (rules : Rules) (b : Book) (t : Ticket) (fate : Fate) (d : Decision) (o : Option Reply) → (lawful → Among t.number b.out) → barred b ≡ o
     → decide rules b t (admit b t.target) ≡ d
-    → Goes lawful rules b (recorded_under fate (unless (down_by o) d)) (settle rules (spend t.number b) fate (unless (down_by o) d)).1
-settled rules b t fate d (Some doubt) out is e = replied rules b t.number fate (Reply.down doubt.count) out
+    → Goes lawful rules b (recorded_under fate (unless o d)) (settle rules (spend t.number b) fate (unless o d)).1
+settled rules b t fate d (Some r) out is e = replied rules b t.number fate r out
 settled rules b t fate (replies r) None out is e = replied rules b t.number fate r out
 settled rules b t fate (compacts r) None out is e = absurd (subst NoFile e (decided_no_file rules b t (admit b t.target)))
 settled rules b t no_memory (records r c inside) None out is e = spends t.number out
-settled rules b t (disk_fault count) (records r c inside) None out is e = fails count t c inside (record { out = out; up = is; reply = r; decided = e })
-settled rules b t plain (records r c inside) None out is e = publishes t c inside (record { out = out; up = is; reply = r; decided = e })
-settled rules b t lost (records r c inside) None out is e = publishes t c inside (record { out = out; up = is; reply = r; decided = e })
-settled rules b t kept (records r c inside) None out is e = publishes t c inside (record { out = out; up = is; reply = r; decided = e })
+settled rules b t (disk_fault count) (records r c inside) None out is e = fails count t c inside (record { out = out; up = (not_barred b is).0; unfed = (not_barred b is).1; reply = r; decided = e })
+settled rules b t plain (records r c inside) None out is e = publishes t c inside (record { out = out; up = (not_barred b is).0; unfed = (not_barred b is).1; reply = r; decided = e })
+settled rules b t lost (records r c inside) None out is e = publishes t c inside (record { out = out; up = (not_barred b is).0; unfed = (not_barred b is).1; reply = r; decided = e })
+settled rules b t kept (records r c inside) None out is e = publishes t c inside (record { out = out; up = (not_barred b is).0; unfed = (not_barred b is).1; reply = r; decided = e })
 
 idle : {lawful : Type 0} (rules : Rules) (b : Book) (fate : Fate) (r : Reply) → Goes lawful rules b (recorded_under fate (replies r)) (settle rules b fate (replies r)).1
 idle rules b no_memory r = stays
@@ -109,39 +111,39 @@ idle rules b plain r = stays
 idle rules b lost r = stays
 idle rules b kept r = stays
 
-ticked : {lawful : Type 0} (rules : Rules) (b : Book) (tick : ℕ) (fate : Fate) (r : Reply) (full : Option Reply) → b.clock < tick → b.down ≡ None
+ticked : {lawful : Type 0} (rules : Rules) (b : Book) (tick : ℕ) (fate : Fate) (r : Reply) (full : Option Reply) → b.clock < tick → barred b ≡ None
     → Goes lawful rules b (recorded_under fate (unless full (records r (sweeps tick) []))) (settle rules b fate (unless full (records r (sweeps tick) []))).1
 ticked rules b tick fate r (Some x) later up = idle rules b fate x
 ticked rules b tick no_memory r None later up = stays
-ticked rules b tick (disk_fault count) r None later up = fails_at count tick later up
-ticked rules b tick plain r None later up = goes_to tick later up
-ticked rules b tick lost r None later up = goes_to tick later up
-ticked rules b tick kept r None later up = goes_to tick later up
+ticked rules b tick (disk_fault count) r None later is = let free = not_barred b is in fails_at count tick later free.0 free.1
+ticked rules b tick plain r None later is = let free = not_barred b is in goes_to tick later free.0 free.1
+ticked rules b tick lost r None later is = let free = not_barred b is in goes_to tick later free.0 free.1
+ticked rules b tick kept r None later is = let free = not_barred b is in goes_to tick later free.0 free.1
 
-swept_by : {lawful : Type 0} (rules : Rules) (b : Book) (tick : ℕ) (fate : Fate) (r : Reply) (full : Option Reply) (is_late : Bool) (o : Option Doubt) → nat_le tick b.clock ≡ is_late → b.down ≡ o
-    → let d = unless (down_by o) (unless full (records r (sweeps tick) [])) in
+swept_by : {lawful : Type 0} (rules : Rules) (b : Book) (tick : ℕ) (fate : Fate) (r : Reply) (full : Option Reply) (is_late : Bool) (o : Option Reply) → nat_le tick b.clock ≡ is_late → barred b ≡ o
+    → let d = unless o (unless full (records r (sweeps tick) [])) in
     Goes lawful rules b (if is_late then None else recorded_under fate d) (if is_late then (swept 0, b) else settle rules b fate d).1
 swept_by rules b tick fate r full true o late is = stays
-swept_by rules b tick fate r full false (Some doubt) late is = idle rules b fate (Reply.down doubt.count)
+swept_by rules b tick fate r full false (Some x) late is = idle rules b fate x
 swept_by rules b tick fate r full false None late is = ticked rules b tick fate r full (grind (arith, nat_tests, late)) is
 
 -- an event that compacts the file
-renewing : {lawful : Type 0} (rules : Rules) (b : Book) (fate : Fate) (r : Reply) (full : Option Reply) → b.down ≡ None
+renewing : {lawful : Type 0} (rules : Rules) (b : Book) (fate : Fate) (r : Reply) (full : Option Reply) → barred b ≡ None
     → Goes lawful rules b (recorded_under fate (unless full (compacts r))) (settle rules b fate (unless full (compacts r))).1
 renewing rules b fate r (Some x) up = idle rules b fate x
 renewing rules b no_memory r None up = stays
-renewing rules b (disk_fault count) r None up = fails_to_rewrite count up
-renewing rules b plain r None up = rewrites up
-renewing rules b lost r None up = rewrites up
-renewing rules b kept r None up = rewrites up
+renewing rules b (disk_fault count) r None is = let free = not_barred b is in fails_to_rewrite count free.0 free.1
+renewing rules b plain r None is = let free = not_barred b is in rewrites free.0 free.1
+renewing rules b lost r None is = let free = not_barred b is in rewrites free.0 free.1
+renewing rules b kept r None is = let free = not_barred b is in rewrites free.0 free.1
 
-renewed_by : {lawful : Type 0} (rules : Rules) (b : Book) (fate : Fate) (r : Reply) (full : Option Reply) (o : Option Doubt) → b.down ≡ o
-    → Goes lawful rules b (recorded_under fate (unless (down_by o) (unless full (compacts r)))) (settle rules b fate (unless (down_by o) (unless full (compacts r)))).1
-renewed_by rules b fate r full (Some doubt) is = idle rules b fate (Reply.down doubt.count)
+renewed_by : {lawful : Type 0} (rules : Rules) (b : Book) (fate : Fate) (r : Reply) (full : Option Reply) (o : Option Reply) → barred b ≡ o
+    → Goes lawful rules b (recorded_under fate (unless o (unless full (compacts r)))) (settle rules b fate (unless o (unless full (compacts r)))).1
+renewed_by rules b fate r full (Some x) is = idle rules b fate x
 renewed_by rules b fate r full None is = renewing rules b fate r full is
 
 -- a compaction lands no change
-no_change : (fate : Fate) (o : Option Doubt) (full : Option Reply) (r : Reply) → recorded_under fate (unless (down_by o) (unless full (compacts r))) ≡ None
+no_change : (fate : Fate) (o full : Option Reply) (r : Reply) → recorded_under fate (unless o (unless full (compacts r))) ≡ None
 no_change fate o full r = grind arith
 
 crashed : {lawful : Type 0} (rules : Rules) (b : Book) (scripts : List Named) (fate : Fate) (o : Option Doubt) → b.down ≡ o
@@ -161,13 +163,13 @@ pub goes : (rules : Rules) (b : Book) (nonce : ℕ) (x : Event) (fate : Fate) �
 unfolding step
 goes rules b nonce (take target answer) fate = took rules b target nonce fate
 goes rules b nonce (publish t) fate =
-    settled rules b t (fate_of rules.journal fate) (decide rules b t (admit b t.target)) b.down (among_of b.out t.number) refl refl
+    settled rules b t (fate_of rules.journal fate) (decide rules b t (admit b t.target)) (barred b) (among_of b.out t.number) refl refl
 goes rules b nonce (sweep tick) fate =
-    swept_by rules b tick (fate_of rules.journal fate) _ (full_journal rules.journal b (sweeps tick)) (nat_le tick b.clock) b.down refl refl
+    swept_by rules b tick (fate_of rules.journal fate) _ (full_journal rules.journal b (sweeps tick)) (nat_le tick b.clock) (barred b) refl refl
 goes rules b nonce compact fate =
     let f = fate_of rules.journal fate in
     let n = compacted_length rules.journal b in
     let full = when (nat_lt most_of_journal n) (journal_full n) in
-    subst (λ (o : Option Change). Goes (IsLawful compact b) rules b o (settle rules b f (unless (down_by b.down) (unless full (compacts (compacted n))))).1)
-    (no_change f b.down full (compacted n)) (renewed_by rules b f (compacted n) full b.down refl)
+    subst (λ (o : Option Change). Goes (IsLawful compact b) rules b o (settle rules b f (unless (barred b) (unless full (compacts (compacted n))))).1)
+    (no_change f (barred b) full (compacted n)) (renewed_by rules b f (compacted n) full (barred b) refl)
 goes rules b nonce (crash scripts) fate = crashed rules b scripts fate b.down refl

@@ -8,7 +8,7 @@ use Rattle.replay_spec.specs.Book.{Change, Book}
 use Rattle.replay_spec.specs.Rules.{Journal, Rules}
 use Rattle.replay_spec.specs.Admission.{Admission, begins, resumes, refused, admit}
 use Rattle.replay_spec.specs.Next.{Ticket, Visit, url_for, comes_to, start_visit, page_visit}
-use Rattle.replay_spec.specs.Step.{Reply, Decision, unless, down_by, reply_by, full, with_room, change_by, stopped, gone_for, decide}
+use Rattle.replay_spec.specs.Step.{Reply, Decision, unless, barred, reply_by, full, with_room, change_by, stopped, gone_for, decide}
 use Rattle.replay_spec.specs.Remade.{through, JournalIsLast}
 
 unless_last : (journal : Option Journal) (b : Book) (o : Option Reply) (d e : Decision) → d ≡ through journal b e → unless o d ≡ through journal b (unless o e)
@@ -42,4 +42,4 @@ decided_last rules b t (resumes at) =
 decided_last rules b t (refused r) = refl
 
 pub last : JournalIsLast
-last rules b t = unless_last rules.journal b (down_by b.down) _ _ (decided_last rules b t (admit b t.target))
+last rules b t = unless_last rules.journal b (barred b) _ _ (decided_last rules b t (admit b t.target))

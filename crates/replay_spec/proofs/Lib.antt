@@ -16,6 +16,7 @@ pub mod Ancestors
 pub mod Stand
 pub mod Landed
 pub mod Admitted
+pub mod Barred
 pub mod Going
 pub mod Orderly
 pub mod Sound
@@ -52,3 +53,4 @@ pub mod Room
 pub mod Least
 pub mod Migrated
 pub mod Marked
+pub mod Following

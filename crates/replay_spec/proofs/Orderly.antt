@@ -285,10 +285,10 @@ went rules b d o draws l g = drawn b g
 went rules b d o (spends n out) l g = spent b n g
 went rules b d o (publishes t c inside h) l g = let fits = recorded_orderly rules b t c inside g h in published rules b t.number c inside g (h.out l) h.up fits.0 fits.1
 went rules b d o (fails count t c inside h) l g = let fits = recorded_orderly rules b t c inside g h in failed b count t.number c inside g (h.out l) fits.0 fits.1
-went rules b d o (goes_to tick later up) l g = swept rules b tick g later up
-went rules b d o (fails_at count tick later up) l g = failed_at b count tick g later
-went rules b d o (rewrites up) l g = rewrote rules b g
-went rules b d o (fails_to_rewrite count up) l g = failed_again b count g
+went rules b d o (goes_to tick later up unfed) l g = swept rules b tick g later up
+went rules b d o (fails_at count tick later up unfed) l g = failed_at b count tick g later
+went rules b d o (rewrites up unfed) l g = rewrote rules b g
+went rules b d o (fails_to_rewrite count up unfed) l g = failed_again b count g
 went rules b d o (keeps scripts count c inside down) l g = kept rules scripts b count c inside g down
 went rules b d o (keeps_rewritten scripts count down) l g =
     let h = lost rules.journal (rewritten rules b) scripts (rewrote rules b g).orderly in

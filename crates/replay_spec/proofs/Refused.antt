@@ -16,20 +16,21 @@ use Rattle.replay_spec.specs.Rules.{Journal, Rules}
 use Rattle.replay_spec.specs.Change.{record_length, longer_by, land}
 use Rattle.replay_spec.specs.Admission.{when, or_else, Admission, begins, resumes, refused, refusal_of, admit}
 use Rattle.replay_spec.specs.Next.{Ticket, Origin, starts, answers, Visit, url_for, comes_to, start_visit, page_visit}
-use Rattle.replay_spec.specs.Step.{Fate, plain, no_memory, disk_fault, lost, kept, Reply, worn, swept, shelf_full, oversize, journal_full, Decision, replies, records, compacts, compacted, most_of_journal, compact_comes, decide_compact, gone_for, unless, down_by, refused_by, opening, extension, ending, finish, change_by, reply_by, full, too_long, full_journal, with_room, stopped, decide, decide_sweep, publish_comes, sweep_comes, fate_of, settle, take_unless, take_by, step}
+use Rattle.replay_spec.specs.Step.{Fate, plain, no_memory, disk_fault, lost, kept, Reply, worn, swept, shelf_full, oversize, journal_full, Decision, replies, records, compacts, compacted, most_of_journal, compact_comes, decide_compact, gone_for, unless, refused_by, opening, extension, ending, finish, change_by, reply_by, full, too_long, full_journal, with_room, stopped, decide, decide_sweep, publish_comes, sweep_comes, fate_of, settle, take_unless, take_by, step}
 use Rattle.replay_spec.specs.Laws.{Takes, Lands, Spares, RefusedIsUnchanged, Opens, AStartOpensOrLeaves}
+use Rattle.replay_spec.proofs.Barred.{barred_by}
 
-takes_unless : (b : Book) (nonce : ℕ) (o : Option Doubt) (is_worn : Bool) (a : Option Refusal)
-    → let r = or_else (down_by o) (or_else (when is_worn worn) (refused_by a)) in
+takes_unless : (b : Book) (nonce : ℕ) (o : Option Doubt) (follows is_worn : Bool) (a : Option Refusal)
+    → let r = or_else (barred_by o follows) (or_else (when is_worn worn) (refused_by a)) in
     Takes b nonce (take_unless r b nonce).0 (take_unless r b nonce).1
-takes_unless b nonce o is_worn a = grind arith
+takes_unless b nonce o follows is_worn a = grind arith
 
 takes_by : (b : Book) (target : Destination) (nonce : ℕ) (fate : Fate) → Takes b nonce (take_by b target nonce fate).0 (take_by b target nonce fate).1
 takes_by b target nonce no_memory = refl
-takes_by b target nonce plain = takes_unless b nonce b.down (b.drawn == 2 ^ 62) (refusal_of (admit b target))
-takes_by b target nonce (disk_fault count) = takes_unless b nonce b.down (b.drawn == 2 ^ 62) (refusal_of (admit b target))
-takes_by b target nonce lost = takes_unless b nonce b.down (b.drawn == 2 ^ 62) (refusal_of (admit b target))
-takes_by b target nonce kept = takes_unless b nonce b.down (b.drawn == 2 ^ 62) (refusal_of (admit b target))
+takes_by b target nonce plain = takes_unless b nonce b.down b.follows (b.drawn == 2 ^ 62) (refusal_of (admit b target))
+takes_by b target nonce (disk_fault count) = takes_unless b nonce b.down b.follows (b.drawn == 2 ^ 62) (refusal_of (admit b target))
+takes_by b target nonce lost = takes_unless b nonce b.down b.follows (b.drawn == 2 ^ 62) (refusal_of (admit b target))
+takes_by b target nonce kept = takes_unless b nonce b.down b.follows (b.drawn == 2 ^ 62) (refusal_of (admit b target))
 
 -- a reply alone that is told of a refusal, or of a start that ends or finishes
 abbrev IsIdle : Reply → Type 0
@@ -85,8 +86,8 @@ settled rules b lost (records r c inside) h = busy_spares rules b (land rules c 
 settled rules b kept (replies r) h = idle_spares rules b r h
 settled rules b kept (records r c inside) h = busy_spares rules b (land rules c inside b) (records r c inside) r h (landed rules b r c inside)
 
-unless_tells : (o : Option Doubt) (d : Decision) → Tells d → Tells (unless (down_by o) d)
-unless_tells o d h = grind arith
+unless_tells : (o : Option Doubt) (follows : Bool) (d : Decision) → Tells d → Tells (unless (barred_by o follows) d)
+unless_tells o follows d h = grind arith
 
 limit_tells : (is_over : Bool) (r : Reply) (d : Decision) → IsIdle r → Tells d → Tells (unless (when is_over r) d)
 limit_tells true r d idle h = idle
@@ -150,17 +151,17 @@ late rules b tick fate h = grind (arith, nat_tests)
 sweeping : (rules : Rules) (b : Book) (tick : ℕ) (fate : Fate) → b.clock < tick
     → let r = swept_or rules b tick fate (nat_le tick b.clock) in Spares rules b (sweep_comes rules b tick) r.0 r.1
 sweeping rules b tick fate h =
-    rw (early rules b tick fate h) (settled rules b fate (sweep_comes rules b tick) (unless_tells b.down (decide_sweep rules tick b) (swept_tells rules.journal b tick _)))
+    rw (early rules b tick fate h) (settled rules b fate (sweep_comes rules b tick) (unless_tells b.down b.follows (decide_sweep rules tick b) (swept_tells rules.journal b tick _)))
 
 pub unchanged : RefusedIsUnchanged
 unfolding step
 unchanged rules b nonce fate = (
   λ (target : Destination) (answer : Val). takes_by b target nonce fate,
   λ (t : Ticket). settled rules (spend t.number b) (fate_of rules.journal fate) (publish_comes rules b t)
-      (unless_tells b.down (decide rules b t (admit b t.target)) (decided_tells rules b t (admit b t.target))),
+      (unless_tells b.down b.follows (decide rules b t (admit b t.target)) (decided_tells rules b t (admit b t.target))),
   λ (tick : ℕ) (h : b.clock < tick). sweeping rules b tick (fate_of rules.journal fate) h,
   λ (tick : ℕ) (h : tick ≤ b.clock). late rules b tick (fate_of rules.journal fate) h,
-  settled rules b (fate_of rules.journal fate) (compact_comes rules b) (unless_tells b.down (decide_compact rules b)
+  settled rules b (fate_of rules.journal fate) (compact_comes rules b) (unless_tells b.down b.follows (decide_compact rules b)
       (let n = compacted_length rules.journal b in limit_tells (nat_lt most_of_journal n) (journal_full n) (compacts (compacted n)) tt tt)),
 )
 

@@ -181,13 +181,13 @@ went most rules b d o (publishes t c inside at) one less g h = record {
   doubt = subst (HasRoomIn most d.instances) (sym at.up) tt;
 }
 went most rules b d o (fails count t c inside at) one less g h = record { instances = h.instances; doubt = recorded_room most rules b t c inside one less at }
-went most rules b d o (goes_to tick later up) one less g h = record {
+went most rules b d o (goes_to tick later up unfed) one less g h = record {
   instances = landed most b.scripts b.instances (sweeps tick) [] one g.instances.apart h.instances tt;
   doubt = subst (HasRoomIn most d.instances) (sym up) tt;
 }
-went most rules b d o (fails_at count tick later up) one less g h = record { instances = h.instances; doubt = tt }
-went most rules b d o (rewrites up) one less g h = record { instances = h.instances; doubt = h.doubt }
-went most rules b d o (fails_to_rewrite count up) one less g h = record { instances = h.instances; doubt = tt }
+went most rules b d o (fails_at count tick later up unfed) one less g h = record { instances = h.instances; doubt = tt }
+went most rules b d o (rewrites up unfed) one less g h = record { instances = h.instances; doubt = h.doubt }
+went most rules b d o (fails_to_rewrite count up unfed) one less g h = record { instances = h.instances; doubt = tt }
 went most rules b d o (keeps scripts count c inside down) one less g h =
     record { instances = landed most b.scripts b.instances c inside one g.instances.apart h.instances (subst (HasRoomIn most b.instances) down h.doubt); doubt = tt }
 went most rules b d o (keeps_rewritten scripts count down) one less g h = record { instances = h.instances; doubt = tt }

@@ -18,7 +18,7 @@ use Rattle.replay_spec.specs.Rules.{Rules}
 use Rattle.replay_spec.specs.Change.{put_instance, root_by, page_by, evict, shown_by, fresh, opened_by, land}
 use Rattle.replay_spec.specs.Admission.{or_else, is_one, Place, why_not, Admission, begins, resumes, refused, admit}
 use Rattle.replay_spec.specs.Next.{Ticket, starts, Visit, url_for, comes_to, start_visit, page_visit}
-use Rattle.replay_spec.specs.Step.{publish, Reply, shown, Decision, records, gone_for, unless, down_by, too_long, full_journal, with_room, opening, extension, ending, finish, reply_by, full, stopped, decide, publish_comes, step}
+use Rattle.replay_spec.specs.Step.{publish, Reply, shown, Decision, records, gone_for, unless, barred, too_long, full_journal, with_room, opening, extension, ending, finish, reply_by, full, stopped, decide, publish_comes, step}
 use Rattle.replay_spec.specs.Invariant.{Unused, IsOrderly, IsSound}
 use Rattle.replay_spec.specs.Laws.{IsLawful, NamesDiffer, Lands, Spares}
 use Rattle.replay_spec.specs.Promises.{IsAdmitted, AShownPageIsAdmitted}
@@ -235,7 +235,7 @@ shown_admitted rules b nonce t fate less lives g differ out bytes url e =
     let r = step rules b nonce (publish t) fate in
     let lands : Lands rules (spend t.number b) d (shown bytes url) r.1 = subst (λ (x : Reply). Spares rules (spend t.number b) d x r.1) e ((unchanged rules b nonce fate).1 t) in
     let a = admit b t.target in
-    let showing = unless_showing (ShowsBy rules b t a) (down_by b.down) (decide rules b t a) (decided_showing rules b t a) in
+    let showing = unless_showing (ShowsBy rules b t a) (barred b) (decide rules b t a) (decided_showing rules b t a) in
     let by : ShowsBy rules b t a url lands.change lands.inside = subst (IsShowing (ShowsBy rules b t a)) lands.decided showing in
     subst (λ (x : Book). IsAdmitted x url t) (sym lands.landed)
     (by_admission rules b t a url lands.change lands.inside lives g differ out refl (says b t.target) by)

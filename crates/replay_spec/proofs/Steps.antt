@@ -68,10 +68,10 @@ went_on rules b d o (publishes t c inside h) l g later =
     landed b (land rules c inside (spend t.number b)) c inside g later (recorded_sound_of rules b t c inside g h) (is_out b t.number c (h.out l) fits.1) refl h.up
     (published_fewer rules b t.number c inside h.up fits.1)
 went_on rules b d o (fails count t c inside h) l g later = still b (doubting count (landing c inside) (spend t.number b)) g later refl refl (recorded_sound_of rules b t c inside g h)
-went_on rules b d o (goes_to tick after up) l g later = landed b (land rules (sweeps tick) [] b) (sweeps tick) [] g later tt (λ m e. absurd e) refl up (swept_fewer rules b tick up)
-went_on rules b d o (fails_at count tick after up) l g later = still b (doubting count (landing (sweeps tick) []) b) g later refl refl tt
-went_on rules b d o (rewrites up) l g later = still b (rewritten rules b) g later refl refl g.doubt
-went_on rules b d o (fails_to_rewrite count up) l g later = still b (doubting count compacting b) g later refl refl tt
+went_on rules b d o (goes_to tick after up unfed) l g later = landed b (land rules (sweeps tick) [] b) (sweeps tick) [] g later tt (λ m e. absurd e) refl up (swept_fewer rules b tick up)
+went_on rules b d o (fails_at count tick after up unfed) l g later = still b (doubting count (landing (sweeps tick) []) b) g later refl refl tt
+went_on rules b d o (rewrites up unfed) l g later = still b (rewritten rules b) g later refl refl g.doubt
+went_on rules b d o (fails_to_rewrite count up unfed) l g later = still b (doubting count compacting b) g later refl refl tt
 went_on rules b d o (keeps scripts count c inside down) l g later =
     landed b (reopened_with rules.journal scripts (land rules c inside b)) c inside g later
     (subst (IsSoundDoubt b.scripts b.shelf b.instances) down g.doubt) (is_doubted b count c inside down) refl refl (kept_fewer rules scripts b c inside)

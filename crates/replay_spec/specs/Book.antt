@@ -115,7 +115,7 @@ pub record File : Type 0 where
 
 -- `scripts`: the setup, of which starts are; `drawn`: the next number; `logged`: one more than the greatest number in a
 -- record; `length`: that of the journal's file, with the records that recovery passes over; `out`: the numbers that were taken and not
--- published
+-- published; `follows`: whether the shelf follows another one's journal
 pub record Book : Type 0 where
   pub shelf : ℕ
   pub scripts : List Named
@@ -126,6 +126,7 @@ pub record Book : Type 0 where
   pub file : File
   pub out : List ℕ
   pub down : Option Doubt
+  pub follows : Bool
   pub instances : List Instance
 
 -- the first in a list that has this number

@@ -72,9 +72,9 @@ abbrev pub compacted_file : Option Journal → Book → File
 compacted_file None b = b.file
 compacted_file (Some j) b = compaction b
 
--- the book after its file is compacted
+-- the book after its file is compacted, which then does not tell that the shelf follows another one's journal
 abbrev pub rewritten : Rules → Book → Book
-rewritten rules b = record b { length = compacted_length rules.journal b; file = compacted_file rules.journal b }
+rewritten rules b = record b { length = compacted_length rules.journal b; file = compacted_file rules.journal b; follows = false }
 
 -- the book after this work is done
 abbrev pub worked : Rules → Work → Book → Book
@@ -91,10 +91,18 @@ abbrev pub renewed_file : Option Journal → List Named → File → File
 renewed_file None scripts f = f
 renewed_file (Some j) scripts f = with_line (renewed scripts (j.renewed scripts)) f
 
--- The book of a shelf that is opened again with this setup. A record tells the setup where its names and texts are others than before.
-abbrev pub reopened_with : Option Journal → List Named → Book → Book
-reopened_with journal scripts b = record (reopened b) {
+-- the setup with which a shelf goes on that is opened with this one: a shelf that follows another one's journal keeps the one that was told last
+abbrev pub setup_for : Book → List Named → List Named
+setup_for b scripts = if b.follows then b.scripts else scripts
+
+-- the book of a shelf that goes on with this setup, which a record tells where its names and texts are others than before
+abbrev pub going_on_with : Option Journal → List Named → Book → Book
+going_on_with journal scripts b = record (reopened b) {
   scripts = scripts;
   length = if are_same scripts b.scripts then b.length else renewed_length journal scripts b.length;
   file = if are_same scripts b.scripts then b.file else renewed_file journal scripts b.file;
 }
+
+-- The book of a shelf that is opened again with this setup. A shelf that follows another one's journal is told none.
+abbrev pub reopened_with : Option Journal → List Named → Book → Book
+reopened_with journal scripts b = going_on_with journal (setup_for b scripts) b

@@ -18,7 +18,7 @@ use Rattle.replay_spec.specs.Change.{land}
 use Rattle.replay_spec.specs.Compaction.{rewritten}
 use Rattle.replay_spec.specs.Admission.{is_one, Place, place_at, begins, resumes, admit}
 use Rattle.replay_spec.specs.Next.{Ticket, comes_to, page_visit}
-use Rattle.replay_spec.specs.Step.{Event, take, publish, sweep, compact, crash, Fate, Reply, taken, shown, finished, ended, swept, compacted, disk_failed, refusal, memory, down, worn, Decision, replies, records, compacts, doubting, settles, gone_for, decide, publish_comes, sweep_comes, compact_comes, step}
+use Rattle.replay_spec.specs.Step.{Event, take, publish, sweep, compact, crash, Fate, Reply, taken, shown, finished, ended, swept, compacted, disk_failed, refusal, memory, down, following, worn, Decision, replies, records, compacts, doubting, settles, gone_for, decide, publish_comes, sweep_comes, compact_comes, step}
 use Rattle.replay_spec.specs.Runs.{Shelf, shelf_step, after, lands, with_change}
 use Rattle.replay_spec.specs.Invariant.{Among, AreDifferent, AreAncestors, Replays, PageAt, Unused, IsOrderly, IsSound}
 
@@ -337,6 +337,7 @@ IsRefusal (refusal Revoked) = ⊤
 IsRefusal (refusal (Closed t)) = ⊤
 IsRefusal memory = ⊤
 IsRefusal (down count) = ⊤
+IsRefusal following = ⊤
 IsRefusal worn = ⊤
 IsRefusal _ = ⊥
 

@@ -1,5 +1,5 @@
 -- A file that was read in an older format, and goes on in the one that is written.
-use Rattle.std.specs.Prelude.{◌≡◌, List, [], ◌∷◌}
+use Rattle.std.specs.Prelude.{◌≡◌, false, List, [], ◌∷◌}
 use Rattle.replay_spec.specs.Book.{Line, changed, renewed, Book, reopened}
 use Rattle.replay_spec.specs.Rules.{Journal}
 use Rattle.replay_spec.specs.Change.{record_length}
@@ -18,11 +18,11 @@ abbrev pub in_format : Journal → Book → Book
 in_format j b = record b { file = record b.file { head = j.begun b.file.scripts; lines = remeasured j b.file.lines (first_of b.shelf b.file) } }
 
 -- A book is told by its file in the format that is written. That file compacted makes the same book, as after a crash, but for its length
--- and file, and passes over no record.
+-- and file, and passes over no record. It does not tell that the shelf follows another one's journal.
 abbrev pub MigrationKeepsTheBook : Type 0
 MigrationKeepsTheBook =
     (j : Journal) (b : Book) → IsFiled b
     → let c = compaction (in_format j b) in
     IsFiled (in_format j b)
-    × ((made_of_file b.shelf c).book ≡ record (reopened b) { length = file_length c; file = c })
+    × ((made_of_file b.shelf c).book ≡ record (reopened b) { length = file_length c; file = c; follows = false })
     × AreTaken c.lines (first_of b.shelf c)

@@ -1,17 +1,19 @@
--- What holds of clocks, of pages that are shown and closed, of instances that are freed, and of what a visit is answered.
-use Rattle.std.specs.Prelude.{◌≡◌, ◌⊎◌, ◌≤◌, ◌<◌, ◌-◌, ◌^◌, ℕ, List, Some, None, true, ⊤}
+-- What holds of clocks, of pages that are shown and closed, of instances that are freed, of what a visit is answered, and of shelves that
+-- follow another one's journal.
+use Rattle.std.specs.Prelude.{◌≡◌, ◌⊎◌, ◌≤◌, ◌<◌, ◌-◌, ◌^◌, ℕ, List, length, Option, Some, None, true, false, ⊤}
 use Rattle.std.specs.List.{list_all}
 use Rattle.script_value.specs.declared.outcome.TxName.{TxName}
 use Rattle.script_nodes.specs.PageNames.Names.{Destination, page, spelling}
 use Rattle.script_nodes.specs.PageNames.declared.names.PageName.{PageName}
 use Rattle.script_value.specs.Val.{Val}
+use Rattle.script_nodes.specs.Setup.{Named}
 use Rattle.replay_spec.specs.Tape.{present, Outcome, paged, faulted}
 use Rattle.replay_spec.specs.Tape as tape
-use Rattle.replay_spec.specs.Book.{Instance, Finish, finishes, sweeps, Book, instance_at, is_expired, is_over}
+use Rattle.replay_spec.specs.Book.{Instance, Finish, finishes, sweeps, Doubt, Book, instance_at, is_expired, is_over, spend, reopened}
 use Rattle.replay_spec.specs.Rules.{Rules}
 use Rattle.replay_spec.specs.Admission.{Place, place_at, Admission, begins, resumes, refused, admit}
 use Rattle.replay_spec.specs.Next.{Ticket, Visit, url_for, comes_to, start_visit, page_visit}
-use Rattle.replay_spec.specs.Step.{take, publish, Fate, no_memory, Reply, taken, shown, fault, out_of_fuel, shelf_full, disk_failed, down, oversize, journal_full, worn, memory, reply_by, step}
+use Rattle.replay_spec.specs.Step.{Event, take, publish, sweep, compact, crash, Fate, no_memory, Reply, taken, shown, fault, out_of_fuel, shelf_full, disk_failed, down, oversize, journal_full, following, worn, memory, live, reply_by, step}
 use Rattle.replay_spec.specs.Runs.{lands}
 use Rattle.replay_spec.specs.Invariant.{ClosedIn, IsOrderly, IsSound}
 use Rattle.replay_spec.specs.Laws.{IsLawful, Moment, then_book, Leads, Leaves, NamesDiffer}
@@ -101,14 +103,41 @@ abbrev pub IsAdmission : Admission → Type 0
 IsAdmission (refused r) = ⊥
 IsAdmission _ = ⊤
 
--- A visit that is admitted at its take gets a ticket, and one that is admitted again at its publish is answered as its
--- script stops then: where it meets no limit and no fault of the disk, and but for want of memory.
+-- On a shelf that does not follow another one's journal, a visit that is admitted at its take gets a ticket, and one that is admitted
+-- again at its publish is answered as its script stops then: where it meets no limit and no fault of the disk, and but for want of memory.
 abbrev pub AVisitIsAnswered : Type 0
 AVisitIsAnswered =
-    (rules : Rules) (b : Book) (nonce : ℕ) (fate : Fate)
+    (rules : Rules) (b : Book) (nonce : ℕ) (fate : Fate) → b.follows ≡ false
     → ((target : Destination) (answer : Val) → IsAdmission (admit b target)
     → let r = (step rules b nonce (take target answer) fate).0 in
     (IsLimit r → ⊥) → (IsDiskFault r → ⊥) → (r ≡ taken b.drawn nonce) ⊎ ((r ≡ memory) × (fate ≡ no_memory)))
     × ((t : Ticket) → IsAdmission (admit b t.target)
     → let r = (step rules b nonce (publish t) fate).0 in
     (IsLimit r → ⊥) → (IsDiskFault r → ⊥) → Stops rules b t (admit b t.target) r ⊎ ((r ≡ memory) × (fate ≡ no_memory)))
+
+-- what a shelf answers that follows another one's journal: that it is down, or else that it follows
+abbrev pub follower_reply : Option Doubt → Reply
+follower_reply None = following
+follower_reply (Some doubt) = down doubt.count
+
+-- what came of an event is what a shelf that follows answers, or want of memory, and this book
+abbrev pub IsPutOff : Book → Fate → (came : Reply × Book) → (left : Book) → Type 0
+IsPutOff b fate came left = ((came.0 ≡ follower_reply b.down) ⊎ ((came.0 ≡ memory) × (fate ≡ no_memory))) × (came.1 ≡ left)
+
+-- A shelf that follows another one's journal answers so each take, whatever its target, each publish, each sweep above its clock and each
+-- compaction. Nothing changes but that a publish spends its number. Where nothing is in doubt on it, it follows when it is opened again, and
+-- is told no setup.
+abbrev pub AFollowerAnswersNoVisit : Type 0
+AFollowerAnswersNoVisit =
+    (rules : Rules) (b : Book) (nonce : ℕ) (fate : Fate) → b.follows ≡ true
+    → ((target : Destination) (answer : Val) → IsPutOff b fate (step rules b nonce (take target answer) fate) b)
+    × ((t : Ticket) → IsPutOff b fate (step rules b nonce (publish t) fate) (spend t.number b))
+    × ((tick : ℕ) → b.clock < tick → IsPutOff b fate (step rules b nonce (sweep tick) fate) b)
+    × IsPutOff b fate (step rules b nonce compact fate) b
+    × ((scripts : List Named) → b.down ≡ None → step rules b nonce (crash scripts) fate ≡ (live (length b.instances), reopened b))
+
+-- No event makes a shelf follow another one's journal, and no other shelf answers that it follows one.
+abbrev pub NoOtherFollows : Type 0
+NoOtherFollows =
+    (b : Book) (m : Moment) → b.follows ≡ false
+    → ((then_book m b).follows ≡ false) × ((step m.rules b m.nonce m.event m.fate).0 ≡ following → ⊥)

@@ -214,6 +214,7 @@ first_of shelf f = record {
     file = record f { lines = [] };
     out = [];
     down = None;
+    follows = false;
     instances = [];
   };
   seen = [];

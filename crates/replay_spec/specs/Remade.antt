@@ -1,5 +1,5 @@
 -- What holds of the records that events leave, and of the books that records make.
-use Rattle.std.specs.Prelude.{◌≡◌, ◌≤◌, ◌<◌, ℕ, List, [], ◌∷◌, length, Option, Some, None, true, slice_get, ⊤}
+use Rattle.std.specs.Prelude.{◌≡◌, ◌≤◌, ◌<◌, ℕ, List, [], ◌∷◌, length, Option, Some, None, true, false, slice_get, ⊤}
 use Rattle.script_value.specs.Val.{Val}
 use Rattle.script_value.specs.declared.outcome.TxName.{TxName}
 use Rattle.instance_cells.specs.Cells.{Holds}
@@ -112,9 +112,11 @@ pub record IsFiled (b : Book) : Type 0 where
   pub logged : (made_of_file b.shelf b.file).book.logged ≤ b.logged
   pub used : AreUsed (made_of_file b.shelf b.file).seen b
 
--- a book's file tells it, with the next number and the length: no record was passed over since the file was begun
+-- a book's file tells it, with the next number and the length: no record was passed over since the file was begun, and none made the shelf
+-- follow another one's journal
 pub record IsExact (b : Book) : Type 0 where
   pub filed : IsFiled b
+  pub follows : b.follows ≡ false
   pub logged : (made_of_file b.shelf b.file).book.logged ≡ b.logged
   pub length : (made_of_file b.shelf b.file).book.length ≡ b.length
 
@@ -156,11 +158,12 @@ RecordsMakeFiledBooks = (shelf : ℕ) (f : File) (ls : List Line) → IsFiled (l
 abbrev pub CompactedTwice : Type 0
 CompactedTwice = (b : Book) → compaction (record b { file = compaction b }) ≡ compaction b
 
--- The compacted file of a book makes the same book, as after a crash, but for its length and file, and passes over no record.
+-- The compacted file of a book makes the same book, as after a crash, but for its length and file, and passes over no record. It does not
+-- tell that the shelf follows another one's journal.
 abbrev pub CompactionKeepsTheBook : Type 0
 CompactionKeepsTheBook =
     (b : Book) → IsFiled b
-    → ((made_of_file b.shelf (compaction b)).book ≡ record (reopened b) { length = file_length (compaction b); file = compaction b })
+    → ((made_of_file b.shelf (compaction b)).book ≡ record (reopened b) { length = file_length (compaction b); file = compaction b; follows = false })
     × AreTaken (compaction b).lines (first_of b.shelf (compaction b))
 
 -- What was made of records, whatever they tell, is as after a crash, with orderly instances of the numbers that were

@@ -1,5 +1,5 @@
 -- What the shelves of one program run under.
-use Rattle.std.specs.Prelude.{ℕ, List, [], Option, Some, None}
+use Rattle.std.specs.Prelude.{ℕ, false, List, [], Option, Some, None}
 use Rattle.script_nodes.specs.Setup.{Named}
 use Rattle.replay_spec.specs.Book.{Change, File, Book}
 
@@ -39,5 +39,6 @@ empty_book rules scripts shelf = record {
   file = first_file (begun_length rules.journal scripts) scripts;
   out = [];
   down = None;
+  follows = false;
   instances = [];
 }

@@ -44,7 +44,7 @@ pub data Reply : Type 0 where
   out_of_fuel : (cost : ℕ) → Reply
   shelf_full disk_failed down : (count : ℕ) → Reply
   oversize journal_full compacted : (length : ℕ) → Reply
-  worn memory : Reply
+  following worn memory : Reply
   swept live : (instances : ℕ) → Reply
 
 -- what an event comes to where memory is there: a reply alone; a change with its reply and with the names that a new page is inside; or a
@@ -64,16 +64,17 @@ abbrev pub down_by : Option Doubt → Option Reply
 down_by None = None
 down_by (Some doubt) = Some (down doubt.count)
 
--- what every event but a crash is answered before all else, where the shelf is down
+-- What every event but a crash is answered before all else, where the shelf is down or else follows another one's journal. A sweep that has
+-- nothing to do is not asked.
 abbrev pub barred : Book → Option Reply
-barred b = down_by b.down
+barred b = or_else (down_by b.down) (when b.follows following)
 
 -- what a visit is answered that is refused
 abbrev pub refused_by : Option Refusal → Option Reply
 refused_by None = None
 refused_by (Some r) = Some (refusal r)
 
--- why there is no take: the shelf is down, its numbers are worn, or the target is not admitted
+-- why there is no take: the shelf is down or follows, its numbers are worn, or the target is not admitted
 abbrev pub no_take : Book → Destination → Option Reply
 no_take b target =
     or_else (barred b) (or_else (when (b.drawn == 2 ^ 62) worn) (refused_by (refusal_of (admit b target))))

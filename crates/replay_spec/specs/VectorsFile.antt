@@ -1,9 +1,10 @@
 -- Worked rows of files: they are compacted, tell another setup, and are read again.
-use Rattle.std.specs.Prelude.{◌≡◌, ℕ, ◌+◌, ◌*◌, ◌-◌, ◌^◌, List, [], ◌∷◌, ◌++◌, Some, codes, refl}
-use Rattle.script_value.specs.Val.{text}
+use Rattle.std.specs.Prelude.{◌≡◌, ℕ, ◌+◌, ◌*◌, ◌-◌, ◌^◌, false, List, [], ◌∷◌, ◌++◌, Option, Some, None, codes, refl}
+use Rattle.script_value.specs.Val.{Val, text}
 use Rattle.script_nodes.specs.PageNames.Names.{start}
+use Rattle.script_nodes.specs.declared.script.SendKind.TheVariants.{Suspend}
 use Rattle.script_nodes.specs.Setup.{Named}
-use Rattle.replay_spec.specs.Book.{Change, sweeps, Book, reopened}
+use Rattle.replay_spec.specs.Book.{Page, Use, Instance, Opening, Extension, Ending, Change, opens, extends, ends, sweeps, Line, changed, File, Book, reopened}
 use Rattle.replay_spec.specs.Rules.{Rules}
 use Rattle.replay_spec.specs.Compaction.{compaction, file_length}
 use Rattle.replay_spec.specs.Recovery.{made_of_file}
@@ -44,27 +45,88 @@ freed_and_compacted = refl
 abbrev live_on : List (Event × Fate)
 live_on = (sweep 5, plain) ∷ (sweep 6, plain) ∷ get (start name) nothing 0 ++ (sweep 7, plain) ∷ (sweep 8, plain) ∷ get (at 0 0 0) nothing 1
 
+-- a page that this answer to its parent showed, and that waits until this time
+abbrev shown_page : (n deadline : ℕ) → Option ℕ → Val → Page
+shown_page n deadline parent answer =
+    record { number = n; nonce = n; parent = parent; answer = answer; reads = []; inside = []; deadline = deadline }
+
+-- the instance of a start and of this answer to its page, with the time until which each page waits, and the last use of the second one
+abbrev of_two : Named → (deadline later : ℕ) → Val → (last : ℕ) → Instance
+of_two s deadline later answer last = record {
+  number = 0;
+  script = s;
+  cells = [];
+  closed = [];
+  revoked = [];
+  used = record { page = 0; last = 1 } ∷ record { page = 1; last = last } ∷ [];
+  evicted = [];
+  pages = shown_page 0 deadline None nothing ∷ shown_page 1 later (Some 0) answer ∷ [];
+}
+
+-- the record of a start whose page has this deadline, as a line of the file
+abbrev opened_so : (deadline : ℕ) → Line
+opened_so deadline =
+    changed (opens (record { number = 0; nonce = 0; script = 0; effects = []; left = []; kind = Suspend; deadline = deadline; evicted = [] })) 50
+
+-- the record of this answer to the start's page, where the page that it shows has this deadline, as a line of the file
+abbrev extended_so : (deadline : ℕ) → Val → Line
+extended_so deadline answer = changed (extends (record {
+  number = 1;
+  nonce = 1;
+  instance = 0;
+  page = 0;
+  answer = answer;
+  effects = [];
+  left = [];
+  kind = Suspend;
+  deadline = deadline;
+  evicted = [];
+})) 50
+
+-- the record of this tick, as a line of the file
+abbrev swept_to : (tick : ℕ) → Line
+swept_to tick = changed (sweeps tick) 9
+
+-- the book behind `live_on`: an instance with two pages, and a file with four records of ticks and two of pages
 abbrev lived : Book
-lived = (after counted live_on (opened (sized 100) twice)).book
+lived = record {
+  shelf = 0;
+  scripts = twice ∷ [];
+  clock = 8;
+  drawn = 2;
+  logged = 2;
+  length = 266;
+  file = record {
+    scripts = twice ∷ [];
+    head = 100;
+    drawn = None;
+    lines = swept_to 5 ∷ swept_to 6 ∷ opened_so 3606 ∷ swept_to 7 ∷ swept_to 8 ∷ extended_so 3608 nothing ∷ [];
+  };
+  out = [];
+  down = None;
+  follows = false;
+  instances = of_two twice 3606 3608 nothing 1 ∷ [];
+}
+
+-- the events of `live_on` make this book
+pub lives_so : (after counted live_on (opened (sized 100) twice)).book ≡ lived
+unfolding step
+lives_so = refl
 
 -- the file before a compaction has its first record, four records of ticks and two of pages
 pub length_before : lived.length ≡ 100 + 4 * 14 + 2 * 55
-unfolding step
 length_before = refl
 
 -- the compacted file has its first record, the next number, two ticks and both pages
 pub length_behind : file_length (compaction lived) ≡ 100 + 14 + 2 * 14 + 2 * 55
-unfolding step
 length_behind = refl
 
 -- a file makes the book that it was written from, as after a crash
 pub file_makes_the_book : (made_of_file 0 lived.file).book ≡ reopened lived
-unfolding step
 file_makes_the_book = refl
 
 -- the compacted file makes the same book, with its own length
 pub compaction_makes_the_book : (made_of_file 0 (compaction lived)).book ≡ record (reopened lived) { length = 252; file = compaction lived }
-unfolding step
 compaction_makes_the_book = refl
 
 -- a compaction that is in doubt until a crash with this fate
@@ -108,26 +170,47 @@ pub edited_answers :
 unfolding step
 edited_answers = refl
 
+-- the book behind `edited`: an instance with two pages, and a file with one record of the changed setup
 abbrev behind_edits : Book
-behind_edits = (after counted edited (opened (sized 100) hotel)).book
+behind_edits = record {
+  shelf = 0;
+  scripts = renewed ∷ [];
+  clock = 0;
+  drawn = 4;
+  logged = 4;
+  length = 310;
+  file = record {
+    scripts = hotel ∷ [];
+    head = 100;
+    drawn = None;
+    lines =
+        opened_so 3600 ∷ extended_so 3600 (text (codes "A")) ∷ Line.renewed (renewed ∷ []) 40
+        ∷ changed (ends (record { number = 3; instance = 0; page = 1; answer = nothing; effects = []; left = [] })) 50 ∷ [];
+  };
+  out = [];
+  down = None;
+  follows = false;
+  instances = of_two hotel 3600 3600 (text (codes "A")) 3 ∷ [];
+}
+
+-- the events of `edited` make this book
+pub edited_so : (after counted edited (opened (sized 100) hotel)).book ≡ behind_edits
+unfolding step
+edited_so = refl
 
 -- a file with another setup has one record more, for both times that it was told
 pub edited_length : behind_edits.length ≡ 100 + 3 * 55 + 45
-unfolding step
 edited_length = refl
 
 -- a file with another setup makes the book that it was written from, as after a crash
 pub edited_file : (made_of_file 0 behind_edits.file).book ≡ reopened behind_edits
-unfolding step
 edited_file = refl
 
 -- the compacted file with another setup makes the same book, where each instance goes on with its own script
 pub edited_compaction :
     (made_of_file 0 (compaction behind_edits)).book ≡ record (reopened behind_edits) { length = 324; file = compaction behind_edits }
-unfolding step
 edited_compaction = refl
 
 -- a file that is compacted again is the same
 pub twice_compacted : compaction (record behind_edits { file = compaction behind_edits }) ≡ compaction behind_edits
-unfolding step
 twice_compacted = refl

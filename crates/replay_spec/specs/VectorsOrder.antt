@@ -1,5 +1,5 @@
 -- Which refusal is told where two hold at once, and what targets name nothing.
-use Rattle.std.specs.Prelude.{◌≡◌, ℕ, ◌+◌, ◌-◌, ◌^◌, List, [], ◌∷◌, ◌++◌, pos, Option, Some, None, codes, refl}
+use Rattle.std.specs.Prelude.{◌≡◌, ℕ, ◌+◌, ◌-◌, ◌^◌, List, [], ◌∷◌, ◌++◌, pos, true, false, Option, Some, None, codes, refl}
 use Rattle.std.specs.Fmt.{digits}
 use Rattle.script_value.specs.Val.{Val, number, text, symbol}
 use Rattle.script_value.specs.declared.outcome.Op.TheVariants as op
@@ -14,7 +14,7 @@ use Rattle.script_nodes.specs.Setup.{Named}
 use Rattle.replay_spec.specs.Book.{Page, Eviction, Instance, sweeps, landing, Doubt, Book}
 use Rattle.replay_spec.specs.Rules.{Rules, first_file}
 use Rattle.replay_spec.specs.Next.{url_of}
-use Rattle.replay_spec.specs.Step.{Event, take, sweep, Fate, plain, no_memory, disk_fault, Reply, taken, shown, ended, refusal, fault, shelf_full, down, oversize, journal_full, worn, memory, swept, step}
+use Rattle.replay_spec.specs.Step.{Event, take, sweep, compact, crash, Fate, plain, no_memory, disk_fault, lost, Reply, taken, shown, ended, refusal, fault, shelf_full, down, oversize, journal_full, following, worn, memory, swept, live, step}
 use Rattle.replay_spec.specs.Runs.{Shelf, empty_shelf, after, answers_to}
 use Rattle.replay_spec.specs.Samples.{name, script, journal, rules, at, takes, publishing, nothing, link}
 
@@ -57,7 +57,7 @@ old s revoked closed = record {
 
 -- a book of these instances, at time 5, with one number out
 abbrev book : List Instance → Book
-book is = record { shelf = 0; scripts = one_page ∷ []; clock = 5; drawn = 2; logged = 1; length = 100; file = first_file 100 (one_page ∷ []); out = 1 ∷ []; down = None; instances = is }
+book is = record { shelf = 0; scripts = one_page ∷ []; clock = 5; drawn = 2; logged = 1; length = 100; file = first_file 100 (one_page ∷ []); out = 1 ∷ []; down = None; follows = false; instances = is }
 
 -- what an event is answered, by these rules, on this book and with this fate
 abbrev told : Rules → Book → Event → Fate → Reply
@@ -174,6 +174,50 @@ pub sweep_journal_before_disk : told rules (record (book []) { length = 2 ^ 30 }
 unfolding step
 sweep_journal_before_disk = refl
 
+-- a shelf that follows another one's journal, which is full, and which has no number left
+abbrev follower : Book
+follower = record (book []) { drawn = 2 ^ 62; length = 2 ^ 30; follows = true }
+
+-- a take is told that the shelf is down before it is told that the shelf follows
+pub down_before_following : told rules (record follower { down = Some doubt }) (take (at 0 0 0) nothing) plain ≡ down 7
+unfolding step
+down_before_following = refl
+
+-- where there is no memory a take is told so before it is told that the shelf follows
+pub memory_before_following : told rules follower (take (start name) nothing) no_memory ≡ memory
+unfolding step
+memory_before_following = refl
+
+-- a take is told that the shelf follows before it is told that no number is left, and nothing changes
+pub following_before_worn : step rules follower 3 (take (at 0 0 0) nothing) plain ≡ (following, follower)
+unfolding step
+following_before_worn = refl
+
+-- a publish is told that the shelf follows before its target is looked at; it spends its number all the same
+pub following_before_target : step rules follower 3 answering (disk_fault 8) ≡ (following, record follower { out = [] })
+unfolding step
+following_before_target = refl
+
+-- a sweep at a tick that the clock has reached already is answered as on any shelf
+pub clock_before_following : told rules follower (sweep 5) plain ≡ swept 0
+unfolding step
+clock_before_following = refl
+
+-- a later sweep is told that the shelf follows before the journal is too long or the disk fails
+pub following_before_journal : step rules follower 3 (sweep 6) (disk_fault 8) ≡ (following, follower)
+unfolding step
+following_before_journal = refl
+
+-- a compaction is told that the shelf follows, and nothing changes
+pub following_before_compaction : step rules follower 3 compact plain ≡ (following, follower)
+unfolding step
+following_before_compaction = refl
+
+-- a shelf that follows, opened again with another setup, goes on with its own and follows
+pub follows_on : step rules follower 3 (crash []) lost ≡ (live 0, record follower { drawn = 1; out = [] })
+unfolding step
+follows_on = refl
+
 -- two scripts on shelf 7
 abbrev two_pages : Named
 two_pages = record {
@@ -255,6 +299,7 @@ visited = record {
   file = first_file 0 two_scripts;
   out = [];
   down = None;
+  follows = false;
   instances = record {
     number = 0;
     script = two_pages;

@@ -2,7 +2,7 @@
 #![tactic(auto)]
 
 ghost use Rattle.replay_spec.specs.Laws.{EffectsHoldRunSame, AHeldRunIsNext, EffectsAreOnCells, RecordedIsPresent, MoreFuelIsTheSame, NamesFollow, OrderlyBooksStay, SoundBooksStay, ReachedBooksAreSound, EachHasItsCells, EachChainReplays, PagesStay, RefusedIsUnchanged, AStartOpensOrLeaves, ClosedIsClosed, NamesStayDifferent, ShownIsOpen, AForwardRevokes, NoNumberTwice, TicketsAreOut, ShadowsRise};
-ghost use Rattle.replay_spec.specs.Promises.{TheClockNeverFalls, AShownPageIsAdmitted, NothingElseCloses, NothingElseFrees, AVisitIsAnswered};
+ghost use Rattle.replay_spec.specs.Promises.{TheClockNeverFalls, AShownPageIsAdmitted, NothingElseCloses, NothingElseFrees, AVisitIsAnswered, AFollowerAnswersNoVisit, NoOtherFollows};
 ghost use Rattle.replay_spec.specs.Evicting.{NothingElseEvicts, AtMostPages, TheLeastUsedGo, UsesRise};
 ghost use Rattle.replay_spec.specs.Remade.{EffectsHold, JournalIsLast, CellsStayNamed, DecisionsAreRemade, EventsAreFiled, FilesSuffice, RecordsMakeFiledBooks, CompactionKeepsTheBook, CompactedTwice, RecordsMakeOrderlyBooks};
 ghost use Rattle.replay_spec.specs.Marks.{MarksAreUses};
@@ -106,9 +106,20 @@ pub fn tickets_are_out()
 // Of what a visit does and what it is answered.
 
 /// A visit that is admitted at its take and again at its publish, and meets no limit and no fault of the disk, is
-/// answered as its script stops, or for want of memory.
+/// answered as its script stops, or for want of memory: on a shelf that does not follow another one's journal.
 pub fn a_visit_is_answered()
     ensures { AVisitIsAnswered }
+{}
+
+/// A shelf that follows another one's journal answers no visit, no sweep above its clock and no compaction, and changes by none of them
+/// but that a publish spends its number.
+pub fn a_follower_answers_no_visit()
+    ensures { AFollowerAnswersNoVisit }
+{}
+
+/// No event makes a shelf follow another one's journal, and no other shelf answers that it follows one.
+pub fn no_other_follows()
+    ensures { NoOtherFollows }
 {}
 
 /// A take that is not answered with a ticket changes nothing, a publish that neither shows a page nor ends only spends
