@@ -18,7 +18,7 @@ use Rattle.value_bytes.specs.Laws.{AreBytes, Spells, IsExact}
 use Rattle.value_bytes.proofs.Numbers.{bind_some, seen_some, rest_are_bytes, u32_exact, u64_exact, i64_exact, string_exact}
 use Rattle.value_bytes.proofs.Trees.{value_exact, chosen}
 use Rattle.journal_records.specs.Fields.{name_bytes, NameFits, effect_bytes, EffectFits, send_byte, Origin, start, answered, nothing, origin_bytes, OriginFits, numbers_end, deadlines_end}
-use Rattle.journal_records.specs.Records.{Record, begins, changes, renews, draws, page_bytes, PageFits, ending_bytes, EndingFits, finish_bytes, FinishFits, change_bytes, ChangeFits, body_of, IsInGrammar}
+use Rattle.journal_records.specs.Records.{Record, begins, changes, renews, draws, follows, promotes, page_bytes, PageFits, ending_bytes, EndingFits, finish_bytes, FinishFits, change_bytes, ChangeFits, body_of, IsInGrammar}
 use Rattle.journal_records.specs.Reading.{name_from, read_name, read_effect_of, read_effect, send_of, read_send, is_nothing, read_nothing, start_from, answered_from, read_origin_of, read_origin, page_from, read_page, ending_from, read_ending, finish_from, read_finish, begins_from, read_begins, page_change, change_from, read_kind, read_front, alone, read_record}
 use Rattle.journal_records.specs.Laws.{IsBodyOf}
 use Rattle.journal_records.proofs.Codec.{Codec, both, listed, IsSeen, seen_exact, byte_codec, below_codec}
@@ -327,6 +327,8 @@ front_back : (r : Record) (rest : List ℕ) → IsInGrammar r → read_front (bo
 front_back (begins shelf scripts) rest fits = ap (seen_as begins_from) (begins_parts.law.back (shelf, scripts) rest fits)
 front_back (renews scripts) rest fits = ap (seen_as (λ s. renews s)) (renews_parts.law.back scripts rest fits)
 front_back (draws n) rest fits = ap (seen_as (λ n. draws n)) (drawn_codec.law.back n rest fits)
+front_back follows rest fits = refl
+front_back promotes rest fits = refl
 front_back (changes (opens o) None) rest fits = absurd fits
 front_back (changes (opens o) (Some s)) rest fits = ap (seen_as (λ p. changes (page_change p) (Some p.state))) (page_exact.back _ rest fits)
 front_back (changes (extends e) None) rest fits = absurd fits
@@ -391,6 +393,16 @@ draws_spells kind bytes r rest small k h =
     let x = drawn_codec.law.exact bytes s.0 rest small s.1 in
     subst (λ q. Body (kind ∷ bytes) q rest) s.2 (record { whole = λ i. k i ∷ x.whole i; fit = x.fit })
 
+-- a record without fields
+bare_spells : (start_byte : ℕ) (bare : Record) → body_of bare ≡ start_byte ∷ [] → IsInGrammar bare
+    → (kind : ℕ) (bytes : List ℕ) (r : Record) (rest : List ℕ) → kind ≡ start_byte → ◌≡◌ {A = Option (Record × List ℕ)} (Some (bare, bytes)) (Some (r, rest)) → Body (kind ∷ bytes) r rest
+bare_spells start_byte bare spelled fits kind bytes r rest k h =
+    let parts = some_pair_parts bare r bytes rest h in
+    subst (λ q. Body (kind ∷ bytes) q rest) parts.0 (record {
+      whole = (λ i. k i ∷ parts.1 i) ∙ ap (λ (b : List ℕ). b ++ rest) (sym spelled);
+      fit = fits;
+    })
+
 pub kind_spells : (kind : ℕ) (bytes : List ℕ) (r : Record) (rest : List ℕ) → AreBytes bytes → read_kind kind bytes ≡ Some (r, rest) → Body (kind ∷ bytes) r rest
 kind_spells kind bytes r rest small h =
     elim (chosen (kind == 1) _ _ _ h) [
@@ -407,7 +419,13 @@ kind_spells kind bytes r rest small h =
                 | inl t ↦ renews_spells kind bytes r rest small (grind (arith, nat_tests, t.0)) t.1
                 | inr n ↦ elim (chosen (kind == 7) _ _ _ n.1) [
                   | inl t ↦ draws_spells kind bytes r rest small (grind (arith, nat_tests, t.0)) t.1
-                  | inr n ↦ absurd (none-some (r, rest) n.1)
+                  | inr n ↦ elim (chosen (kind == 8) _ _ _ n.1) [
+                    | inl t ↦ bare_spells 8 follows refl tt kind bytes r rest (grind (arith, nat_tests, t.0)) t.1
+                    | inr n ↦ elim (chosen (kind == 9) _ _ _ n.1) [
+                      | inl t ↦ bare_spells 9 promotes refl tt kind bytes r rest (grind (arith, nat_tests, t.0)) t.1
+                      | inr n ↦ absurd (none-some (r, rest) n.1)
+                    ]
+                  ]
                 ]
               ]
             ]

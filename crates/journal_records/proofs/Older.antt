@@ -1,5 +1,5 @@
 -- What is read in any format is such as is written.
-use Rattle.std.proofs.Common.{◌≡◌, ℕ, ◌<◌, ◌^◌, ◌==◌, Bool, true, false, List, [], ◌∷◌, length, Option, Some, None, nat_lt, if◌then◌else◌, refl, sym, ap, subst, ◌∙◌, inl, inr, lit≤}
+use Rattle.std.proofs.Common.{◌≡◌, ℕ, ◌<◌, ◌^◌, ◌==◌, Bool, true, false, List, [], ◌∷◌, length, Some, None, nat_lt, if◌then◌else◌, refl, sym, ap, subst, ◌∙◌, inl, inr, lit≤}
 use Rattle.std.proofs.lemmas.List.{append-nil}
 use Rattle.std.proofs.lemmas.Option.{some_pair_parts, none-some}
 use Rattle.wire_bytes.specs.Reading.{read_u8, read_u64, read_bytes}

@@ -1,6 +1,6 @@
 -- How bodies are read in each of the formats 1 to 6. Format 6 is the one that is written; the older ones are only read.
--- A page tells its state from format 2 on, and the pages that went for it from format 6 on. Another setup is told from format 4 on, and
--- numbers that were drawn before a compaction from format 5 on.
+-- A page tells its state from format 2 on, and the pages that went for it from format 6 on. Another setup is told from format 4 on,
+-- numbers that were drawn before a compaction from format 5 on, and whether the shelf follows another one's journal from format 6 on.
 use Rattle.std.specs.Prelude.{◌≡◌, ℕ, ◌==◌, ◌&&◌, Bool, true, List, [], ◌∷◌, ◌++◌, Option, Some, None, nat_lt, if◌then◌else◌, refl}
 use Rattle.script_nodes.specs.declared.script.SendKind.TheVariants.{Suspend}
 use Rattle.value_bytes.specs.Reading.{Reader, seen_as, read_list, read_within}
@@ -9,8 +9,8 @@ use Rattle.replay_spec.specs.Book.{opens}
 use Rattle.script_value.specs.Pieces.{◌>>=◌}
 use Rattle.wire_bytes.specs.Reading.{read_u8, read_u64, read_bytes}
 use Rattle.journal_records.specs.Fields.{start, origin_bytes}
-use Rattle.journal_records.specs.Records.{Page, Record, changes, renews, draws, body_of, effects_bytes, names_bytes}
-use Rattle.journal_records.specs.Reading.{◌then◌, read_number, read_deadline, read_origin, read_effects, read_names, read_send, page_from, page_change, read_kind, alone, read_record}
+use Rattle.journal_records.specs.Records.{Page, Record, changes, renews, draws, follows, promotes, body_of, effects_bytes, names_bytes}
+use Rattle.journal_records.specs.Reading.{◌then◌, read_number, read_deadline, read_origin, read_effects, read_names, read_send, page_from, page_change, read_kind, alone}
 
 -- the number of the format that is written
 abbrev pub newest_format : ℕ
@@ -34,9 +34,15 @@ read_page_in format bytes =
 abbrev pub read_shown : (format : ℕ) → Reader Record
 read_shown format rest = seen_as (λ p. changes (page_change p) (Some p.state)) (read_page_in format rest)
 
+-- whether this is the kind of a record that tells whether the shelf follows another one's journal
+abbrev pub is_role_kind : ℕ → Bool
+is_role_kind kind = if kind == 8 then true else kind == 9
+
 -- whether this format has no records of this kind, though the newest one has
 abbrev pub lacks : (format kind : ℕ) → Bool
-lacks format kind = if nat_lt format 4 && (kind == 6) then true else nat_lt format 5 && (kind == 7)
+lacks format kind =
+    if nat_lt format 4 && (kind == 6) then true else
+    (if nat_lt format 5 && (kind == 7) then true else nat_lt format 6 && is_role_kind kind)
 
 -- whether this is the kind of a page, and the format tells less of one than the newest does
 abbrev pub is_older_page : (format kind : ℕ) → Bool
@@ -94,3 +100,28 @@ no_texts_in_3 = refl
 no_drawn_in_4 : read_record_in 4 (body_of (draws 3)) ≡ None
 unfolding read_record_in
 no_drawn_in_4 = refl
+
+-- in format 5 numbers that were drawn are a record
+drawn_in_5 : read_record_in 5 (body_of (draws 3)) ≡ Some (draws 3)
+unfolding read_record_in
+drawn_in_5 = refl
+
+-- that a shelf follows another one's journal is no record of format 5
+no_follow_in_5 : read_record_in 5 (body_of follows) ≡ None
+unfolding read_record_in
+no_follow_in_5 = refl
+
+-- that a shelf follows no longer is no record of format 5
+no_promoted_in_5 : read_record_in 5 (body_of promotes) ≡ None
+unfolding read_record_in
+no_promoted_in_5 = refl
+
+-- that a shelf follows another one's journal is a record of format 6
+follow_in_6 : read_record_in 6 (body_of follows) ≡ Some follows
+unfolding read_record_in
+follow_in_6 = refl
+
+-- that a shelf follows no longer is a record of format 6
+promoted_in_6 : read_record_in 6 (body_of promotes) ≡ Some promotes
+unfolding read_record_in
+promoted_in_6 = refl

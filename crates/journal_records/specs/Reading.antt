@@ -10,7 +10,7 @@ use Rattle.replay_spec.specs.Book.{Ending, Finish, Change, opens, extends, ends,
 use Rattle.wire_bytes.specs.Reading.{read_u8, read_u32, read_u64, read_bytes}
 use Rattle.value_bytes.specs.Reading.{Reader, seen_as, read_list, read_i64, read_value}
 use Rattle.journal_records.specs.Fields.{Origin, start, answered, numbers_end, deadlines_end}
-use Rattle.journal_records.specs.Records.{Record, begins, changes, renews, draws, Page}
+use Rattle.journal_records.specs.Records.{Record, begins, changes, renews, draws, follows, promotes, Page}
 
 -- reads one thing, and another behind it
 infixr 10 ◌then◌
@@ -224,7 +224,9 @@ read_kind kind rest =
     (if kind == 4 then seen_as (λ f. changes (finishes f) None) (read_finish rest) else
     (if kind == 5 then seen_as (λ n. changes (sweeps n) None) (read_number rest) else
     (if kind == 6 then seen_as (λ s. renews s) (read_list read_script rest) else
-    (if kind == 7 then seen_as (λ n. draws n) (read_drawn rest) else None))))))
+    (if kind == 7 then seen_as (λ n. draws n) (read_drawn rest) else
+    (if kind == 8 then Some (follows, rest) else
+    (if kind == 9 then Some (promotes, rest) else None))))))))
 
 -- the record at the front
 abbrev pub read_front : Reader Record

@@ -12,13 +12,15 @@ use Rattle.value_bytes.specs.Spelling.{value_bytes, list_bytes, FitsList}
 use Rattle.journal_records.specs.Fields.{numbers_end, deadlines_end, name_bytes, NameFits, effect_bytes, EffectFits, send_byte, script_bytes, ScriptFits, Origin, start, answered, origin_bytes, OriginFits, AnswerFits, is_shallow, is_shallow_effect, IsTyped, IsTypedEffect}
 
 -- What a record says: a journal of this shelf begins, with these names and texts of its scripts; the book changes, by a new page with
--- the bytes of its state, or without one; these are the names and texts of the scripts from here on; or the file was compacted, and this
--- number is one more than the greatest in a record before.
+-- the bytes of its state, or without one; these are the names and texts of the scripts from here on; the file was compacted, and this
+-- number is one more than the greatest in a record before; the shelf follows another one's journal; or it follows no longer.
 pub data Record : Type 0 where
   begins : (shelf : ℕ) (scripts : List (List ℕ × List ℕ)) → Record
   changes : Change → (state : Option (List ℕ)) → Record
   renews : (scripts : List (List ℕ × List ℕ)) → Record
   draws : (number : ℕ) → Record
+  follows : Record
+  promotes : Record
 
 -- what the record of a page that was shown says, a start's or an answer's
 pub record Page : Type 0 where
@@ -139,12 +141,15 @@ ChangeFits (finishes f) (Some state) = ⊥
 ChangeFits (sweeps tick) None = tick < numbers_end
 ChangeFits (sweeps tick) (Some state) = ⊥
 
--- The body of a record: a byte for its kind, and its fields. The first one has the number of the shelf and the scripts.
+-- The body of a record: a byte for its kind, and its fields. The first one has the number of the shelf and the scripts; the last two
+-- have no fields.
 abbrev pub body_of : Record → List ℕ
 body_of (begins shelf scripts) = 1 ∷ (u32_bytes shelf ++ list_bytes script_bytes scripts)
 body_of (changes c state) = change_bytes c (bytes_in state)
 body_of (renews scripts) = 6 ∷ list_bytes script_bytes scripts
 body_of (draws number) = 7 ∷ u64_bytes number
+body_of follows = 8 ∷ []
+body_of promotes = 9 ∷ []
 
 -- a record has a body: each field fits
 abbrev pub IsInGrammar : Record → Type 0
@@ -152,6 +157,8 @@ IsInGrammar (begins shelf scripts) = (shelf < 2 ^ 32) × FitsList ScriptFits scr
 IsInGrammar (changes c state) = ChangeFits c state
 IsInGrammar (renews scripts) = FitsList ScriptFits scripts
 IsInGrammar (draws number) = number < numbers_end + 1
+IsInGrammar follows = ⊤
+IsInGrammar promotes = ⊤
 
 -- the length of a record's body, also where a part is too long for its count; one above 2^63 counts as 2^63
 abbrev pub body_length : Record → ℕ
@@ -189,6 +196,8 @@ abbrev pub IfChanges : Record → (Change → Type 0) → Type 0
 IfChanges (begins shelf scripts) P = ⊤
 IfChanges (renews scripts) P = ⊤
 IfChanges (draws number) P = ⊤
+IfChanges follows P = ⊤
+IfChanges promotes P = ⊤
 IfChanges (changes c state) P = P c
 
 -- a fact of the change that a record tells of, and of the bytes of its state
@@ -196,6 +205,8 @@ abbrev pub IfChangesWith : Record → (Change → Option (List ℕ) → Type 0) 
 IfChangesWith (begins shelf scripts) P = ⊤
 IfChangesWith (renews scripts) P = ⊤
 IfChangesWith (draws number) P = ⊤
+IfChangesWith follows P = ⊤
+IfChangesWith promotes P = ⊤
 IfChangesWith (changes c state) P = P c state
 
 -- this is the length of the record, where it tells of a change

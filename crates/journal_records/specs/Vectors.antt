@@ -8,7 +8,7 @@ use Rattle.script_nodes.specs.Setup.{Script}
 use Rattle.replay_spec.specs.Book.{Change, opens, extends, ends, finishes, sweeps}
 use Rattle.value_bytes.specs.Reading.{read_within}
 use Rattle.journal_records.specs.Fields.{name_bytes}
-use Rattle.journal_records.specs.Records.{Record, begins, changes, renews, draws, body_of, record_length, begun_length}
+use Rattle.journal_records.specs.Records.{Record, begins, changes, renews, draws, follows, promotes, body_of, record_length, begun_length}
 use Rattle.journal_records.specs.Reading.{read_record}
 
 -- the fronts of these bytes, but for the whole
@@ -235,9 +235,38 @@ kind_6 : read_record (6 ∷ 0 ∷ 0 ∷ 0 ∷ 0 ∷ 0 ∷ 0 ∷ 0 ∷ 0 ∷ []) 
 unfolding read_record
 kind_6 = refl
 
-kind_8 : read_record (8 ∷ []) ≡ None
+-- there is no record of kind 10
+kind_10 : read_record (10 ∷ []) ≡ None
 unfolding read_record
-kind_8 = refl
+kind_10 = refl
+
+-- the record that a shelf follows another one's journal is written as this byte
+a_follow : body_of follows ≡ 8 ∷ []
+a_follow = refl
+
+-- the byte 8 is read as the record that a shelf follows another one's journal
+a_follow_is_read : read_record (8 ∷ []) ≡ Some follows
+unfolding read_record
+a_follow_is_read = refl
+
+-- the byte 8 and one more are no record
+long_follow : read_record (8 ∷ 0 ∷ []) ≡ None
+unfolding read_record
+long_follow = refl
+
+-- the record that a shelf follows no longer is written as this byte
+a_promoted : body_of promotes ≡ 9 ∷ []
+a_promoted = refl
+
+-- the byte 9 is read as the record that a shelf follows no longer
+a_promoted_is_read : read_record (9 ∷ []) ≡ Some promotes
+unfolding read_record
+a_promoted_is_read = refl
+
+-- the byte 9 and one more are no record
+long_promoted : read_record (9 ∷ 0 ∷ []) ≡ None
+unfolding read_record
+long_promoted = refl
 
 -- the body of the record that numbers up to 2 were drawn before a compaction
 abbrev drawn_body : List ℕ

@@ -12,7 +12,7 @@ use Rattle.instance_cells.specs.Views.{effect_of}
 use Rattle.replay_spec.specs.Book.{Change, Ending, Finish, ends, finishes, sweeps}
 use Rattle.journal_records.specs.Fields as spec
 use Rattle.value_bytes.specs.Spelling.{list_bytes}
-use Rattle.journal_records.specs.Records.{Record, begins, changes, renews, draws, Page, IsInGrammar, begin_of, renewal_of, bytes_in, page_bytes, ending_bytes, finish_bytes}
+use Rattle.journal_records.specs.Records.{Record, begins, changes, renews, draws, follows, promotes, Page, IsInGrammar, begin_of, renewal_of, bytes_in, page_bytes, ending_bytes, finish_bytes}
 use Rattle.journal_records.specs.Reading.{change_from}
 use Rattle.journal_records.specs.Old.{read_record_in}
 use Rattle.journal_records.specs.Laws.{IsBodyOf}
@@ -101,6 +101,8 @@ logged_of (logged.Finish f) = changes (finishes (finish_of f)) None
 logged_of (logged.Sweep clock) = changes (sweeps clock) None
 logged_of (logged.Texts scripts) = renews (texts_in scripts)
 logged_of (logged.Drawn number) = draws number
+logged_of logged.Follow = follows
+logged_of logged.Promoted = promotes
 
 -- the bytes of a state that are lent
 abbrev pub lent_state : Option (Bor (List ℕ)) → Option (List ℕ)
@@ -119,6 +121,8 @@ recorded_of (recorded.Finish f) = changes (finishes (finish_of f.now)) None
 recorded_of (recorded.Sweep clock) = changes (sweeps clock) None
 recorded_of (recorded.Texts setup) = renewal_of (scripts_of setup.now)
 recorded_of (recorded.Drawn number) = draws number
+recorded_of recorded.Follow = follows
+recorded_of recorded.Promoted = promotes
 
 -- the record that bytes are the body of in this format
 abbrev pub ReadsRecord : (format : ℕ) → List ℕ → Option Logged → Type 0

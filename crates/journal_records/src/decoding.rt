@@ -6,7 +6,8 @@ ghost use Rattle.value_bytes.specs.Reading.{read_list};
 ghost use Rattle.value_bytes.specs.Views.{Reads, GrowsWithin};
 ghost use Rattle.journal_records.specs.Reading as spec;
 ghost use Rattle.journal_records.specs.Reading.{is_nothing, read_below};
-ghost use Rattle.journal_records.specs.Old.{newest_format, lacks, is_older_page, read_gone, read_state, read_shown, read_kind_in, read_front_in};
+ghost use Rattle.journal_records.specs.Old.{newest_format, is_role_kind, lacks, is_older_page, read_gone, read_state, read_shown, read_kind_in, read_front_in};
+ghost use Rattle.journal_records.specs.Roles.{is_role};
 ghost use Rattle.journal_records.specs.Views.{script_of, effects_in, origin_of, ending_of, finish_of, logged_of, texts_in, ReadsRecord, FindsFitting, FindsItsBody};
 
 use crate::grammar::{DEADLINES_END, NUMBERS_END};
@@ -25,7 +26,8 @@ const NEWEST: u8 = 6;
 /// The record whose body this is in a journal of this format; none where it is the body of no record of the format. No count in it
 /// makes anything grow beyond the bytes behind it.
 ///
-/// A page of format 1 has no bytes of its state, and the newest format alone tells the pages that went for one.
+/// A page of format 1 has no bytes of its state, and the newest format alone tells the pages that went for one, and whether the shelf
+/// follows another one's journal.
 pub fn decode(alloc: Global, format: u8, body: &[u8]) -> Result<Option<Logged>, AllocError>
     ensures read { IfOk result (ReadsRecord format body.now) }
     ensures fits { IfOk result FindsFitting }
@@ -60,7 +62,17 @@ fn lacks(format: u8, kind: u8) -> bool
     if format < 4 && kind == 6 {
         return true;
     }
-    format < 5 && kind == 7
+    if format < 5 && kind == 7 {
+        return true;
+    }
+    format < NEWEST && is_role_kind(kind)
+}
+
+// Whether this is the kind of a record that tells whether the shelf follows another one's journal.
+fn is_role_kind(kind: u8) -> bool
+    ensures { result ≡ is_role_kind kind }
+{
+    kind == 8 || kind == 9
 }
 
 // Whether this is the kind of a page, and the format tells less of one than the newest does.
@@ -68,6 +80,16 @@ fn is_older_page(format: u8, kind: u8) -> bool
     ensures { result ≡ is_older_page format kind }
 {
     format < NEWEST && kind == 2
+}
+
+/// Whether this is the body of a record that tells whether the shelf follows another one's journal. It takes no memory.
+pub fn is_role(body: &[u8]) -> bool
+    ensures { result ≡ is_role body.now }
+{
+    match body {
+        [kind] => is_role_kind(*kind),
+        _ => false,
+    }
 }
 
 // A record of this kind in a format.
@@ -104,6 +126,8 @@ fn of_kind(alloc: Global, kind: u8, cursor: &mut Cursor<'_>) -> Result<Logged, U
             let number = drawn(cursor)?;
             Ok(Logged::Drawn { number })
         }
+        8 => Ok(Logged::Follow),
+        9 => Ok(Logged::Promoted),
         _ => Err(Unread::Misspelled),
     }
 }

@@ -46,6 +46,8 @@ pub fn body_length(record: &Recorded<'_>) -> u64
         Recorded::Sweep { .. } => 9,
         Recorded::Texts { setup } => plus(1, scripts_length(setup)),
         Recorded::Drawn { .. } => 9,
+        Recorded::Follow => 1,
+        Recorded::Promoted => 1,
     }
 }
 
@@ -74,6 +76,8 @@ fn has_its_state(record: &Recorded<'_>) -> bool
         Recorded::Sweep { .. } => true,
         Recorded::Texts { .. } => true,
         Recorded::Drawn { .. } => true,
+        Recorded::Follow => true,
+        Recorded::Promoted => true,
     }
 }
 
@@ -102,6 +106,8 @@ fn write_record(writer: &mut Writer, record: &Recorded<'_>) -> Result<(), AllocE
             writer.u8(7)?;
             writer.u64(*number)
         }
+        Recorded::Follow => writer.u8(8),
+        Recorded::Promoted => writer.u8(9),
     }
 }
 

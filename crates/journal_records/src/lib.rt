@@ -8,7 +8,7 @@ mod laws;
 mod nesting;
 mod records;
 
-pub use decoding::decode;
+pub use decoding::{decode, is_role};
 pub use encoding::{body_length, encode, record_length};
 pub use grammar::can_begin;
 pub use laws::records_are_exact;

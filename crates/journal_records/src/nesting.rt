@@ -28,6 +28,8 @@ pub(crate) fn nests_shallow(record: &Recorded<'_>) -> bool
         Recorded::Sweep { .. } => true,
         Recorded::Texts { .. } => true,
         Recorded::Drawn { .. } => true,
+        Recorded::Follow => true,
+        Recorded::Promoted => true,
     }
 }
 

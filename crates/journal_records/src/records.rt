@@ -161,6 +161,10 @@ pub enum Logged {
     Drawn {
         number: u64,
     },
+    /// The shelf of this file follows another one's journal.
+    Follow,
+    /// The shelf of this file follows no longer.
+    Promoted,
 }
 
 /// What a record of a journal says, lent to be written.
@@ -193,4 +197,8 @@ pub enum Recorded<'r> {
     Drawn {
         number: u64,
     },
+    /// The shelf of this file follows another one's journal.
+    Follow,
+    /// The shelf of this file follows no longer.
+    Promoted,
 }
