@@ -35,7 +35,7 @@ use Rattle.journal_spec.proofs.Owned.{before_binds, instance_there}
 use Rattle.journal_spec.proofs.Remaking.{Agrees, remade_agrees}
 use Rattle.journal_spec.proofs.Files.{own_is_state}
 use Rattle.journal_spec.proofs.Anew.{form_told, bytes_fit}
-use Rattle.journal_spec.proofs.Walking.{Step, turns, lands, passes, moved, Onward}
+use Rattle.journal_spec.proofs.Walking.{Step, turns, lands, passes, frees, moved, Onward}
 use Rattle.journal_spec.proofs.Copied.{IsWritten}
 use Rattle.journal_spec.proofs.Staying.{before_rises_stored, new_stored}
 
@@ -91,6 +91,7 @@ pub own_on : AreRecordsExact → (ls : List Instance) (texts : Texts) (body : Li
     → IsOwn m → IsOwn n
 own_on x ls texts body m es n small (turns named scripts read is) g own = absurd (setup_is_none x body named small read)
 own_on x ls texts body m es n small (passes c state read told_so none) g own = (record { setup = own.0.setup; instances = own.0.instances }, own.1)
+own_on x ls texts body m es n small (frees read fed) g own = (record { setup = own.0.setup; instances = own.0.instances }, own.1)
 own_on x ls texts body m es n small (lands c state names read told_so some b stay) g own = (
   record { setup = own.0.setup; instances = whole_by m.book.scripts m.book.instances c names g.instances.apart own.0.setup own.0.instances },
   own_states_on (length body) m c names (own_told m.book c) g own.1 refl (agrees m c names g own some) (lands_again m c names g own some),
@@ -109,6 +110,7 @@ setup_stays x ls texts shelf place (body ∷ bodies) m e small is =
     setup_step : (es : List Entry) (n : Made) → Step 1 ls texts body m es n → n.book.scripts ≡ m.book.scripts
     setup_step es n (turns named scripts read is) = absurd (setup_is_none x body named small.0 read)
     setup_step es n (passes c state read told_so none) = refl
+    setup_step es n (frees read fed) = refl
     setup_step es n (lands c state names read told_so some b stay) = refl
 
 -- ---- how the state is told

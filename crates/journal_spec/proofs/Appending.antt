@@ -22,13 +22,14 @@ abbrev pub IsAppended : Option Doubt → Type 0
 IsAppended None = ⊤
 IsAppended (Some doubt) = IsWork doubt.work
 
--- an event that landed this leaves no other file where it landed nothing, and no compaction in doubt
+-- an event that landed this leaves no other file where it landed nothing, no compaction in doubt, and a shelf that follows if it did
 pub record Appends (b : Book) (o : Option Change) (d : Book) : Type 0 where
   pub still : o ≡ None → (d.file ≡ b.file) × (d.length ≡ b.length)
+  pub role : d.follows ≡ b.follows
   pub doubt : IsAppended b.down → IsAppended d.down
 
 same_book : (b : Book) (o : Option Change) → Appends b o b
-same_book b o = record { still = λ none. (refl, refl); doubt = λ h. h }
+same_book b o = record { still = λ none. (refl, refl); role = refl; doubt = λ h. h }
 
 -- a decision that is no compaction
 abbrev pub IsDecision : Decision → Type 0
@@ -38,20 +39,20 @@ IsDecision (compacts r) = ⊥
 
 carried : (rules : Rules) (b : Book) (d : Decision) → IsDecision d → Appends b (recorded_by d) (carried_out rules b d).1
 carried rules b (replies r) h = same_book b None
-carried rules b (records r c inside) h = record { still = λ none. absurd (let no : ⊥ = cc in no); doubt = λ before. before }
+carried rules b (records r c inside) h = record { still = λ none. absurd (let no : ⊥ = cc in no); role = refl; doubt = λ before. before }
 carried rules b (compacts r) h = absurd h
 
 settled : (rules : Rules) (b : Book) (fate : Fate) (d : Decision) → IsDecision d → Appends b (recorded_under fate d) (settle rules b fate d).1
 settled rules b no_memory d h = same_book b (recorded_under no_memory d)
 settled rules b (disk_fault count) (replies r) h = same_book b None
-settled rules b (disk_fault count) (records r c inside) h = record { still = λ none. (refl, refl); doubt = λ before. tt }
+settled rules b (disk_fault count) (records r c inside) h = record { still = λ none. (refl, refl); role = refl; doubt = λ before. tt }
 settled rules b (disk_fault count) (compacts r) h = absurd h
 settled rules b plain d h = carried rules b d h
 settled rules b lost d h = carried rules b d h
 settled rules b kept d h = carried rules b d h
 
 took_unless : (b : Book) (nonce : ℕ) (o : Option Reply) → Appends b None (take_unless o b nonce).1
-took_unless b nonce None = record { still = λ none. (refl, refl); doubt = λ before. before }
+took_unless b nonce None = record { still = λ none. (refl, refl); role = refl; doubt = λ before. before }
 took_unless b nonce (Some r) = same_book b None
 
 published_appends : (rules : Rules) (b : Book) (t : Ticket) (d : Decision) → Comes rules b t d → IsDecision d
@@ -74,14 +75,14 @@ swept_appends rules b tick fate false =
 reopens : (journal : Option Journal) (scripts : List Named) (b : Book) → scripts ≡ b.scripts → Appends b None (reopened_with journal scripts b)
 reopens journal scripts b same =
     let is : reopened_with journal scripts b ≡ reopened b = ap (λ (ss : List Named). reopened_with journal ss b) same ∙ reopened_same journal b in
-    record { still = λ none. (ap (λ (d : Book). d.file) is, ap (λ (d : Book). d.length) is); doubt = λ before. tt }
+    record { still = λ none. (ap (λ (d : Book). d.file) is, ap (λ (d : Book). d.length) is); role = refl; doubt = λ before. tt }
 
 crashed : (rules : Rules) (b : Book) (scripts : List Named) (fate : Fate) (o : Option Doubt) → scripts ≡ b.scripts → IsAppended o
     → Appends b (kept_under fate o) (reopened_with rules.journal scripts (recovered rules fate o b))
 crashed rules b scripts kept (Some doubt) same h = by_work doubt.work h
   where
     by_work : (w : Work) → IsWork w → Appends b (change_in w) (reopened_with rules.journal scripts (worked rules w b))
-    by_work (landing c inside) h = record { still = λ none. absurd (let no : ⊥ = cc in no); doubt = λ before. tt }
+    by_work (landing c inside) h = record { still = λ none. absurd (let no : ⊥ = cc in no); role = refl; doubt = λ before. tt }
     by_work compacting h = absurd h
 crashed rules b scripts kept None same h = reopens rules.journal scripts b same
 crashed rules b scripts plain o same h = reopens rules.journal scripts b same
@@ -100,7 +101,7 @@ event_appends rules b nonce (take target answer) kept h same doubt = took_unless
 event_appends rules b nonce (publish t) fate h same doubt =
     let d = publish_comes rules b t in
     let one = settled rules (spend t.number b) (fate_of rules.journal fate) d (published_appends rules b t d (published_comes rules b t)) in
-    record { still = one.still; doubt = one.doubt }
+    record { still = one.still; role = one.role; doubt = one.doubt }
 event_appends rules b nonce (sweep tick) fate h same doubt = swept_appends rules b tick (fate_of rules.journal fate) (nat_le tick b.clock)
 event_appends rules b nonce compact fate h same doubt = absurd h
 event_appends rules b nonce (crash scripts) fate h same doubt = crashed rules b scripts fate b.down same doubt

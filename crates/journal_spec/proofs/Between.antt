@@ -13,6 +13,7 @@ use Rattle.replay_spec.specs.Step.{crash, lost, kept, recovered, step}
 use Rattle.replay_spec.specs.Runs.{doubted, lands}
 use Rattle.replay_spec.specs.Recovery.{of_length}
 use Rattle.replay_spec.proofs.Going.{Goes, stays, draws, spends, publishes, fails, goes_to, fails_at, rewrites, fails_to_rewrite, keeps, keeps_rewritten, loses, goes}
+use Rattle.replay_spec.proofs.Barred.{recovered_setup}
 use Rattle.replay_spec.proofs.Reopened.{reopened_same}
 use Rattle.machine_states.specs.Machine.{Suspended}
 use Rattle.journal_records.specs.Records.{changes, body_of, IsInGrammar}
@@ -30,7 +31,6 @@ use Rattle.journal_spec.specs.Owning.{IsOwnBefore}
 use Rattle.journal_spec.specs.Keeping.{IsTakenDoubt, IsOwnWork, IsOwnDoubt, AreOver, KeepsDoubt, KeepsWith, body_by, landed_in, landed_bodies, IsWritable, at_stake}
 use Rattle.journal_spec.specs.Laws.{ImagesMakeBooks, OpenedImagesMakeBooks, BooksStandAlike, ACrashIsLostOrKept, RenewalsStandBetween, LandingsStandBetween, EventsStandBetween, compacted_book, CompactionsStandBetween, MigrationsStandBetween}
 use Rattle.journal_spec.proofs.Brief.{moved_state, moved_told}
-use Rattle.journal_spec.proofs.Setups.{recovered_setup}
 use Rattle.journal_spec.proofs.Appending.{event_appends}
 use Rattle.journal_spec.proofs.Taking.{land_own, moved_before, IsMoved, still_by}
 use Rattle.journal_spec.proofs.Fitting.{any_fit, made_fits}
@@ -221,10 +221,10 @@ up_by rules b d o draws c e = absurd (let no : ⊥ = cc in no)
 up_by rules b d o (spends n out) c e = absurd (let no : ⊥ = cc in no)
 up_by rules b d o (publishes t x inside h) c e = h.up
 up_by rules b d o (fails count t x inside h) c e = absurd (let no : ⊥ = cc in no)
-up_by rules b d o (goes_to tick later up) c e = up
-up_by rules b d o (fails_at count tick later up) c e = absurd (let no : ⊥ = cc in no)
-up_by rules b d o (rewrites up) c e = up
-up_by rules b d o (fails_to_rewrite count up) c e = absurd (let no : ⊥ = cc in no)
+up_by rules b d o (goes_to tick later up unfed) c e = up
+up_by rules b d o (fails_at count tick later up unfed) c e = absurd (let no : ⊥ = cc in no)
+up_by rules b d o (rewrites up unfed) c e = up
+up_by rules b d o (fails_to_rewrite count up unfed) c e = absurd (let no : ⊥ = cc in no)
 up_by rules b d o (keeps scripts count x inside down) c e = refl
 up_by rules b d o (keeps_rewritten scripts count down) c e = refl
 up_by rules b d o (loses scripts) c e = absurd (let no : ⊥ = cc in no)
@@ -285,8 +285,8 @@ stand_between x texts shelf bodies rules b nonce event fate over appends setup l
     )
 
 pub renewal_between : AreRecordsExact → RenewalsStandBetween
-renewal_between x texts shelf bodies b scripts holds given differs room =
-    let then_it = (renewed_kept x texts shelf bodies b scripts holds given differs).keeps.keeps in (
+renewal_between x texts shelf bodies b scripts holds given unfed differs room =
+    let then_it = (renewed_kept x texts shelf bodies b scripts holds given unfed differs).keeps.keeps in (
       record {
         format = newest;
         known = refl;
@@ -300,8 +300,8 @@ renewal_between x texts shelf bodies b scripts holds given differs room =
     )
 
 pub landing_between : AreRecordsExact → LandingsStandBetween
-landing_between x texts shelf bodies b c state inside holds up fits taken out room =
-    let then_it = landing_kept x texts shelf bodies b c state inside holds up fits taken out in (
+landing_between x texts shelf bodies b c state inside holds up unfed fits taken out room =
+    let then_it = landing_kept x texts shelf bodies b c state inside holds up unfed fits taken out in (
       record {
         format = newest;
         known = refl;
@@ -316,20 +316,19 @@ landing_between x texts shelf bodies b c state inside holds up fits taken out ro
 
 -- the copies that a compaction makes, in the place of the bodies that they were made of
 pub compaction_between : AreRecordsExact → CompactionsStandBetween
-compaction_between x texts shelf first bodies m bytes makes fits copies_fit =
-    let these = first ∷ bodies in
-    let others = copies newest texts shelf first bodies m in
-    let k = copies_make x texts shelf first bodies m bytes makes in
-    let again : m.book ≡ reopened m.book = (made_fits x texts shelf these m makes).again in
+compaction_between x texts shelf bodies m bytes makes unfed fits copies_fit =
+    let others = copies newest texts shelf bodies m in
+    let k = copies_make x texts shelf bodies m bytes makes unfed in
+    let again : m.book ≡ reopened m.book = (made_fits x texts shelf bodies m makes).again in
     let after = compacted_book m.book in
     let same : k.0.book ≡ reopened after = k.2.book ∙ ap compacted_book again in (
       record {
         format = newest;
         known = refl;
-        bodies = these;
+        bodies = bodies;
         flight = puts newest others;
         room = (fits, copies_fit, refl);
-        first = makes_now texts shelf these m.book (m.earlier, makes ∙ ap (λ (y : Book). Some (record { book = y; earlier = m.earlier })) again);
+        first = makes_now texts shelf bodies m.book (m.earlier, makes ∙ ap (λ (y : Book). Some (record { book = y; earlier = m.earlier })) again);
         second = makes_now texts shelf others after (k.0.earlier, k.1 ∙ ap (λ (y : Book). Some (record { book = y; earlier = k.0.earlier })) same);
       },
       record { format = refl; bodies_are = refl; flight_is = refl },
@@ -337,11 +336,10 @@ compaction_between x texts shelf first bodies m bytes makes fits copies_fit =
 
 -- what is written of a file of an older format, in its place
 pub migration_between : AreRecordsExact → MigrationsStandBetween
-migration_between x format texts shelf first bodies m known anew bytes makes fits copies_fit =
-    let these = first ∷ bodies in
-    let others = copies format texts shelf first bodies m in
-    let k = migrations_make x format texts shelf first bodies m known anew bytes makes copies_fit in
-    let again : m.book ≡ reopened m.book = (any_fit x format texts shelf these m makes).again in
+migration_between x format texts shelf bodies m known anew bytes makes unfed fits copies_fit =
+    let others = copies format texts shelf bodies m in
+    let k = migrations_make x format texts shelf bodies m known anew bytes makes unfed copies_fit in
+    let again : m.book ≡ reopened m.book = (any_fit x format texts shelf bodies m makes).again in
     let after : k.0.book ≡ reopened k.0.book = (made_fits x texts shelf others k.0 k.1).again in (
       k.0,
       k.1,
@@ -350,7 +348,7 @@ migration_between x format texts shelf first bodies m known anew bytes makes fit
         record {
           format = format;
           known = known;
-          bodies = these;
+          bodies = bodies;
           flight = puts newest others;
           room = (fits, copies_fit, refl);
           first = (m.earlier, makes ∙ ap (λ (y : Book). Some (record { book = y; earlier = m.earlier })) again);

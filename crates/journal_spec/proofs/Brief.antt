@@ -11,7 +11,7 @@ use Rattle.replay_spec.specs.Book.{Change, opens, extends, ends, finishes, sweep
 use Rattle.replay_spec.specs.Rules.{Journal, Rules}
 use Rattle.replay_spec.specs.Admission.{when, or_else, Admission, begins, resumes, refused, admit}
 use Rattle.replay_spec.specs.Next.{Ticket, Origin, starts, answers, Visit, comes_to, start_visit, page_visit, url_for}
-use Rattle.replay_spec.specs.Step.{Reply, Decision, replies, records, compacts, unless, down_by, change_by, reply_by, full, too_long, full_journal, with_room, stopped, gone_for, decide, publish_comes}
+use Rattle.replay_spec.specs.Step.{Reply, Decision, replies, records, compacts, unless, barred, change_by, reply_by, full, too_long, full_journal, with_room, stopped, gone_for, decide, publish_comes}
 use Rattle.replay_spec.proofs.Going.{Records}
 use Rattle.journal_records.specs.Records.{changes, body_of, are_shallow, has_state, body_length, record_length}
 use Rattle.journal_spec.specs.Lengths.{state_by, state_told, journal_rules}
@@ -74,7 +74,7 @@ decided_comes rules b t (resumes at) =
 decided_comes rules b t (refused r) = tt
 
 pub published_comes : (rules : Rules) (b : Book) (t : Ticket) → Comes rules b t (publish_comes rules b t)
-published_comes rules b t = unless_comes rules b t (down_by b.down) (decide rules b t (admit b t.target)) (decided_comes rules b t (admit b t.target))
+published_comes rules b t = unless_comes rules b t (barred b) (decide rules b t (admit b t.target)) (decided_comes rules b t (admit b t.target))
 
 -- ---- what a record tells needs no more of a book than its shelf, setup and instances
 

@@ -31,7 +31,7 @@ use Rattle.journal_spec.proofs.Retaken.{landing_is, retaken_orderly}
 use Rattle.journal_spec.proofs.Telling.{IsQuiet, quiet_if}
 use Rattle.journal_spec.proofs.Beside.{Beside, held_beside, told_start, told_answer, lands_beside, kept_states, left_states}
 use Rattle.journal_spec.proofs.OwnStates.{HoldsEntry, HoldEntries, HoldFrom}
-use Rattle.journal_spec.proofs.Walking.{Step, turns, lands, passes, moved, step_orderly, Reads, Onward, onward}
+use Rattle.journal_spec.proofs.Walking.{Step, turns, lands, passes, frees, moved, step_orderly, Reads, Onward, onward}
 
 -- ---- what holds of entries
 
@@ -242,6 +242,20 @@ module _ (f : ℕ) (same : Type 0) (sure : List ℕ → Type 0) (ls : List Insta
         head = h.head;
       })
       (λ p. ap (λ (ms : List Line). ms ++ l ∷ []) (lines p) ∙ sym (lines_more ls l true m.book.file.lines refl)))
+  stepped owned body m k es rest next small g has gk h lines (frees read fed) gn from on go =
+      walked_past P same (In m (read_record_in f body)) owned sure ls texts e rest k
+      (go k gk
+      (record {
+        shelf = h.shelf;
+        scripts = h.scripts;
+        clock = h.clock;
+        instances = h.instances;
+        seen = h.seen;
+        states = h.states;
+        first = h.first;
+        head = h.head;
+      })
+      (λ p. lines p))
   stepped owned body m k es rest next small g has gk h lines (passes c state read told_so none) gn from on go =
       walked_past P same (In m (read_record_in f body)) owned sure ls texts e rest k
       (go k gk

@@ -5,13 +5,14 @@ use Rattle.script_nodes.specs.Setup.{Named}
 use Rattle.replay_spec.specs.Book.{Change, sweeps, Line, changed, renewed, File, Book, spend, are_same}
 use Rattle.replay_spec.specs.Rules.{Journal, Rules, begun_length, empty_book}
 use Rattle.replay_spec.specs.Change.{record_length, with_line, land}
-use Rattle.replay_spec.specs.Compaction.{rewritten, renewed_file, reopened_with}
-use Rattle.replay_spec.specs.Step.{Event, take, publish, sweep, compact, crash, Fate, fate_of, publish_comes, compact_comes, step}
+use Rattle.replay_spec.specs.Compaction.{rewritten, renewed_file, setup_for, reopened_with}
+use Rattle.replay_spec.specs.Step.{Event, take, publish, sweep, compact, crash, Fate, fate_of, publish_comes, compact_comes, recovered, step}
 use Rattle.replay_spec.specs.Runs.{lands}
 use Rattle.replay_spec.specs.Recovery.{Made, redo, of_length, resettled, then_line, lines_after, first_of, made_of_file}
 use Rattle.replay_spec.specs.Remade.{IsFiled}
 use Rattle.replay_spec.proofs.Going.{Goes, stays, draws, spends, publishes, fails, goes_to, fails_at, rewrites, fails_to_rewrite, keeps, keeps_rewritten, loses, goes}
 use Rattle.replay_spec.proofs.Events.{settled_setup, took_setup, swept_setup}
+use Rattle.replay_spec.proofs.Barred.{recovered_setup, some_setup}
 use Rattle.replay_spec.proofs.Filed.{like_back}
 use Rattle.std.specs.Prelude.{nat_le}
 use Rattle.journal_records.specs.Fields.{numbers_end}
@@ -21,6 +22,7 @@ use Rattle.journal_records.proofs.Measured.{fits_measured}
 use Rattle.journal_spec.specs.Lengths.{state_told, own_body, journal_rules}
 use Rattle.journal_spec.specs.Making.{Texts}
 use Rattle.journal_spec.specs.Bodies.{spelled, with_spelled, drawn_bodies, bodies_of}
+use Rattle.journal_spec.specs.Opening.{opening_bodies}
 use Rattle.journal_spec.specs.Whole.{CanBeWritten}
 use Rattle.journal_spec.specs.Files.{AreWritten, IsWritten}
 use Rattle.journal_spec.specs.Events.{BodiesGrow, IsGiven, Gives, CanLand, IsSpelled, EventsAreWritten}
@@ -65,16 +67,14 @@ pub land_more : (rules : Rules) (j : Journal) (b : Book) (c : Change) (inside : 
 land_more rules j b c inside e h =
     subst (λ (r : Rules). Lands r b c inside) (ap (λ (o : Option Journal). record rules { journal = o }) (sym e)) (land_over rules j b c inside h)
 
-renew_more : (j : Journal) (scripts : List Named) (b : Book)
-    → bodies_of b.shelf (reopened_with (Some j) scripts b).file
-    ≡ bodies_of b.shelf b.file ++ (if are_same scripts b.scripts then [] else body_of (renewal_of scripts) ∷ [])
-renew_more j scripts b = by_test (are_same scripts b.scripts)
+renew_more : (j : Journal) (scripts : List Named) (b : Book) → bodies_of b.shelf (reopened_with (Some j) scripts b).file ≡ bodies_of b.shelf b.file ++ opening_bodies scripts b
+renew_more j scripts b = by_test (are_same (setup_for b scripts) b.scripts)
   where
     by_test : (same : Bool)
-        → bodies_of b.shelf (if same then b.file else renewed_file (Some j) scripts b.file)
-        ≡ bodies_of b.shelf b.file ++ (if same then [] else body_of (renewal_of scripts) ∷ [])
+        → bodies_of b.shelf (if same then b.file else renewed_file (Some j) (setup_for b scripts) b.file)
+        ≡ bodies_of b.shelf b.file ++ (if same then [] else body_of (renewal_of (setup_for b scripts)) ∷ [])
     by_test true = sym (append-nil (bodies_of b.shelf b.file))
-    by_test false = line_more b.shelf (renewed scripts (j.renewed scripts)) b.file
+    by_test false = line_more b.shelf (renewed (setup_for b scripts) (j.renewed (setup_for b scripts))) b.file
 
 pub grow : BodiesGrow
 grow = (line_more, land_more, renew_more)
@@ -109,13 +109,15 @@ landed_written texts r b c inside h can written =
     line_written texts b.shelf (changed c n) b.file written
     (can_same c b end same can.0, long_same c b end n same (measured b c b.shelf can.0 can.1), tt)
 
-renewed_written : (texts : Texts) (scripts : List Named) (b : Book) → IsGiven texts scripts → IsWritten texts b.shelf b.file
+renewed_written : (texts : Texts) (scripts : List Named) (b : Book) → IsGiven texts (setup_for b scripts) → IsWritten texts b.shelf b.file
     → IsWritten texts b.shelf (reopened_with (Some (journal_rules b.shelf)) scripts b).file
-renewed_written texts scripts b given written = by_test (are_same scripts b.scripts)
+renewed_written texts scripts b given written = by_test (are_same (setup_for b scripts) b.scripts)
   where
-    by_test : (same : Bool) → IsWritten texts b.shelf (if same then b.file else renewed_file (Some (journal_rules b.shelf)) scripts b.file)
+    by_test : (same : Bool) → IsWritten texts b.shelf (if same then b.file else renewed_file (Some (journal_rules b.shelf)) (setup_for b scripts) b.file)
     by_test true = written
-    by_test false = line_written texts b.shelf (renewed scripts ((journal_rules b.shelf).renewed scripts)) b.file written (given.renews, refl, given.read, given.whole, tt)
+    by_test false =
+        let ss = setup_for b scripts in
+        line_written texts b.shelf (renewed ss ((journal_rules b.shelf).renewed ss)) b.file written (given.renews, refl, given.read, given.whole, tt)
 
 rewritten_written : (texts : Texts) (r : Rules) (j : Journal) (b : Book) → IsFiled b → b.logged < numbers_end + 1 → IsWritten texts b.shelf b.file
     → IsWritten texts b.shelf (rewritten (over r j) b).file
@@ -132,10 +134,10 @@ went texts r b d o draws h below can given written = (refl, written)
 went texts r b d o (spends n out) h below can given written = (refl, written)
 went texts r b d o (publishes t c inside at) h below can given written = (refl, landed_written texts r b c inside h can written)
 went texts r b d o (fails count t c inside at) h below can given written = (refl, written)
-went texts r b d o (goes_to tick later up) h below can given written = (refl, landed_written texts r b (sweeps tick) [] h can written)
-went texts r b d o (fails_at count tick later up) h below can given written = (refl, written)
-went texts r b d o (rewrites up) h below can given written = (refl, rewritten_written texts r (journal_rules b.shelf) b h below written)
-went texts r b d o (fails_to_rewrite count up) h below can given written = (refl, written)
+went texts r b d o (goes_to tick later up unfed) h below can given written = (refl, landed_written texts r b (sweeps tick) [] h can written)
+went texts r b d o (fails_at count tick later up unfed) h below can given written = (refl, written)
+went texts r b d o (rewrites up unfed) h below can given written = (refl, rewritten_written texts r (journal_rules b.shelf) b h below written)
+went texts r b d o (fails_to_rewrite count up unfed) h below can given written = (refl, written)
 went texts r b d o (keeps scripts count c inside down) h below can given written =
     (refl, renewed_written texts scripts (land (over r (journal_rules b.shelf)) c inside b) given (landed_written texts r b c inside h can written))
 went texts r b d o (keeps_rewritten scripts count down) h below can given written =
@@ -150,7 +152,8 @@ given_then texts rules b nonce (publish t) fate h old =
     subst (IsGiven texts) (sym (settled_setup rules (spend t.number b) (fate_of rules.journal fate) (publish_comes rules b t))) old
 given_then texts rules b nonce (sweep tick) fate h old = subst (IsGiven texts) (sym (swept_setup rules b tick (fate_of rules.journal fate) (nat_le tick b.clock))) old
 given_then texts rules b nonce compact fate h old = subst (IsGiven texts) (sym (settled_setup rules b (fate_of rules.journal fate) (compact_comes rules b))) old
-given_then texts rules b nonce (crash scripts) fate h old = h
+given_then texts rules b nonce (crash scripts) fate h old =
+    let y = recovered rules fate b.down b in some_setup (IsGiven texts) y scripts (subst (IsGiven texts) (sym (recovered_setup rules fate b.down b)) old) h
 
 abbrev Then : Texts → Book → (nonce : ℕ) → Event → Fate → Rules → Type 0
 Then texts b nonce event fate r = CanLand b (lands r b event fate) → let d = (step r b nonce event fate).1 in (d.shelf ≡ b.shelf) × IsSpelled texts d

@@ -1,5 +1,5 @@
 -- The bodies of a file make what the file makes.
-use Rattle.std.proofs.Common.{◌≡◌, ℕ, ◌+◌, ◌==◌, List, [], ◌∷◌, ◌++◌, map, length, Option, Some, None, Bool, true, refl, sym, ap, subst, ◌∙◌, if◌then◌else◌, arith}
+use Rattle.std.proofs.Common.{◌≡◌, ℕ, ◌+◌, ◌==◌, List, [], ◌∷◌, ◌++◌, map, length, Option, Some, None, Bool, true, false, refl, sym, ap, subst, ◌∙◌, if◌then◌else◌, arith}
 use Rattle.std.proofs.lemmas.Bool.Decides.{nat_tests}
 use Rattle.script_value.specs.declared.outcome.TxName.{TxName}
 use Rattle.script_nodes.specs.Setup.{Named}
@@ -18,7 +18,7 @@ use Rattle.journal_records.proofs.Exact.{record_back}
 use Rattle.journal_spec.specs.Before.{States, Earlier, Made, plain}
 use Rattle.journal_spec.specs.Retaking.{Told, unread, misread, told, told_in, held, landing, retaken}
 use Rattle.journal_spec.specs.Lengths.{state_by, state_told, told_own, own_told, own_body}
-use Rattle.journal_spec.specs.Making.{Texts, Making, begun, made, damaged, other, has_script, began, first_setup, first_by, told_next, next_setup, next_by, second_by, with_bodies, book_of}
+use Rattle.journal_spec.specs.Making.{Texts, Making, begun, made, damaged, other, has_script, began, first_setup, start_by, told_next, next_setup, next_by, second_by, with_bodies, book_of}
 use Rattle.journal_spec.specs.Bodies.{with_spelled, drawn_bodies, bodies_of}
 use Rattle.journal_spec.specs.Whole.{AreWhole, HasWholeScripts, CanBeWritten, HasOwnStates}
 use Rattle.journal_spec.specs.Files.{AreWritten, IsDrawn, IsWritten, IsMade, FilesAreMade}
@@ -173,7 +173,9 @@ by_drawn texts shelf place head scripts (Some n) ls drawn whole taken written =
     let m = first_of shelf f in
     let k = with_states [] (first_of shelf (first_file head scripts)) in
     let read : read_record body ≡ Some (draws n) = record_back (draws n) drawn in
-    let same : second_by texts place (length body) k (read_record body) ≡ made (with_states [] m) = ap (λ (r : Option Record). second_by texts place (length body) k r) read in
+    let long : (head + 0) + 14 ≡ head + 14 = omega arith in
+    let same : second_by texts place (length body) k (read_record body) ≡ made (with_states [] m) =
+    ap (λ (r : Option Record). second_by texts place (length body) k r) read ∙ ap (λ (size : ℕ). made (with_states [] (record m { book = record m.book { length = size } }))) long in
     let rest = all_made texts shelf (place + 5 + length body) ls m [] taken written (first_orderly shelf f) (record { setup = whole; instances = λ k i found. absurd (let no : ⊥ = cc in no) })
     (no_instances shelf f (record { seen = []; states = [] })) in
     subst (λ (x : Making). IsMade (with_bodies texts shelf (place + 5 + length body) (map (λ (y : Line × List ℕ). y.1) (with_spelled ls m)) x) (lines_after ls m)) (sym same) rest
@@ -204,10 +206,13 @@ files_made texts shelf f taken written =
         let n = length body in
         let read : read_record body ≡ Some (begins shelf (texts_of f.scripts)) = record_back (begin_of shelf f.scripts) written.begins in
         let same_shelf : (shelf == shelf) ≡ true = grind (arith, nat_tests) in
-        let start : first_by texts shelf 8 n (read_record body) ≡ begun (with_states [] (first_of shelf (first_file (begun_length shelf f.scripts) f.scripts))) =
-        ap (λ (r : Option Record). first_by texts shelf 8 n r) read
-        ∙ (ap (λ (o : Option (List Named)). first_setup shelf 8 n shelf o) written.read
-        ∙ ap (λ (b : Bool). if b then begun (began shelf n f.scripts) else other 8) same_shelf) in
+        let m = first_of shelf (first_file (begun_length shelf f.scripts) f.scripts) in
+        let long : 14 + n ≡ (14 + n) + 0 = omega arith in
+        let start : start_by texts shelf 8 n (read_record body) ≡ begun (with_states [] m) =
+        ap (λ (r : Option Record). start_by texts shelf 8 n r) read
+        ∙ (ap (λ (o : Option (List Named)). first_setup false shelf 8 n shelf o) written.read
+        ∙ (ap (λ (b : Bool). if b then begun (began false shelf 8 n f.scripts) else other 8) same_shelf
+        ∙ ap (λ (size : ℕ). begun (with_states [] (record m { book = record m.book { length = size } }))) long)) in
         let rest = by_drawn texts shelf (8 + 5 + n) (begun_length shelf f.scripts) f.scripts f.drawn f.lines written.drawn written.whole taken written.lines in
         subst (λ (x : Making). IsMade (with_bodies texts shelf (8 + 5 + n) (drawn_bodies f.drawn ++ map (λ (y : Line × List ℕ). y.1) (with_spelled f.lines (first_of shelf g))) x) (lines_after f.lines (first_of shelf g)))
         (sym start) rest

@@ -2,6 +2,7 @@
 use Rattle.std.proofs.Common.{◌≡◌, ℕ, ◌+◌, ◌<◌, ◌≤◌, ◌==◌, List, [], ◌∷◌, length, Bool, true, false, not, if◌then◌else◌, Option, Some, None, refl, sym, ◌∙◌, ap, subst, ⊎_elim, arith, length-append, slice_get}
 use Rattle.std.specs.Prelude.{⊤}
 use Rattle.std.proofs.lemmas.Bool.Decides.{nat_tests}
+use Rattle.std.proofs.lemmas.Option.{slice_get_within}
 use Rattle.script_value.specs.declared.outcome.TxName.{TxName}
 use Rattle.script_nodes.specs.Setup.{Named}
 use Rattle.page_journal.specs.Records.{framed, frames}
@@ -18,23 +19,23 @@ use Rattle.replay_spec.proofs.Differ.{put_from, mend_from}
 use Rattle.replay_spec.proofs.Recovered.{made_orderly}
 use Rattle.replay_spec.proofs.Compacted.{line_orderly, first_orderly}
 use Rattle.journal_records.specs.Fields.{numbers_end}
-use Rattle.journal_records.specs.Records.{ChangeFits, Record, begins, changes, renews, draws}
+use Rattle.journal_records.specs.Records.{ChangeFits, Record, begins, changes, renews, draws, follows, promotes}
 use Rattle.journal_records.specs.Old.{newest_format, read_record_in}
 use Rattle.journal_records.specs.Laws.{AreRecordsExact}
 use Rattle.value_bytes.specs.Laws.{AreBytes}
 use Rattle.server_limits.specs.Limits.{most_fuel}
 use Rattle.journal_spec.specs.Before.{nothing_told, Made, plain}
 use Rattle.journal_spec.specs.Retaking.{Told, unread, misread, told, landing, retaken}
-use Rattle.journal_spec.specs.Making.{Texts, Making, nothing, begun, made, damaged, other, has_script, beside, began, first_setup, first_by, told_next, next_setup, with_drawn, made_in}
+use Rattle.journal_spec.specs.Making.{Texts, Making, nothing, waits, waited, begun, made, damaged, other, has_script, beside, in_file, waiting, began, first_setup, first_by, start_by, fed_by, promoted_by, told_next, next_setup, with_drawn, made_in}
 use Rattle.journal_spec.specs.Lengths.{own_told}
-use Rattle.journal_spec.specs.Old.{told_at, change_next, next_at, second_at, with_body_at, with_bodies_at, format_of_now}
+use Rattle.journal_spec.specs.Old.{told_at, change_next, next_at, second_at, with_body_at, with_bodies_at, book_of_format, format_of_now}
 use Rattle.journal_spec.specs.Opening.{ReadsWhole}
 use Rattle.journal_spec.specs.Whole.{IsWhole, AreWhole}
 use Rattle.journal_spec.specs.Reading.{AreAllBytes}
 use Rattle.journal_spec.specs.Keeping.{IsTakenDoubt}
 use Rattle.journal_spec.specs.Spelling.{IsDoubtInRange}
-use Rattle.journal_spec.specs.Laws.{IsNoBegin, OnlyItsBeginBegins, BodiesMakeFittingBooks, BodiesOfAnyFormatFit}
-use Rattle.journal_spec.proofs.Retaken.{retaken_orderly}
+use Rattle.journal_spec.specs.Laws.{IsNoBegin, OnlyItsBeginBegins, IsFitting, BodiesMakeFittingBooks, BodiesOfAnyFormatFit}
+use Rattle.journal_spec.proofs.Retaken.{retaken_orderly, filed_orderly}
 
 -- scripts of instances are whole
 abbrev pub WholeIn : List Instance → Type 0
@@ -73,52 +74,78 @@ record Fits (all : Type 0) (texts : Texts) (shelf place : ℕ) (m : Made) : Type
   range : all → (m.book.logged ≤ numbers_end) × (m.book.clock < numbers_end)
   long : all → m.book.length ≡ place + 1
 
--- what the first record alone makes, whose journal's next gate is at this place
+-- what the record makes that a journal begins with, where the journal's next gate is at this place
 record Begins (texts : Texts) (shelf place : ℕ) (m : Made) : Type 0 where
+  fed : Bool
+  gate : ℕ
   body : ℕ
   scripts : List Named
   named : List (List ℕ × List ℕ)
   read : texts named ≡ Some scripts
-  is : m ≡ began shelf body scripts
-  at : place ≡ 8 + 5 + body
+  is : m ≡ began fed shelf gate body scripts
+  at : place ≡ gate + 5 + body
 
 abbrev FitsMaking : (all : Type 0) → Texts → (shelf place : ℕ) → Making → Type 0
 FitsMaking all texts shelf place nothing = place ≡ 8
+FitsMaking all texts shelf place (waits s) = (s ≡ shelf) × (all → place ≡ 14)
+FitsMaking all texts shelf place waited = ⊤
 FitsMaking all texts shelf place (begun m) = Begins texts shelf place m
 FitsMaking all texts shelf place (made m) = Fits all texts shelf place m
 FitsMaking all texts shelf place (damaged p) = ⊤
 FitsMaking all texts shelf place (other p) = ⊤
 
 pub only_begin : OnlyItsBeginBegins
-only_begin texts shelf place n = (
+only_begin texts fed shelf place n = (
   λ named scripts read. (here named scripts read, λ s differs. elsewhere s named scripts differs read),
-  λ s named none. ap (first_setup shelf place n s) none,
+  λ s named none. ap (first_setup fed shelf place n s) none,
   no_begin,
+  at_start,
+  behind_it,
 )
   where
-    here : (named : List (List ℕ × List ℕ)) (scripts : List Named) → texts named ≡ Some scripts → first_by texts shelf place n (Some (begins shelf named)) ≡ begun (began shelf n scripts)
+    here : (named : List (List ℕ × List ℕ)) (scripts : List Named) → texts named ≡ Some scripts → first_by texts fed shelf place n (Some (begins shelf named)) ≡ begun (began fed shelf place n scripts)
     here named scripts read =
         let same : (shelf == shelf) ≡ true = grind (arith, nat_tests) in
-        ap (first_setup shelf place n shelf) read ∙ ap (λ (t : Bool). if t then begun (began shelf n scripts) else other place) same
+        ap (first_setup fed shelf place n shelf) read ∙ ap (λ (t : Bool). if t then begun (began fed shelf place n scripts) else other place) same
 
     elsewhere : (s : ℕ) (named : List (List ℕ × List ℕ)) (scripts : List Named) → (s ≡ shelf → ⊥) → texts named ≡ Some scripts
-        → first_by texts shelf place n (Some (begins s named)) ≡ other place
+        → first_by texts fed shelf place n (Some (begins s named)) ≡ other place
     elsewhere s named scripts differs read =
         let apart : (s == shelf) ≡ false = grind (arith, nat_tests, differs) in
-        ap (first_setup shelf place n s) read ∙ ap (λ (t : Bool). if t then begun (began shelf n scripts) else other place) apart
+        ap (first_setup fed shelf place n s) read ∙ ap (λ (t : Bool). if t then begun (began fed shelf place n scripts) else other place) apart
 
-    no_begin : (r : Option Record) → IsNoBegin r → first_by texts shelf place n r ≡ damaged place
+    no_begin : (r : Option Record) → IsNoBegin r → first_by texts fed shelf place n r ≡ damaged place
     no_begin None h = refl
     no_begin (Some (begins s named)) h = absurd h
     no_begin (Some (changes c state)) h = refl
     no_begin (Some (renews named)) h = refl
     no_begin (Some (draws number)) h = refl
+    no_begin (Some follows) h = refl
+    no_begin (Some promotes) h = refl
+
+    at_start : (r : Option Record) → (r ≡ Some follows → ⊥) → start_by texts shelf place n r ≡ first_by texts false shelf place n r
+    at_start None h = refl
+    at_start (Some (begins s named)) h = refl
+    at_start (Some (changes c state)) h = refl
+    at_start (Some (renews named)) h = refl
+    at_start (Some (draws number)) h = refl
+    at_start (Some follows) h = absurd (h refl)
+    at_start (Some promotes) h = refl
+
+    behind_it : (r : Option Record) → (r ≡ Some promotes → ⊥) → fed_by texts shelf place n r ≡ first_by texts true shelf place n r
+    behind_it None h = refl
+    behind_it (Some (begins s named)) h = refl
+    behind_it (Some (changes c state)) h = refl
+    behind_it (Some (renews named)) h = refl
+    behind_it (Some (draws number)) h = refl
+    behind_it (Some follows) h = refl
+    behind_it (Some promotes) h = absurd (h refl)
 
 -- what a file's first records make
-first_file_fits : (all : Type 0) (texts : Texts) (shelf place : ℕ) (f : File) (named : List (List ℕ × List ℕ)) → texts named ≡ Some f.scripts
-    → (all → used_up f.drawn ≤ numbers_end) → (all → (first_of shelf f).book.length ≡ place + 1) → Fits all texts shelf place (beside nothing_told (first_of shelf f))
-first_file_fits all texts shelf place f named read low long = record {
-  orderly = first_orderly shelf f;
+first_file_fits : (fed : Bool) (size : ℕ) (all : Type 0) (texts : Texts) (shelf place : ℕ) (f : File) (named : List (List ℕ × List ℕ)) → texts named ≡ Some f.scripts
+    → (all → used_up f.drawn ≤ numbers_end) → (all → size ≡ place + 1) → Fits all texts shelf place (in_file fed size (beside nothing_told (first_of shelf f)))
+first_file_fits fed size all texts shelf place f named read low long = record {
+  orderly = filed_orderly fed size (beside nothing_told (first_of shelf f)) (first_orderly shelf f);
   shelf_is = refl;
   named = named;
   read = read;
@@ -131,23 +158,47 @@ begins_fits : (all : Type 0) (texts : Texts) (shelf place : ℕ) (m : Made) → 
 begins_fits all texts shelf place m h =
     let at = h.at in
     subst (Fits all texts shelf place) (sym h.is)
-    (first_file_fits all texts shelf place (first_file (14 + h.body) h.scripts) h.named h.read (λ bytes. omega arith) (λ bytes. omega (arith, at)))
+    (first_file_fits h.fed (h.gate + 6 + h.body) all texts shelf place (first_file (14 + h.body) h.scripts) h.named h.read (λ bytes. omega arith) (λ bytes. omega (arith, at)))
 
-first_fits : (all : Type 0) (texts : Texts) (shelf : ℕ) (body : List ℕ) (o : Option Record) → FitsMaking all texts shelf (8 + 5 + length body) (first_by texts shelf 8 (length body) o)
-first_fits all texts shelf body None = tt
-first_fits all texts shelf body (Some (changes c state)) = tt
-first_fits all texts shelf body (Some (renews named)) = tt
-first_fits all texts shelf body (Some (draws number)) = tt
-first_fits all texts shelf body (Some (begins s named)) = by_setup (texts named) refl
+first_fits : (fed : Bool) (all : Type 0) (texts : Texts) (shelf place : ℕ) (body : List ℕ) (o : Option Record) → FitsMaking all texts shelf (place + 5 + length body) (first_by texts fed shelf place (length body) o)
+first_fits fed all texts shelf place body None = tt
+first_fits fed all texts shelf place body (Some (changes c state)) = tt
+first_fits fed all texts shelf place body (Some (renews named)) = tt
+first_fits fed all texts shelf place body (Some (draws number)) = tt
+first_fits fed all texts shelf place body (Some follows) = tt
+first_fits fed all texts shelf place body (Some promotes) = tt
+first_fits fed all texts shelf place body (Some (begins s named)) = by_setup (texts named) refl
   where
     by_test : (scripts : List Named) (t : Bool) → texts named ≡ Some scripts
-        → FitsMaking all texts shelf (8 + 5 + length body) (if t then begun (began shelf (length body) scripts) else other 8)
-    by_test scripts true read = record { body = length body; scripts = scripts; named = named; read = read; is = refl; at = refl }
+        → FitsMaking all texts shelf (place + 5 + length body) (if t then begun (began fed shelf place (length body) scripts) else other place)
+    by_test scripts true read = record { fed = fed; gate = place; body = length body; scripts = scripts; named = named; read = read; is = refl; at = refl }
     by_test scripts false read = tt
 
-    by_setup : (o : Option (List Named)) → texts named ≡ o → FitsMaking all texts shelf (8 + 5 + length body) (first_setup shelf 8 (length body) s o)
+    by_setup : (o : Option (List Named)) → texts named ≡ o → FitsMaking all texts shelf (place + 5 + length body) (first_setup fed shelf place (length body) s o)
     by_setup None read = tt
     by_setup (Some scripts) read = by_test scripts (s == shelf) read
+
+-- the first record of a file, which may tell that the shelf follows another one's journal
+start_fits : AreRecordsExact → (format : ℕ) (all : Type 0) (texts : Texts) (shelf : ℕ) (body : List ℕ) (o : Option Record) → read_record_in format body ≡ o → (all → AreBytes body)
+    → FitsMaking all texts shelf (8 + 5 + length body) (start_by texts shelf 8 (length body) o)
+start_fits x format all texts shelf body None e are = tt
+start_fits x format all texts shelf body (Some (begins s named)) e are = first_fits false all texts shelf 8 body (Some (begins s named))
+start_fits x format all texts shelf body (Some (changes c state)) e are = tt
+start_fits x format all texts shelf body (Some (renews named)) e are = tt
+start_fits x format all texts shelf body (Some (draws number)) e are = tt
+start_fits x format all texts shelf body (Some promotes) e are = tt
+start_fits x format all texts shelf body (Some follows) e are =
+    (refl, λ bytes. let long : length body ≡ 1 = ap length (x.alike format body follows (are bytes) e tt).spelled in omega (arith, long))
+
+-- the record behind that
+fed_fits : (all : Type 0) (texts : Texts) (shelf place : ℕ) (body : List ℕ) (o : Option Record) → FitsMaking all texts shelf (place + 5 + length body) (fed_by texts shelf place (length body) o)
+fed_fits all texts shelf place body None = tt
+fed_fits all texts shelf place body (Some (begins s named)) = first_fits true all texts shelf place body (Some (begins s named))
+fed_fits all texts shelf place body (Some (changes c state)) = tt
+fed_fits all texts shelf place body (Some (renews named)) = tt
+fed_fits all texts shelf place body (Some (draws number)) = tt
+fed_fits all texts shelf place body (Some follows) = tt
+fed_fits all texts shelf place body (Some promotes) = tt
 
 redone_scripts : (rules : Rules) (c : Change) (o : Option (List TxName)) (b : Book)
     → ((redone rules c o b).scripts ≡ b.scripts) × ((redone rules c o b).shelf ≡ b.shelf) × ((redone rules c o b).length ≡ longer_by rules.journal b c)
@@ -237,11 +288,27 @@ setup_fits all texts shelf place body m named h = by_setup (texts named) refl
       long = λ bytes. let before = h.long bytes in omega (arith, before);
     }
 
+-- a record that the shelf follows no longer
+promoted_fits : (all : Type 0) (texts : Texts) (shelf place : ℕ) (body : List ℕ) (m : Made) (fed : Bool) → Fits all texts shelf place m
+    → FitsMaking all texts shelf (place + 5 + length body) (promoted_by place (length body) m fed)
+promoted_fits all texts shelf place body m false h = tt
+promoted_fits all texts shelf place body m true h = record {
+  orderly = filed_orderly false (m.book.length + (length body + 5)) m h.orderly;
+  shelf_is = h.shelf_is;
+  named = h.named;
+  read = h.read;
+  whole = h.whole;
+  range = h.range;
+  long = λ bytes. let before = h.long bytes in omega (arith, before);
+}
+
 next_fits : AreRecordsExact → (format : ℕ) (all : Type 0) (texts : Texts) (shelf place : ℕ) (body : List ℕ) (m : Made) (o : Option Record) → read_record_in format body ≡ o → (all → AreBytes body)
     → Fits all texts shelf place m → FitsMaking all texts shelf (place + 5 + length body) (next_at format texts place (length body) m o)
 next_fits x format all texts shelf place body m None e are h = tt
 next_fits x format all texts shelf place body m (Some (begins s named)) e are h = tt
 next_fits x format all texts shelf place body m (Some (draws number)) e are h = tt
+next_fits x format all texts shelf place body m (Some follows) e are h = tt
+next_fits x format all texts shelf place body m (Some promotes) e are h = promoted_fits all texts shelf place body m m.book.follows h
 next_fits x format all texts shelf place body m (Some (renews named)) e are h = setup_fits all texts shelf place body m named h
 next_fits x format all texts shelf place body m (Some (changes c state)) e are h = by_test (has_script (length m.book.scripts) c)
   where
@@ -254,7 +321,7 @@ drawn_fits : AreRecordsExact → (format : ℕ) (all : Type 0) (texts : Texts) (
     → Begins texts shelf place m → Fits all texts shelf (place + 5 + length body) (with_drawn number m)
 drawn_fits x format all texts shelf place body m number e are h =
     subst (λ (k : Made). Fits all texts shelf (place + 5 + length body) (with_drawn number k)) (sym h.is)
-    (first_file_fits all texts shelf (place + 5 + length body) (record (first_file (14 + h.body) h.scripts) { drawn = Some number }) h.named h.read
+    (first_file_fits h.fed (h.gate + 6 + h.body + 14) all texts shelf (place + 5 + length body) (record (first_file (14 + h.body) h.scripts) { drawn = Some number }) h.named h.read
     (λ bytes. let low = x.fits format body (draws number) (are bytes) e in omega (arith, low))
     (λ bytes.
     let long : length body ≡ 9 = ap length (x.alike format body (draws number) (are bytes) e tt).spelled in
@@ -266,13 +333,17 @@ second_fits : AreRecordsExact → (format : ℕ) (all : Type 0) (texts : Texts) 
 second_fits x format all texts shelf place body m None e are h = tt
 second_fits x format all texts shelf place body m (Some (begins s named)) e are h = tt
 second_fits x format all texts shelf place body m (Some (draws number)) e are h = drawn_fits x format all texts shelf place body m number e are h
+second_fits x format all texts shelf place body m (Some follows) e are h = tt
+second_fits x format all texts shelf place body m (Some promotes) e are h = next_fits x format all texts shelf place body m (Some promotes) e are (begins_fits all texts shelf place m h)
 second_fits x format all texts shelf place body m (Some (renews named)) e are h = next_fits x format all texts shelf place body m (Some (renews named)) e are (begins_fits all texts shelf place m h)
 second_fits x format all texts shelf place body m (Some (changes c state)) e are h = next_fits x format all texts shelf place body m (Some (changes c state)) e are (begins_fits all texts shelf place m h)
 
 one_fits : AreRecordsExact → (format : ℕ) (all : Type 0) (texts : Texts) (shelf place : ℕ) (body : List ℕ) (m : Making) → (all → AreBytes body) → FitsMaking all texts shelf place m
     → FitsMaking all texts shelf (place + 5 + length body) (with_body_at format texts shelf place body m)
 one_fits x format all texts shelf place body nothing are h =
-    subst (λ (p : ℕ). FitsMaking all texts shelf (p + 5 + length body) (with_body_at format texts shelf p body nothing)) (sym h) (first_fits all texts shelf body (read_record_in format body))
+    subst (λ (p : ℕ). FitsMaking all texts shelf (p + 5 + length body) (with_body_at format texts shelf p body nothing)) (sym h) (start_fits x format all texts shelf body (read_record_in format body) refl are)
+one_fits x format all texts shelf place body (waits s) are h = fed_fits all texts shelf place body (read_record_in format body)
+one_fits x format all texts shelf place body waited are h = first_fits false all texts shelf place body (read_record_in format body)
 one_fits x format all texts shelf place body (begun m) are h = second_fits x format all texts shelf place body m (read_record_in format body) refl are h
 one_fits x format all texts shelf place body (made m) are h = next_fits x format all texts shelf place body m (read_record_in format body) refl are h
 one_fits x format all texts shelf place body (damaged p) are h = tt
@@ -288,13 +359,6 @@ all_fit x format all texts shelf place (body ∷ bodies) m are h =
     (all_fit x format all texts shelf (place + 5 + length body) bodies (with_body_at format texts shelf place body m) (λ bytes. (are bytes).1)
     (one_fits x format all texts shelf place body m (λ bytes. (are bytes).0) h))
 
-made_so : (all : Type 0) (texts : Texts) (shelf place : ℕ) (x : Making) (m : Made) → made_in x ≡ Some m → FitsMaking all texts shelf place x → Fits all texts shelf place m
-made_so all texts shelf place nothing m is h = absurd (let no : ⊥ = cc in no)
-made_so all texts shelf place (begun k) m is h = let at : k ≡ m = cc in subst (Fits all texts shelf place) at (begins_fits all texts shelf place k h)
-made_so all texts shelf place (made k) m is h = let at : k ≡ m = cc in subst (Fits all texts shelf place) at h
-made_so all texts shelf place (damaged p) m is h = absurd (let no : ⊥ = cc in no)
-made_so all texts shelf place (other p) m is h = absurd (let no : ⊥ = cc in no)
-
 pub no_doubt : (b : Book) (o : Option Doubt) → o ≡ None → IsTakenDoubt b o unread
 no_doubt b o e = subst (λ (x : Option Doubt). IsTakenDoubt b x unread) (sym e) tt
 
@@ -304,29 +368,68 @@ all_used b seen counted n there x = let low = counted n there in ⊎_elim (λ no
 any_rules : Rules
 any_rules = record { fuel = most_fuel; life = 0; instances = 0; pages = 0; journal = None }
 
-pub any_fit : AreRecordsExact → BodiesOfAnyFormatFit
-any_fit x format texts shelf bodies m is =
-    let h : Fits (AreAllBytes bodies) texts shelf (8 + length (frames bodies)) m =
-    made_so (AreAllBytes bodies) texts shelf (8 + length (frames bodies)) _ m is (all_fit x format (AreAllBytes bodies) texts shelf 8 bodies nothing (λ bytes. bytes) refl) in
+-- what these bodies make
+abbrev FitsWith : Texts → (shelf : ℕ) → List (List ℕ) → Made → Type 0
+FitsWith texts shelf bodies m = Fits (AreAllBytes bodies) texts shelf (8 + length (frames bodies)) m
+
+fitting : (texts : Texts) (shelf : ℕ) (bodies : List (List ℕ)) (m : Made) → FitsWith texts shelf bodies m → IsFitting texts shelf bodies m
+fitting texts shelf bodies m h = record {
+  again = h.orderly.again;
+  shelf_is = h.shelf_is;
+  read = λ as_told unfed. ap texts (as_told h.named m.book.scripts h.read) ∙ h.read;
+  whole = λ whole. record { setup = whole h.named m.book.scripts h.read; instances = h.whole whole };
+  recoverable = λ whole. record {
+    orderly = (made_orderly any_rules).2 (plain m) h.orderly;
+    whole = whole;
+    doubted = unread;
+    doubt = no_doubt m.book m.book.down (ap (λ (b : Book). b.down) h.orderly.again);
+    used = subst (AreUsed m.earlier.seen) (sym h.orderly.again) (all_used m.book m.earlier.seen h.orderly.counted);
+  };
+  range = λ bytes. record {
+    drawn = let again : m.book.drawn ≡ m.book.logged = ap (λ (b : Book). b.drawn) h.orderly.again in let low = (h.range bytes).0 in omega (arith, again, low);
+    clock = (h.range bytes).1;
+    doubt = subst IsDoubtInRange (sym (ap (λ (b : Book). b.down) h.orderly.again)) tt;
+  };
+  long = λ bytes fits. let size = length-at_rest bodies in let l = h.long bytes in omega (arith, l, size);
+}
+
+-- a shelf that follows another one's journal, and knows of no record of that
+waiting_fits : (texts : Texts) (shelf : ℕ) (bodies : List (List ℕ)) → (AreAllBytes bodies → 8 + length (frames bodies) ≡ 14) → IsFitting texts shelf bodies (waiting shelf)
+waiting_fits texts shelf bodies at =
+    let orderly = filed_orderly true 15 (beside nothing_told (first_of shelf (first_file 0 []))) (first_orderly shelf (first_file 0 [])) in
     record {
-      again = h.orderly.again;
-      shelf_is = h.shelf_is;
-      read = λ as_told. ap texts (as_told h.named m.book.scripts h.read) ∙ h.read;
-      whole = λ whole. record { setup = whole h.named m.book.scripts h.read; instances = h.whole whole };
+      again = refl;
+      shelf_is = refl;
+      read = λ as_told unfed. absurd (let no : ⊥ = cc in no);
+      whole = λ whole. record { setup = λ k s found. absurd (let low = slice_get_within (waiting shelf).book.scripts k s found in omega (arith, low)); instances = λ k i found. absurd (let no : ⊥ = cc in no) };
       recoverable = λ whole. record {
-        orderly = (made_orderly any_rules).2 (plain m) h.orderly;
+        orderly = (made_orderly any_rules).2 (plain (waiting shelf)) orderly;
         whole = whole;
         doubted = unread;
-        doubt = no_doubt m.book m.book.down (ap (λ (b : Book). b.down) h.orderly.again);
-        used = subst (AreUsed m.earlier.seen) (sym h.orderly.again) (all_used m.book m.earlier.seen h.orderly.counted);
+        doubt = tt;
+        used = λ n there unused. there;
       };
-      range = λ bytes. record {
-        drawn = let again : m.book.drawn ≡ m.book.logged = ap (λ (b : Book). b.drawn) h.orderly.again in let low = (h.range bytes).0 in omega (arith, again, low);
-        clock = (h.range bytes).1;
-        doubt = subst IsDoubtInRange (sym (ap (λ (b : Book). b.down) h.orderly.again)) tt;
-      };
-      long = λ bytes fits. let size = length-at_rest bodies in let l = h.long bytes in omega (arith, l, size);
+      range = λ bytes. record { drawn = omega arith; clock = omega arith; doubt = tt };
+      long = λ bytes fits. let size = length-at_rest bodies in let l = at bytes in omega (arith, l, size);
     }
+
+made_so : (texts : Texts) (shelf : ℕ) (bodies : List (List ℕ)) (x : Making) (m : Made) → made_in x ≡ Some m → FitsMaking (AreAllBytes bodies) texts shelf (8 + length (frames bodies)) x
+    → IsFitting texts shelf bodies m
+made_so texts shelf bodies nothing m is h = absurd (let no : ⊥ = cc in no)
+made_so texts shelf bodies waited m is h = absurd (let no : ⊥ = cc in no)
+made_so texts shelf bodies (waits s) m is h =
+    let at : waiting s ≡ m = cc in
+    subst (IsFitting texts shelf bodies) (ap waiting (sym h.0) ∙ at) (waiting_fits texts shelf bodies h.1)
+made_so texts shelf bodies (begun k) m is h =
+    let at : k ≡ m = cc in
+    subst (IsFitting texts shelf bodies) at (fitting texts shelf bodies k (begins_fits (AreAllBytes bodies) texts shelf (8 + length (frames bodies)) k h))
+made_so texts shelf bodies (made k) m is h = let at : k ≡ m = cc in subst (IsFitting texts shelf bodies) at (fitting texts shelf bodies k h)
+made_so texts shelf bodies (damaged p) m is h = absurd (let no : ⊥ = cc in no)
+made_so texts shelf bodies (other p) m is h = absurd (let no : ⊥ = cc in no)
+
+pub any_fit : AreRecordsExact → BodiesOfAnyFormatFit
+any_fit x format texts shelf bodies m is =
+    made_so texts shelf bodies (book_of_format format texts shelf bodies) m is (all_fit x format (AreAllBytes bodies) texts shelf 8 bodies nothing (λ bytes. bytes) refl)
 
 pub made_fits : AreRecordsExact → BodiesMakeFittingBooks
 made_fits x texts shelf bodies m is = any_fit x newest_format texts shelf bodies m (ap made_in (format_of_now texts shelf bodies) ∙ is)

@@ -34,7 +34,7 @@ alike_self m = record { like = like_self m.book; earlier = refl }
 alike_then : (m k j : Made) → Alike m k → Alike k j → Alike m j
 alike_then m k j one two = record { like = like_then j.book k.book m.book two.like one.like; earlier = two.earlier ∙ one.earlier }
 
-told_bare : (earlier : Earlier) (b : Book) (c : Change) (state : Option (List ℕ)) → told_in earlier b c state ≡ told_in earlier (bare b.shelf b.scripts b.clock b.instances) c state
+pub told_bare : (earlier : Earlier) (b : Book) (c : Change) (state : Option (List ℕ)) → told_in earlier b c state ≡ told_in earlier (bare b.shelf b.scripts b.clock b.instances) c state
 told_bare earlier b (opens o) state = refl
 told_bare earlier b (extends x) state = refl
 told_bare earlier b (ends e) state = refl
@@ -190,6 +190,14 @@ length_of_entries (tells c state body ∷ es) k ((names, (f, sure)), taken) =
     let one : (then_entry (tells c state body) k).book.length ≡ k.book.length + (length body + 5) =
     ap (λ (x : Made). x.book.length) (then_is k c state body (told_in k.earlier k.book c state) names refl f) in
     omega (arith, rest, one)
+
+-- no entry makes a shelf follow another one's journal
+pub follows_of_entries : (es : List Entry) (k : Made) → AreTakenEntries es k → (entries_after es k).book.follows ≡ k.book.follows
+follows_of_entries [] k taken = refl
+follows_of_entries (settles scripts body ∷ es) k taken = follows_of_entries es (then_entry (settles scripts body) k) taken.1
+follows_of_entries (tells c state body ∷ es) k ((names, (f, sure)), taken) =
+    follows_of_entries es (then_entry (tells c state body) k) taken
+    ∙ ap (λ (x : Made). x.book.follows) (then_is k c state body (told_in k.earlier k.book c state) names refl f)
 
 pub logged_of_entries : (sure : List ℕ → Type 0) (texts : Texts) (top : ℕ) (es : List Entry) (k : Made) → AreTakenEntries es k → AreFacts sure texts top es → k.book.logged ≡ top → (entries_after es k).book.logged ≡ top
 logged_of_entries sure texts top [] k taken facts is = is

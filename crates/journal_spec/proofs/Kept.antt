@@ -1,5 +1,5 @@
 -- How a journal goes on beside its shelf.
-use Rattle.std.proofs.Common.{◌≡◌, ◌⊎◌, ◌+◌, ℕ, List, [], ◌∷◌, ◌++◌, Option, Some, None, Bool, true, false, length, slice_get, refl, sym, ap, subst, ◌∙◌, inl, inr, ⊎_elim, append_assoc, if◌then◌else◌, arith}
+use Rattle.std.proofs.Common.{◌≡◌, ◌⊎◌, ◌+◌, ℕ, List, [], ◌∷◌, ◌++◌, Option, Some, None, Bool, true, false, length, slice_get, refl, sym, ap, subst, ◌∙◌, inl, inr, ⊎_elim, append_assoc, if◌then◌else◌}
 use Rattle.std.specs.Prelude.{Contains, nat_le, ⊤}
 use Rattle.std.proofs.lemmas.List.{append-nil}
 use Rattle.std.proofs.lemmas.Option.{same_Some}
@@ -10,13 +10,15 @@ use Rattle.replay_spec.specs.Book.{Instance, Change, sweeps, Work, Doubt, Book, 
 use Rattle.replay_spec.specs.Book as spec
 use Rattle.replay_spec.specs.Rules.{Journal, Rules, empty_book}
 use Rattle.replay_spec.specs.Change.{instances_by, land}
-use Rattle.replay_spec.specs.Compaction.{renewed_length, renewed_file}
-use Rattle.replay_spec.specs.Step.{Event, take, publish, sweep, compact, crash, Fate, publish_comes, compact_comes, fate_of, step}
+use Rattle.replay_spec.specs.Compaction.{renewed_length, renewed_file, going_on_with}
+use Rattle.replay_spec.specs.Step.{Event, take, publish, sweep, compact, crash, Fate, publish_comes, compact_comes, fate_of, recovered, step}
 use Rattle.replay_spec.specs.Runs.{lands}
 use Rattle.replay_spec.specs.Recovery.{of_length, number_in, resettled}
 use Rattle.replay_spec.specs.Invariant.{Among, IsOf, IsOrderlyChange, IsOrderly}
 use Rattle.replay_spec.specs.Laws.{IsLawful, Moment, then_book, book_after}
 use Rattle.replay_spec.specs.Remade.{AreUsed}
+use Rattle.replay_spec.proofs.Barred.{recovered_setup, some_setup, leader_opened}
+use Rattle.replay_spec.proofs.Reopened.{follower_opened}
 use Rattle.replay_spec.proofs.Stand.{Later, among_of}
 use Rattle.replay_spec.proofs.Going.{goes, loses}
 use Rattle.replay_spec.proofs.Orderly.{went, stepped, is_out, published, published_fewer, books_stay}
@@ -33,7 +35,7 @@ use Rattle.journal_spec.specs.Before.{Earlier, nothing_told, Made, plain, made_o
 use Rattle.journal_spec.specs.Retaking.{Told, unread, misread, told, told_in, held, landing, IsLanded, then_told, retaken}
 use Rattle.journal_spec.specs.Lengths.{state_by, state_told, told_own, own_told, own_body, journal_rules}
 use Rattle.journal_spec.specs.Making.{Texts, made, told_next, made_in, book_of}
-use Rattle.journal_spec.specs.Opening.{first_body, renewal_body, renewal_bodies, opened_book}
+use Rattle.journal_spec.specs.Opening.{first_body, renewal_body, opening_bodies, opened_book}
 use Rattle.journal_spec.specs.Whole.{AreWhole, HasWholeScripts}
 use Rattle.journal_spec.specs.Events.{IsGiven}
 use Rattle.journal_spec.specs.Owning.{OfEach, IsOwnState, IsOwnRecord, AreOwn, IsLandedRecord, AreLanded, IsOwnBefore}
@@ -46,7 +48,7 @@ use Rattle.journal_spec.proofs.Retaken.{held_fits, held_script}
 use Rattle.journal_spec.proofs.Makings.{made_push, renewed_push, made_first}
 use Rattle.journal_spec.proofs.Fitting.{WholeIn, whole_by}
 use Rattle.journal_spec.proofs.Appending.{IsAppended, event_appends}
-use Rattle.journal_spec.proofs.Setups.{same_setup, crashed_book}
+use Rattle.journal_spec.proofs.Setups.{same_setup, bodies_fed, bodies_unfed, crashed_book, crash_again}
 use Rattle.journal_spec.proofs.Taking.{IsNew, moved_in, there, told_after, used_then, IsMadeOf, follow_by}
 
 -- ---- the body of a change that would be taken makes the book behind it
@@ -58,23 +60,23 @@ told_here : (earlier : Earlier) (b : Book) (c : Change) (state : Option (List �
 told_here earlier b c state x is = moved_in earlier b b.logged [] None c state ∙ is
 
 lands_so : AreRecordsExact → (texts : Texts) (shelf : ℕ) (bodies : List (List ℕ)) (b : Book) (earlier : Earlier) (c : Change) (state : Option (List ℕ)) (inside : List TxName) (x : Told)
-    → Makes texts shelf bodies b earlier → IsInGrammar (changes c state) → told_in earlier b c state ≡ x → IsTakenAs b c inside x → IsNew earlier.seen c
+    → Makes texts shelf bodies b earlier → b.follows ≡ false → IsInGrammar (changes c state) → told_in earlier b c state ≡ x → IsTakenAs b c inside x → IsNew earlier.seen c
     → Makes texts shelf (bodies ++ body_by c state ∷ []) (land (of_length (length (body_by c state))) c inside b) (then_told c (Some inside) x earlier)
     × IsLanded (made_of b earlier) c x
-lands_so exact texts shelf bodies b earlier c state inside unread makes fits is taken new =
+lands_so exact texts shelf bodies b earlier c state inside unread makes unfed fits is taken new =
     let m = made_of b earlier in
     let n = length (body_by c state) in
     let lands = there b earlier c [] taken.0 new in
     let after = land (of_length n) c inside b in
     let then_it = then_told c (Some inside) unread earlier in
     let one : book_of texts shelf (bodies ++ body_by c state ∷ []) ≡ told_next (8 + length (frames bodies)) n m c unread =
-    made_push exact texts shelf bodies m c state unread makes fits (held_script b c [] [] taken.0) (told_here earlier b c state unread is) in
+    made_push exact texts shelf bodies m c state unread makes unfed fits (held_script b c [] [] taken.0) (told_here earlier b c state unread is) in
     let two : made (retaken n c (landing m c []) unread m) ≡ made (retaken n c (Some []) unread m) = ap (λ (o : Option (List TxName)). made (retaken n c o unread m)) lands in
     let three : made (retaken n c (Some []) unread m) ≡ made (made_of after then_it) =
     ap (λ (js : List Instance). made (record { book = record (reopened after) { instances = js }; earlier = then_it })) taken.1 in
     (ap made_in (one ∙ (two ∙ three)), lands)
-lands_so exact texts shelf bodies b earlier c state inside misread makes fits is taken new = absurd taken
-lands_so exact texts shelf bodies b earlier c state inside (told d) makes fits is taken new =
+lands_so exact texts shelf bodies b earlier c state inside misread makes unfed fits is taken new = absurd taken
+lands_so exact texts shelf bodies b earlier c state inside (told d) makes unfed fits is taken new =
     let m = made_of b earlier in
     let n = length (body_by c state) in
     let names = inside_of d.frames in
@@ -82,7 +84,7 @@ lands_so exact texts shelf bodies b earlier c state inside (told d) makes fits i
     let lands = there b earlier c names can new in
     let after = land (of_length n) c inside b in
     let one : book_of texts shelf (bodies ++ body_by c state ∷ []) ≡ told_next (8 + length (frames bodies)) n m c (told d) =
-    made_push exact texts shelf bodies m c state (told d) makes fits (held_script b c names names can) (told_here earlier b c state (told d) is) in
+    made_push exact texts shelf bodies m c state (told d) makes unfed fits (held_script b c names names can) (told_here earlier b c state (told d) is) in
     let two : made (retaken n c (landing m c names) (told d) m) ≡ made (retaken n c (Some names) (told d) m) = ap (λ (o : Option (List TxName)). made (retaken n c o (told d) m)) lands in
     let three : made (retaken n c (Some names) (told d) m) ≡ made (made_of after (then_told c (Some inside) (told d) earlier)) =
     ap (λ (ns : List TxName). made (retaken n c (Some ns) (told d) m)) taken.1 in
@@ -111,14 +113,14 @@ cut_last (x ∷ xs) y (f ∷ front) rest z e =
     (λ (more, cut). inr (more, λ i. both.0 i ∷ cut i))
     (cut_last xs y front rest z both.1)
 
-each_more : (P : Made → Option Record → Type 0) (texts : Texts) (shelf : ℕ) (bodies : List (List ℕ)) (body : List ℕ) → OfEach P texts shelf bodies
+pub each_more : (P : Made → Option Record → Type 0) (texts : Texts) (shelf : ℕ) (bodies : List (List ℕ)) (body : List ℕ) → OfEach P texts shelf bodies
     → ((m : Made) → made_in (book_of texts shelf bodies) ≡ Some m → P m (read_record body)) → OfEach P texts shelf (bodies ++ body ∷ [])
 each_more P texts shelf bodies body old new front rest z m e is = ⊎_elim
     (λ (same, last). subst (λ (w : List ℕ). P m (read_record w)) (sym last) (new m (ap (λ (bs : List (List ℕ)). made_in (book_of texts shelf bs)) (sym same) ∙ is)))
     (λ (more, cut). old front more z m cut is)
     (cut_last bodies body front rest z e)
 
-first_each : (P : Made → Option Record → Type 0) (texts : Texts) (shelf : ℕ) (body : List ℕ) → OfEach P texts shelf (body ∷ [])
+pub first_each : (P : Made → Option Record → Type 0) (texts : Texts) (shelf : ℕ) (body : List ℕ) → OfEach P texts shelf (body ∷ [])
 first_each P texts shelf body =
     each_more P texts shelf [] body (λ front rest z m e is. absurd (no_cut front z rest e)) (λ m is. absurd (let e : None ≡ Some m = is in let no : ⊥ = cc in no))
 
@@ -153,12 +155,12 @@ made_then : AreRecordsExact → (texts : Texts) (shelf : ℕ) (bodies : List (Li
     → Adds texts shelf bodies (landed_bodies b o) d (told_after b o earlier)
 made_then x texts shelf bodies b d None earlier whole makes is before spelled =
     adds_none texts shelf bodies d earlier (makes ∙ ap (λ (y : Book). Some (record { book = y; earlier = earlier })) (sym is))
-made_then x texts shelf bodies b d (Some c) earlier whole makes (inside, (taken, (new, is))) before spelled =
+made_then x texts shelf bodies b d (Some c) earlier whole makes (inside, (taken, (new, (is, unfed)))) before spelled =
     let state = state_told b c in
     let m = made_of b earlier in
     let then_it = told_after b (Some c) earlier in
     let its = own_is_read earlier b c before whole spelled in
-    let l = lands_so x texts shelf bodies b earlier c state inside (own_told b c) makes spelled.body its taken new in
+    let l = lands_so x texts shelf bodies b earlier c state inside (own_told b c) makes unfed spelled.body its taken new in
     let back : Some (changes c state) ≡ read_record (own_body b c) = sym (x.back (changes c state) spelled.body) in
     let here : own_told b c ≡ told_in earlier (reopened b) c state = sym (told_here earlier b c state (own_told b c) its) in
     let own : IsOwnRecord m (Some (changes c state)) = subst (IsOwnState (reopened b) c) here (is_own (reopened b) c (state_by b c) (moved_state b b.logged [] None c)) in
@@ -184,7 +186,8 @@ setup_kept rules b nonce (take target answer) fate h = took_setup b target nonce
 setup_kept rules b nonce (publish t) fate h = settled_setup rules (spend t.number b) (fate_of rules.journal fate) (publish_comes rules b t)
 setup_kept rules b nonce (sweep tick) fate h = swept_setup rules b tick (fate_of rules.journal fate) (nat_le tick b.clock)
 setup_kept rules b nonce compact fate h = settled_setup rules b (fate_of rules.journal fate) (compact_comes rules b)
-setup_kept rules b nonce (crash scripts) fate h = h
+setup_kept rules b nonce (crash scripts) fate h =
+    let y = recovered rules fate b.down b in some_setup (λ (ss : List Named). ss ≡ b.scripts) y scripts (recovered_setup rules fate b.down b) h
 
 -- what would be taken is no compaction
 pub appended : (b : Book) (o : Option Doubt) (x : Told) → IsTakenDoubt b o x → IsAppended o
@@ -209,7 +212,8 @@ event_kept_so x texts shelf bodies rules b nonce event fate over appends setup l
     let gone = goes rules b nonce event fate in
     let later = stepped m b r.orderly lawful in
     let same = setup_kept rules b nonce event fate setup in
-    let follows = follow_by shelf rules over b r.orderly r.whole k.earlier.seen d o gone lawful (event_appends rules b nonce event fate appends setup (appended b b.down r.doubted r.doubt)) same
+    let appends_so = event_appends rules b nonce event fate appends setup (appended b b.down r.doubted r.doubt) in
+    let follows = follow_by shelf rules over b r.orderly r.whole k.earlier.seen d o gone lawful appends_so same
     r.doubted r.doubt holds.doubt r.used in
     let adds = made_then x texts shelf bodies b d o k.earlier r.whole k.makes follows.made before spelled in
     record {
@@ -224,7 +228,7 @@ event_kept_so x texts shelf bodies rules b nonce event fate over appends setup l
             doubt = follows.doubt;
             used = used_then b d o k.earlier (uses rules b d o gone lawful r.orderly) later.fewer r.used;
           };
-          read = subst (λ (ss : List Named). texts (texts_of ss) ≡ Some ss) (sym same) k.read;
+          read = λ unfed. subst (λ (ss : List Named). texts (texts_of ss) ≡ Some ss) (sym same) (k.read (sym appends_so.role ∙ unfed));
         };
         doubt = follows.own;
       };
@@ -250,20 +254,21 @@ opened_later shelf scripts b g =
     went {lawful = ⊤} rules b (opened_book shelf scripts b) None (loses scripts) tt g
 
 pub renewed_kept : AreRecordsExact → RenewalsAreKept
-renewed_kept x texts shelf bodies b scripts k given differs =
+renewed_kept x texts shelf bodies b scripts k given unfed differs =
     let r = k.recoverable in
-    let d = opened_book shelf scripts b in
+    let d = going_on_with (Some (journal_rules shelf)) scripts b in
+    let here : opened_book shelf scripts b ≡ d = leader_opened (Some (journal_rules shelf)) scripts b unfed in
     let m = made_of b k.earlier in
     let n = length (renewal_body scripts) in
-    let later = opened_later shelf scripts b r.orderly in
+    let later = subst (Later b) here (opened_later shelf scripts b r.orderly) in
     let is : reopened d ≡ (resettled n scripts (plain m)).book = ap (λ (same : Bool). record (reopened b) {
       scripts = scripts;
       length = if same then b.length else renewed_length (Some (journal_rules shelf)) scripts b.length;
       file = if same then b.file else renewed_file (Some (journal_rules shelf)) scripts b.file;
     }) differs in
-    let makes = ap made_in (renewed_push x texts shelf bodies m scripts k.makes given.renews given.read) in
+    let makes = ap made_in (renewed_push x texts shelf bodies m scripts k.makes unfed given.renews given.read) in
     let back : Some (renewal_of scripts) ≡ read_record (renewal_body scripts) = sym (x.back (renewal_of scripts) given.renews) in
-    record {
+    subst (KeepsWith texts shelf bodies (renewal_body scripts ∷ [])) (sym here) (record {
       keeps = record {
         keeps = record {
           earlier = k.earlier;
@@ -275,13 +280,13 @@ renewed_kept x texts shelf bodies b scripts k given differs =
             doubt = tt;
             used = λ i there u. r.used i there (later.fewer i u);
           };
-          read = given.read;
+          read = λ still. given.read;
         };
         doubt = tt;
       };
       own = λ h. each_more IsOwnRecord texts shelf bodies (renewal_body scripts) h (λ z is. subst (IsOwnRecord z) back tt);
       landed = λ h. each_more IsLandedRecord texts shelf bodies (renewal_body scripts) h (λ z is. subst (IsLandedRecord z) back tt);
-    }
+    })
 
 -- ---- more bodies, and then more
 
@@ -310,20 +315,39 @@ quiet_more texts shelf bodies more b h = subst (λ (bs : List (List ℕ)). Keeps
 -- a crash that gives a setup, behind one by which the setup stays
 crash_kept : AreRecordsExact → (texts : Texts) (shelf : ℕ) (bodies more : List (List ℕ)) (rules : Rules) (b : Book) (nonce : ℕ) (scripts : List Named) (fate : Fate) → AreOver rules shelf
     → IsGiven texts scripts → Keeps texts shelf bodies b → KeepsWith texts shelf bodies more (step rules b nonce (crash b.scripts) fate).1
-    → KeepsWith texts shelf bodies (more ++ renewal_bodies scripts b.scripts) (step rules b nonce (crash scripts) fate).1
-unfolding step
-crash_kept x texts shelf bodies more rules b nonce scripts fate over given k first = by_test (are_same scripts b.scripts) refl
+    → (step rules b nonce (crash b.scripts) fate).1.follows ≡ b.follows
+    → KeepsWith texts shelf bodies (more ++ opening_bodies scripts b) (step rules b nonce (crash scripts) fate).1
+crash_kept x texts shelf bodies more rules b nonce scripts fate over given k first stays = by_role b.follows refl
   where
     d : Book
     d = (step rules b nonce (crash b.scripts) fate).1
 
-    by_test : (t : Bool) → are_same scripts b.scripts ≡ t → KeepsWith texts shelf bodies (more ++ (if t then [] else renewal_body scripts ∷ [])) (step rules b nonce (crash scripts) fate).1
-    by_test true e =
-        quiet_more texts shelf bodies more (step rules b nonce (crash scripts) fate).1
-        (subst (λ (ss : List Named). KeepsWith texts shelf bodies more (step rules b nonce (crash ss) fate).1) (sym (same_setup texts scripts b.scripts given.read k.read e)) first)
-    by_test false e =
-        subst (KeepsWith texts shelf bodies (more ++ renewal_body scripts ∷ [])) (sym (crashed_book rules shelf b nonce scripts fate over))
-        (with_more texts shelf bodies more (renewal_body scripts ∷ []) d (opened_book shelf scripts d) first (renewed_kept x texts shelf (bodies ++ more) d scripts first.keeps.keeps given e))
+    e : Book
+    e = (step rules b nonce (crash scripts) fate).1
+
+    opened : e ≡ opened_book shelf scripts d
+    opened = crashed_book rules shelf b nonce scripts fate over
+
+    -- a shelf that follows is told no setup
+    fed_kept : b.follows ≡ true → KeepsWith texts shelf bodies (more ++ opening_bodies scripts b) e
+    fed_kept fed =
+        let same : e ≡ d = opened ∙ (follower_opened (Some (journal_rules shelf)) scripts d (stays ∙ fed) ∙ crash_again rules b nonce b.scripts fate) in
+        subst (λ (bs : List (List ℕ)). KeepsWith texts shelf bodies (more ++ bs) e) (sym (bodies_fed scripts b fed))
+        (quiet_more texts shelf bodies more e (subst (KeepsWith texts shelf bodies more) (sym same) first))
+
+    by_test : b.follows ≡ false → (t : Bool) → are_same scripts b.scripts ≡ t → KeepsWith texts shelf bodies (more ++ (if t then [] else renewal_body scripts ∷ [])) e
+    by_test unfed true same =
+        quiet_more texts shelf bodies more e
+        (subst (λ (ss : List Named). KeepsWith texts shelf bodies more (step rules b nonce (crash ss) fate).1) (sym (same_setup texts scripts b.scripts given.read (k.read unfed) same)) first)
+    by_test unfed false differs =
+        subst (KeepsWith texts shelf bodies (more ++ renewal_body scripts ∷ [])) (sym opened)
+        (with_more texts shelf bodies more (renewal_body scripts ∷ []) d (opened_book shelf scripts d) first
+        (renewed_kept x texts shelf (bodies ++ more) d scripts first.keeps.keeps given (stays ∙ unfed) (subst (λ (ss : List Named). are_same scripts ss ≡ false) (sym (setup_kept rules b nonce (crash b.scripts) fate refl)) differs)))
+
+    by_role : (fed : Bool) → b.follows ≡ fed → KeepsWith texts shelf bodies (more ++ opening_bodies scripts b) e
+    by_role true fed = fed_kept fed
+    by_role false unfed =
+        subst (λ (bs : List (List ℕ)). KeepsWith texts shelf bodies (more ++ bs) e) (sym (bodies_unfed scripts b unfed)) (by_test unfed (are_same scripts b.scripts) refl)
 
 pub event_kept : AreRecordsExact → EventsAreKept
 event_kept x texts shelf bodies rules b nonce (take target answer) fate over appends gives lawful k before spelled =
@@ -336,6 +360,7 @@ event_kept x texts shelf bodies rules b nonce compact fate over appends gives la
 event_kept x texts shelf bodies rules b nonce (crash scripts) fate over appends gives lawful k before spelled =
     crash_kept x texts shelf bodies (landed_bodies b (lands rules b (crash scripts) fate)) rules b nonce scripts fate over gives k.keeps
     (event_kept_so x texts shelf bodies rules b nonce (crash b.scripts) fate over tt refl tt k before spelled)
+    (event_appends rules b nonce (crash b.scripts) fate tt refl (appended b b.down k.keeps.recoverable.doubted k.keeps.recoverable.doubt)).role
 
 -- ---- a run
 
@@ -354,12 +379,10 @@ pub fresh_kept : AreRecordsExact → FreshJournalsAreKept
 fresh_kept x texts shelf rules scripts over given fits =
     let b = empty_book rules scripts shelf in
     let n = length (first_body scripts shelf) in
-    let long : (14 + n) + 0 ≡ 14 + n = omega arith in
     let is : reopened (empty_book (record rules { journal = Some (journal_rules shelf) }) scripts shelf) ≡ b = ap (λ (j : Option Journal). empty_book (record rules { journal = j }) scripts shelf) (sym over) in
     let makes : made_in (book_of texts shelf (first_body scripts shelf ∷ [])) ≡ Some (made_of b nothing_told) =
     ap made_in (made_first x texts shelf scripts fits given.read)
-    ∙ (ap (λ (l : ℕ). Some (record { book = record (empty_book (record rules { journal = Some (journal_rules shelf) }) scripts shelf) { length = l }; earlier = nothing_told })) long
-    ∙ ap (λ (y : Book). Some (record { book = y; earlier = nothing_told })) is) in (
+    ∙ ap (λ (y : Book). Some (record { book = y; earlier = nothing_told })) is in (
       record {
         keeps = record {
           earlier = nothing_told;
@@ -371,7 +394,7 @@ fresh_kept x texts shelf rules scripts over given fits =
             doubt = tt;
             used = λ i there u. there;
           };
-          read = given.read;
+          read = λ unfed. given.read;
         };
         doubt = tt;
       },
@@ -434,13 +457,13 @@ taken_fits b c inside misread h = absurd h
 taken_fits b c inside (told d) h = held_fits b c inside inside h.0
 
 pub landing_kept : AreRecordsExact → LandingsAreKept
-landing_kept x texts shelf bodies b c state inside keeps up fits taken out =
+landing_kept x texts shelf bodies b c state inside keeps up unfed fits taken out =
     let r = keeps.recoverable in
     let n = length (body_by c state) in
     let d = landed_in n c inside b in
     let its = told_in keeps.earlier b c state in
     let then_it = then_told c (Some inside) its keeps.earlier in
-    let l = lands_so x texts shelf bodies b keeps.earlier c state inside its keeps.makes fits refl taken (new_if_out b c keeps.earlier.seen r.used out) in
+    let l = lands_so x texts shelf bodies b keeps.earlier c state inside its keeps.makes unfed fits refl taken (new_if_out b c keeps.earlier.seen r.used out) in
     let into = landing_in n b c inside r.orderly up (taken_fits b c inside its taken) out in
     record {
       earlier = then_it;
@@ -455,5 +478,5 @@ landing_kept x texts shelf bodies b c state inside keeps up fits taken out =
         doubt = subst (λ (o : Option Doubt). IsTakenDoubt d o unread) (sym into.up) tt;
         used = used_then b d (Some c) keeps.earlier into.uses into.later.fewer r.used;
       };
-      read = subst (λ (ss : List Named). texts (texts_of ss) ≡ Some ss) (sym into.setup) keeps.read;
+      read = λ still. subst (λ (ss : List Named). texts (texts_of ss) ≡ Some ss) (sym into.setup) (keeps.read unfed);
     }

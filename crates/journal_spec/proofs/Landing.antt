@@ -7,7 +7,7 @@ use Rattle.replay_spec.specs.Change.{land}
 use Rattle.replay_spec.specs.Compaction.{compacted_length, rewritten}
 use Rattle.replay_spec.specs.Admission.{when, admit}
 use Rattle.replay_spec.specs.Next.{Ticket}
-use Rattle.replay_spec.specs.Step.{Event, take, publish, sweep, compact, crash, Fate, plain, no_memory, disk_fault, lost, kept, Reply, Decision, replies, records, compacts, unless, down_by, full_journal, decide, decide_sweep, decide_compact, freed, most_of_journal, fate_of, carried_out, in_doubt, settle, publish_comes, sweep_comes, compact_comes, no_take, take_unless, take_by, swept, step}
+use Rattle.replay_spec.specs.Step.{Event, take, publish, sweep, compact, crash, Fate, plain, no_memory, disk_fault, lost, kept, Reply, Decision, replies, records, compacts, unless, barred, full_journal, decide, decide_sweep, decide_compact, freed, most_of_journal, fate_of, carried_out, in_doubt, settle, publish_comes, sweep_comes, compact_comes, no_take, take_unless, take_by, swept, step}
 use Rattle.replay_spec.specs.Runs.{doubted, recorded_under, kept_under, lands}
 use Rattle.replay_spec.specs.Invariant.{IsOrderly}
 use Rattle.replay_spec.specs.Laws.{IsLawful, Moment, then_book}
@@ -19,6 +19,7 @@ use Rattle.journal_spec.specs.Whole.{IsSpelledState}
 use Rattle.journal_spec.specs.Spelling.{IsInRange}
 use Rattle.journal_spec.specs.Events.{CanLand, IsTypedDecision, IsMet}
 use Rattle.journal_spec.proofs.Brief.{moved_state, moved_told, Comes, published_comes, short}
+use Rattle.replay_spec.proofs.Barred.{not_barred}
 use Rattle.journal_spec.proofs.Spelled.{recorded_spelled}
 
 -- what can land on a book can land where other numbers are drawn and out, and whatever is in doubt
@@ -75,18 +76,18 @@ tick_can : (b : Book) (tick : ℕ) → tick < numbers_end → CanLand b (Some (s
 tick_can b tick below = (record { body = below; state = tt }, omega arith)
 
 swept_can : (rules : Rules) (b : Book) (tick : ℕ) → tick < numbers_end → CanDecide b (sweep_comes rules b tick)
-swept_can rules b tick below = by_tests b.down (full_journal rules.journal b (sweeps tick))
+swept_can rules b tick below = by_tests (barred b) (full_journal rules.journal b (sweeps tick))
   where
-    by_tests : (o : Option Doubt) (p : Option Reply) → CanDecide b (unless (down_by o) (unless p (records (swept (freed tick b)) (sweeps tick) [])))
-    by_tests (Some doubt) p = tt
+    by_tests : (o p : Option Reply) → CanDecide b (unless o (unless p (records (swept (freed tick b)) (sweeps tick) [])))
+    by_tests (Some r) p = tt
     by_tests None (Some r) = tt
     by_tests None None = tick_can b tick below
 
 compacted_can : (rules : Rules) (b : Book) → CanDecide b (compact_comes rules b)
-compacted_can rules b = by_tests b.down (when (nat_lt most_of_journal (compacted_length rules.journal b)) (Reply.journal_full (compacted_length rules.journal b)))
+compacted_can rules b = by_tests (barred b) (when (nat_lt most_of_journal (compacted_length rules.journal b)) (Reply.journal_full (compacted_length rules.journal b)))
   where
-    by_tests : (o : Option Doubt) (p : Option Reply) → CanDecide b (unless (down_by o) (unless p (compacts (Reply.compacted (compacted_length rules.journal b)))))
-    by_tests (Some doubt) p = tt
+    by_tests : (o p : Option Reply) → CanDecide b (unless o (unless p (compacts (Reply.compacted (compacted_length rules.journal b)))))
+    by_tests (Some r) p = tt
     by_tests None (Some r) = tt
     by_tests None None = tt
 
@@ -152,10 +153,10 @@ decide_moved b out (records r c inside) h = can_moved b b.drawn out b.down (Some
 decide_moved b out (compacts r) h = tt
 
 -- a decision leaves in doubt what can land
-settled_can : (rules : Rules) (b : Book) (out : List ℕ) (fate : Fate) (d : Decision) (o : Option Doubt) → b.down ≡ o → CanDecide b (unless (down_by o) d) → CanLandDoubt b
-    → CanLandDoubt (settle rules (record b { out = out }) fate (unless (down_by o) d)).1
-settled_can rules b out fate d None is can h = settled_up rules (record b { out = out }) fate d is (decide_moved b out d can)
-settled_can rules b out fate d (Some doubt) is can h = replied_can rules (record b { out = out }) fate (Reply.down doubt.count) (can_moved b b.drawn out b.down (doubted b.down) h)
+settled_can : (rules : Rules) (b : Book) (out : List ℕ) (fate : Fate) (d : Decision) (o : Option Reply) → barred b ≡ o → CanDecide b (unless o d) → CanLandDoubt b
+    → CanLandDoubt (settle rules (record b { out = out }) fate (unless o d)).1
+settled_can rules b out fate d None is can h = settled_up rules (record b { out = out }) fate d (not_barred b is).0 (decide_moved b out d can)
+settled_can rules b out fate d (Some r) is can h = replied_can rules (record b { out = out }) fate r (can_moved b b.drawn out b.down (doubted b.down) h)
 
 took_can : (b : Book) (nonce : ℕ) (o : Option Reply) → CanLandDoubt b → CanLandDoubt (take_unless o b nonce).1
 took_can b nonce None h = can_moved b _ _ b.down (doubted b.down) h
@@ -182,11 +183,11 @@ doubt_can texts shelf m b met lawful g whole range h = by_event m.event met lawf
         by_fate lost = took_can b m.nonce (no_take b target) h
         by_fate kept = took_can b m.nonce (no_take b target) h
     by_event (publish t) met lawful =
-        settled_can m.rules b (spend t.number b).out (fate_of m.rules.journal m.fate) (decide m.rules b t (admit b t.target)) b.down refl
+        settled_can m.rules b (spend t.number b).out (fate_of m.rules.journal m.fate) (decide m.rules b t (admit b t.target)) (barred b) refl
         (published_can texts shelf m b t met lawful g whole range) h
     by_event (sweep tick) met lawful =
         if_late tick (nat_le tick b.clock)
-        (settled_can m.rules b b.out (fate_of m.rules.journal m.fate) (decide_sweep m.rules tick b) b.down refl (swept_can m.rules b tick met.tick) h)
+        (settled_can m.rules b b.out (fate_of m.rules.journal m.fate) (decide_sweep m.rules tick b) (barred b) refl (swept_can m.rules b tick met.tick) h)
     by_event compact met lawful =
-        settled_can m.rules b b.out (fate_of m.rules.journal m.fate) (decide_compact m.rules b) b.down refl (compacted_can m.rules b) h
+        settled_can m.rules b b.out (fate_of m.rules.journal m.fate) (decide_compact m.rules b) (barred b) refl (compacted_can m.rules b) h
     by_event (crash scripts) met lawful = tt

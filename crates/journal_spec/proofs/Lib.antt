@@ -37,3 +37,6 @@ pub mod Again
 pub mod Rewriting
 pub mod Between
 pub mod Standings
+pub mod Feeding
+pub mod Fronts
+pub mod Unfed

@@ -16,7 +16,7 @@ use Rattle.journal_records.specs.Old.{read_record_in}
 use Rattle.journal_spec.specs.Before.{Made}
 use Rattle.journal_spec.specs.Retaking.{Told, unread, misread, told}
 use Rattle.journal_spec.specs.Lengths.{state_over, state_by}
-use Rattle.journal_spec.specs.Making.{Texts, Making, nothing, begun, made, damaged, other, made_in}
+use Rattle.journal_spec.specs.Making.{Texts, Making, nothing, waits, waited, begun, made, damaged, other, made_in}
 use Rattle.journal_spec.specs.Old.{with_body_at, with_bodies_at, book_of_format}
 use Rattle.journal_spec.specs.Owning.{IsOwnState}
 use Rattle.journal_spec.specs.Copying.{Entry, tells, settles, then_entry}
@@ -85,6 +85,8 @@ module _ (P : Made → Option Record → Type 0) (format : ℕ) (texts : Texts) 
   held_at front rest body (begun m) is reach = held front rest body m is (ap made_in reach)
   held_at front rest body (made m) is reach = held front rest body m is (ap made_in reach)
   held_at front rest body nothing is reach = tt
+  held_at front rest body (waits s) is reach = tt
+  held_at front rest body waited is reach = tt
   held_at front rest body (damaged place) is reach = tt
   held_at front rest body (other place) is reach = tt
 

@@ -10,7 +10,7 @@ use Rattle.replay_spec.specs.Rules.{Rules}
 use Rattle.replay_spec.specs.Change.{logged_by, clock_by, land}
 use Rattle.replay_spec.specs.Admission.{when, or_else, refusal_of, admit}
 use Rattle.replay_spec.specs.Next.{Ticket}
-use Rattle.replay_spec.specs.Step.{take, publish, sweep, compact, crash, Fate, plain, no_memory, disk_fault, lost, kept, Reply, worn, swept, Decision, replies, records, compacts, unless, down_by, refused_by, full_journal, freed, publish_comes, sweep_comes, compact_comes, most_of_journal, journal_full, compacted, fate_of, settle, recovered, no_take, take_unless, take_by, step}
+use Rattle.replay_spec.specs.Step.{take, publish, sweep, compact, crash, Fate, plain, no_memory, disk_fault, lost, kept, Reply, worn, swept, Decision, replies, records, compacts, unless, barred, refused_by, full_journal, freed, publish_comes, sweep_comes, compact_comes, most_of_journal, journal_full, compacted, fate_of, settle, recovered, no_take, take_unless, take_by, step}
 use Rattle.replay_spec.specs.Invariant.{IsOf, IsIn, IsDoubted, IsOrderly}
 use Rattle.journal_records.specs.Fields.{numbers_end}
 use Rattle.journal_spec.specs.Spelling.{IsTickInRange, IsWorkInRange, IsDoubtInRange, IsInRange, RangesAreKept}
@@ -63,7 +63,7 @@ took_range : (b : Book) (nonce : ℕ) (target : _) (fate : Fate) → IsInRange b
 took_range b nonce target fate h = by_fate fate
   where
     one : IsInRange (take_unless (no_take b target) b nonce).1
-    one = drawn_range b nonce (no_take b target) h (not_worn (down_by b.down) (b.drawn == numbers_end) (refused_by (refusal_of (admit b target))))
+    one = drawn_range b nonce (no_take b target) h (not_worn (barred b) (b.drawn == numbers_end) (refused_by (refusal_of (admit b target))))
 
     by_fate : (f : Fate) → IsInRange (take_by b target nonce f).1
     by_fate no_memory = h
@@ -90,7 +90,7 @@ swept_range : (rules : Rules) (b : Book) (tick : ℕ) (fate : Fate) (is_late : B
     → IsInRange (if is_late then (swept 0, b) else settle rules b fate (sweep_comes rules b tick)).1
 swept_range rules b tick fate true h low = h
 swept_range rules b tick fate false h low =
-    settled_range rules b fate (sweep_comes rules b tick) h (swept_ticks tick (down_by b.down) (full_journal rules.journal b (sweeps tick)) (swept (freed tick b)) low)
+    settled_range rules b fate (sweep_comes rules b tick) h (swept_ticks tick (barred b) (full_journal rules.journal b (sweeps tick)) (swept (freed tick b)) low)
 
 -- what is in doubt has a number that was drawn
 doubted_range : (c : Change) (drawn : ℕ) → ((n : ℕ) → IsOf n c → n < drawn) → logged_by c ≤ drawn
@@ -137,5 +137,5 @@ ranges_kept rules b nonce (publish t) fate g h gives =
 ranges_kept rules b nonce (sweep tick) fate g h gives = swept_range rules b tick (fate_of rules.journal fate) (nat_le tick b.clock) h gives
 ranges_kept rules b nonce compact fate g h gives =
     let n = compacted_length rules.journal b in
-    settled_range rules b (fate_of rules.journal fate) (compact_comes rules b) h (compact_range (down_by b.down) (when (nat_lt most_of_journal n) (journal_full n)) (compacted n))
+    settled_range rules b (fate_of rules.journal fate) (compact_comes rules b) h (compact_range (barred b) (when (nat_lt most_of_journal n) (journal_full n)) (compacted n))
 ranges_kept rules b nonce (crash scripts) fate g h gives = crashed_range rules scripts b fate b.down refl g h

@@ -1,5 +1,5 @@
 -- What records that carry states make is orderly.
-use Rattle.std.proofs.Common.{◌≡◌, ◌<◌, ℕ, List, [], length, Option, Some, None, Bool, true, false, refl, sym, subst, ◌∙◌, arith, slice_get}
+use Rattle.std.proofs.Common.{◌≡◌, ◌<◌, ℕ, List, [], length, Option, Some, None, Bool, true, false, refl, sym, ap, subst, ◌∙◌, arith, slice_get}
 use Rattle.std.specs.Prelude.{if◌then◌else◌, nat_lt}
 use Rattle.std.proofs.lemmas.Bool.Decides.{nat_tests}
 use Rattle.std.proofs.lemmas.Option.{slice_get_within, same_Some}
@@ -14,7 +14,7 @@ use Rattle.replay_spec.proofs.Stand.{orderly_less}
 use Rattle.replay_spec.proofs.Landed.{land_well}
 use Rattle.replay_spec.proofs.Goers.{pages_of, go_used}
 use Rattle.replay_spec.proofs.Recovered.{place_is, if_can, made_orderly, Unseen, page_there, new_number, more_seen, redone_logged}
-use Rattle.journal_spec.specs.Making.{has_script}
+use Rattle.journal_spec.specs.Making.{has_script, in_file}
 use Rattle.journal_spec.specs.Before.{Made, plain}
 use Rattle.journal_spec.specs.Retaking.{Told, held, landing, retaken}
 
@@ -85,3 +85,8 @@ passed_orderly n c x m h = record {
       subst (λ (l : ℕ). k < l) same (((made_orderly (of_length n)).1 c p h).counted k there);
   again = refl;
 }
+
+-- how long the file is, and whether the shelf follows another one's journal, make no difference
+pub filed_orderly : (fed : Bool) (n : ℕ) (m : Made) → IsOrderlyMade (plain m) → IsOrderlyMade (plain (in_file fed n m))
+filed_orderly fed n m h =
+    record { instances = h.instances; counted = h.counted; again = ap (λ (b : Book). record b { length = n; follows = fed }) h.again }

@@ -67,8 +67,8 @@ told_lands m c (told d) names h = h
 abbrev Any : Made → Type 0
 Any m = ⊤
 
-any_start : (f : ℕ) (texts : Texts) (shelf n : ℕ) (e : Made) → AtStart f texts shelf n e Any
-any_start f texts shelf n e from later rest small is = record { begins = tt; drawn = λ number. tt }
+any_start : (f : ℕ) (texts : Texts) (shelf : ℕ) (e : Made) → AtStart f texts shelf e Any
+any_start f texts shelf e from later rest small is = record { begins = λ fed place n. tt; drawn = λ fed place n number. tt }
 
 -- ---- the newest format
 
@@ -99,14 +99,14 @@ own_is_carried f ls = record {
 }
 
 pub copies_make : AreRecordsExact → CopiesMakeTheBook
-copies_make x texts shelf first bodies m bytes makes =
-    let r = rewritten x (IsOwnRecordIn newest_format) IsOwnRecord own_is_joined newest_format (newest_format ≡ newest_format) AnyBody texts shelf first bodies m Any (own_is_carried newest_format m.book.instances) (newest_rewrites x m.book.instances texts m)
-    (any_start newest_format texts shelf (length first) m) bytes (ap made_in (format_of_now texts shelf (first ∷ bodies)) ∙ makes) (λ d rest is. any_bodies rest) in
+copies_make x texts shelf bodies m bytes makes unfed =
+    let r = rewritten x (IsOwnRecordIn newest_format) IsOwnRecord own_is_joined newest_format (newest_format ≡ newest_format) AnyBody texts shelf bodies m Any (own_is_carried newest_format m.book.instances) (newest_rewrites x m.book.instances texts m)
+    (any_start newest_format texts shelf m) bytes (ap made_in (format_of_now texts shelf bodies) ∙ makes) unfed (λ first d rest is. any_bodies rest) in
     (r.k, r.makes, r.compacted refl)
 
 -- a file of it can be compacted
-pub newest_copied : (texts : Texts) (shelf : ℕ) (first : List ℕ) (bodies : List (List ℕ)) (m : Made) → CanBeCopied newest_format texts shelf first bodies m
-newest_copied texts shelf first bodies m = record {
+pub newest_copied : (texts : Texts) (shelf : ℕ) (bodies : List (List ℕ)) (m : Made) → CanBeCopied newest_format texts shelf bodies m
+newest_copied texts shelf bodies m = record {
   known = refl;
   anew = record { stored = λ low. absurd (let no : false ≡ true = low in let never : ⊥ = cc in never); whole = λ one. absurd (omega (arith, one)) };
   room = λ older. absurd (older refl);
@@ -185,43 +185,43 @@ again_rewrites x texts e stored = record {
   copied = λ same m body c state. absurd (omega (arith, same));
 }
 
-own_start : AreRecordsExact → (texts : Texts) (shelf n : ℕ) (e : Made) → AreWhole e.book.scripts → AtStart 1 texts shelf n e IsOwn
-own_start x texts shelf n e whole from later rest small is =
+own_start : AreRecordsExact → (texts : Texts) (shelf : ℕ) (e : Made) → AreWhole e.book.scripts → AtStart 1 texts shelf e IsOwn
+own_start x texts shelf e whole from later rest small is =
     let all : AreWhole from.book.scripts = subst AreWhole (setup_stays x [] texts shelf later rest from e small is) whole in
     record {
-      begins = (record { setup = all; instances = λ k i found. absurd (let no : ⊥ = cc in no) }, λ k n i p found shown. absurd (let no : ⊥ = cc in no));
-      drawn = λ number. (record { setup = all; instances = λ k i found. absurd (let no : ⊥ = cc in no) }, λ k n i p found shown. absurd (let no : ⊥ = cc in no));
+      begins = λ fed place n. (record { setup = all; instances = λ k i found. absurd (let no : ⊥ = cc in no) }, λ k n i p found shown. absurd (let no : ⊥ = cc in no));
+      drawn = λ fed place n number. (record { setup = all; instances = λ k i found. absurd (let no : ⊥ = cc in no) }, λ k n i p found shown. absurd (let no : ⊥ = cc in no));
     }
 
 -- ---- all formats
 
-module _ (x : AreRecordsExact) (In : ℕ → Made → Option Record → Type 0) (P : Made → Option Record → Type 0) (j : IsJoined P) (texts : Texts) (shelf : ℕ) (first : List ℕ)
-    (bodies : List (List ℕ)) (m : Made) (carried : (f : ℕ) → IsCarried f m.book.instances (In f) P) (bytes : AreAllBytes (first ∷ bodies)) where
+module _ (x : AreRecordsExact) (In : ℕ → Made → Option Record → Type 0) (P : Made → Option Record → Type 0) (j : IsJoined P) (texts : Texts) (shelf : ℕ)
+    (bodies : List (List ℕ)) (m : Made) (carried : (f : ℕ) → IsCarried f m.book.instances (In f) P) (bytes : AreAllBytes bodies) (unfed : m.book.follows ≡ false) where
   -- a file of this format, of which that is known
   abbrev Comes : ℕ → Type 0
   Comes f =
-      IsToldAnew f m → made_in (book_of_format f texts shelf (first ∷ bodies)) ≡ Some m
-      → ((f ≡ newest_format → ⊥) → length (at_rest (copies f texts shelf first bodies m)) ≤ 2 ^ 30) → Rewritten (In f) P f (f ≡ newest_format) texts shelf first bodies m
+      IsToldAnew f m → made_in (book_of_format f texts shelf bodies) ≡ Some m
+      → ((f ≡ newest_format → ⊥) → length (at_rest (copies f texts shelf bodies m)) ≤ 2 ^ 30) → Rewritten (In f) P f (f ≡ newest_format) texts shelf bodies m
 
-  older : (f : ℕ) → (f ≡ newest_format → ⊥) → (Has : Made → Type 0) → Rewrites f (f ≡ newest_format) IsShortBody m.book.instances texts m Has → AtStart f texts shelf (length first) m Has
-      → made_in (book_of_format f texts shelf (first ∷ bodies)) ≡ Some m → ((f ≡ newest_format → ⊥) → length (at_rest (copies f texts shelf first bodies m)) ≤ 2 ^ 30)
-      → Rewritten (In f) P f (f ≡ newest_format) texts shelf first bodies m
+  older : (f : ℕ) → (f ≡ newest_format → ⊥) → (Has : Made → Type 0) → Rewrites f (f ≡ newest_format) IsShortBody m.book.instances texts m Has → AtStart f texts shelf m Has
+      → made_in (book_of_format f texts shelf bodies) ≡ Some m → ((f ≡ newest_format → ⊥) → length (at_rest (copies f texts shelf bodies m)) ≤ 2 ^ 30)
+      → Rewritten (In f) P f (f ≡ newest_format) texts shelf bodies m
   older f old Has r starts makes fits =
-      rewritten x (In f) P j f (f ≡ newest_format) IsShortBody texts shelf first bodies m Has (carried f) r starts bytes makes (λ d rest is. rest_short (copies f texts shelf first bodies m) first d rest is (fits old))
+      rewritten x (In f) P j f (f ≡ newest_format) IsShortBody texts shelf bodies m Has (carried f) r starts bytes makes unfed (λ first d rest is. rest_short (copies f texts shelf bodies m) first d rest is (fits old))
 
   late : (f : ℕ) → (f ≡ newest_format → ⊥) → ((m : Made) (c : Change) (state : Option (List ℕ)) → told_of f m c state ≡ told_in m.earlier m.book c state)
       → ((m : Made) (c : Change) (x : Told) → landing_of f m c x ≡ landing_told m c x) → ((m : Made) (c : Change) (state : Option (List ℕ)) → state_now f m c state ≡ state)
       → ((m : Made) (body : List ℕ) (c : Change) (state : Option (List ℕ)) → body_now f m body c state ≡ body_of (changes c (state_now f m c state))) → Comes f
   late f old told_is landing_is state_is body_is anew makes fits =
-      older f old Any (late_rewrites x f old told_is landing_is state_is body_is m.book.instances texts m) (any_start f texts shelf (length first) m) makes fits
+      older f old Any (late_rewrites x f old told_is landing_is state_is body_is m.book.instances texts m) (any_start f texts shelf m) makes fits
 
   from_1 : Comes 1
   from_1 anew makes fits =
-      older 1 (λ same. omega (arith, same)) IsOwn (again_rewrites x texts m (anew.stored refl)) (own_start x texts shelf (length first) m (anew.whole refl)) makes fits
+      older 1 (λ same. omega (arith, same)) IsOwn (again_rewrites x texts m (anew.stored refl)) (own_start x texts shelf m (anew.whole refl)) makes fits
 
   from_2 : Comes 2
   from_2 anew makes fits =
-      older 2 (λ same. omega (arith, same)) Any (alone_rewrites x texts m (anew.stored refl)) (any_start 2 texts shelf (length first) m) makes fits
+      older 2 (λ same. omega (arith, same)) Any (alone_rewrites x texts m (anew.stored refl)) (any_start 2 texts shelf m) makes fits
 
   from_3 : Comes 3
   from_3 = late 3 (λ same. omega (arith, same)) (λ m c state. refl) (λ m c x. refl) (λ m c state. refl) (λ m body c state. refl)
@@ -234,8 +234,8 @@ module _ (x : AreRecordsExact) (In : ℕ → Made → Option Record → Type 0) 
 
   from_6 : Comes 6
   from_6 anew makes fits =
-      rewritten x (In newest_format) P j newest_format (newest_format ≡ newest_format) AnyBody texts shelf first bodies m Any (carried newest_format) (newest_rewrites x m.book.instances texts m) (any_start newest_format texts shelf (length first) m) bytes makes
-      (λ d rest is. any_bodies rest)
+      rewritten x (In newest_format) P j newest_format (newest_format ≡ newest_format) AnyBody texts shelf bodies m Any (carried newest_format) (newest_rewrites x m.book.instances texts m) (any_start newest_format texts shelf m) bytes makes unfed
+      (λ first d rest is. any_bodies rest)
 
   by_format : (f : ℕ) → 1 ≤ f → f ≤ 6 → Comes f
   by_format zero low high = absurd (omega (arith, low))
@@ -253,18 +253,18 @@ module _ (x : AreRecordsExact) (In : ℕ → Made → Option Record → Type 0) 
       by_format f (let low = both.0 in grind (arith, nat_tests, low)) (let high = both.1 in grind (arith, nat_tests, high))
 
 -- own states
-own_comes : (x : AreRecordsExact) (texts : Texts) (shelf : ℕ) (first : List ℕ) (bodies : List (List ℕ)) (m : Made) → AreAllBytes (first ∷ bodies) → (f : ℕ) → is_format f ≡ true
-    → IsToldAnew f m → made_in (book_of_format f texts shelf (first ∷ bodies)) ≡ Some m
-    → ((f ≡ newest_format → ⊥) → length (at_rest (copies f texts shelf first bodies m)) ≤ 2 ^ 30) → Rewritten (IsOwnRecordIn f) IsOwnRecord f (f ≡ newest_format) texts shelf first bodies m
-own_comes x texts shelf first bodies m bytes f known =
-    known_comes x IsOwnRecordIn IsOwnRecord own_is_joined texts shelf first bodies m (λ g. own_is_carried g m.book.instances) bytes f known
+own_comes : (x : AreRecordsExact) (texts : Texts) (shelf : ℕ) (bodies : List (List ℕ)) (m : Made) → AreAllBytes bodies → m.book.follows ≡ false → (f : ℕ) → is_format f ≡ true
+    → IsToldAnew f m → made_in (book_of_format f texts shelf bodies) ≡ Some m
+    → ((f ≡ newest_format → ⊥) → length (at_rest (copies f texts shelf bodies m)) ≤ 2 ^ 30) → Rewritten (IsOwnRecordIn f) IsOwnRecord f (f ≡ newest_format) texts shelf bodies m
+own_comes x texts shelf bodies m bytes unfed f known =
+    known_comes x IsOwnRecordIn IsOwnRecord own_is_joined texts shelf bodies m (λ g. own_is_carried g m.book.instances) bytes unfed f known
 
 pub migrations_make : AreRecordsExact → MigrationsMakeTheBook
-migrations_make x format texts shelf first bodies m known anew bytes makes fits =
-    let r = own_comes x texts shelf first bodies m bytes format known anew makes (λ older. fits) in (r.k, r.makes, r.migrated)
+migrations_make x format texts shelf bodies m known anew bytes makes unfed fits =
+    let r = own_comes x texts shelf bodies m bytes unfed format known anew makes (λ older. fits) in (r.k, r.makes, r.migrated)
 
 pub copies_own : AreRecordsExact → CopiesAreOwn
-copies_own x format texts shelf first bodies m k can bytes makes again =
-    let r = own_comes x texts shelf first bodies m bytes format can.known can.anew makes can.room in
+copies_own x format texts shelf bodies m k can bytes makes unfed again =
+    let r = own_comes x texts shelf bodies m bytes unfed format can.known can.anew makes can.room in
     let same : k ≡ r.k = same_Some k r.k (sym again ∙ r.makes) in
     record { own = r.held; landed = r.landed; seen = λ n there. r.seen n (subst (λ (y : Made). Among n y.earlier.seen) same there); bytes = r.small }

@@ -1,19 +1,20 @@
 -- Setups that are given at a crash, and the books of shelves that are opened with them.
-use Rattle.std.proofs.Common.{◌≡◌, ◌&&◌, ℕ, List, [], ◌∷◌, Option, Some, None, true, refl, sym, ap, ◌∙◌}
+use Rattle.std.proofs.Common.{◌≡◌, ◌&&◌, ℕ, List, [], ◌∷◌, Option, Some, Bool, true, false, refl, sym, ap, ◌∙◌, if◌then◌else◌}
 use Rattle.std.specs.Str.{bytes_eq}
 use Rattle.std.proofs.lemmas.Bool.{and_parts}
 use Rattle.std.proofs.lemmas.Option.{same_Some}
 use Rattle.std.proofs.lemmas.Slice.Eq.{bytes_eq-Decides}
 use Rattle.script_nodes.specs.Setup.{Named}
-use Rattle.replay_spec.specs.Book.{Work, landing, compacting, Doubt, Book, are_same}
+use Rattle.replay_spec.specs.Book.{Doubt, Book, reopened, are_same}
 use Rattle.replay_spec.specs.Rules.{Journal, Rules}
-use Rattle.replay_spec.specs.Compaction.{worked, reopened_with}
-use Rattle.replay_spec.specs.Step.{crash, Fate, plain, no_memory, disk_fault, lost, kept, recovered, step}
-use Rattle.replay_spec.proofs.Reopened.{reopened_same}
+use Rattle.replay_spec.specs.Compaction.{reopened_with}
+use Rattle.replay_spec.specs.Step.{crash, Fate, lost, kept, recovered, step}
+use Rattle.replay_spec.proofs.Barred.{leader_setup, follower_setup, recovered_setup}
+use Rattle.replay_spec.proofs.Reopened.{same_self, reopened_same}
 use Rattle.journal_records.specs.Records.{texts_of}
 use Rattle.journal_spec.specs.Lengths.{journal_rules}
 use Rattle.journal_spec.specs.Making.{Texts}
-use Rattle.journal_spec.specs.Opening.{IsRead, opened_book}
+use Rattle.journal_spec.specs.Opening.{IsRead, opening_bodies, renewal_body, opened_book}
 use Rattle.journal_spec.specs.Keeping.{AreOver}
 use Rattle.journal_spec.specs.Laws.{CrashesOpen, ASetupIsItsTexts}
 
@@ -32,18 +33,17 @@ same_texts (s ∷ ss) (t ∷ ts) e =
 pub same_setup : (texts : Texts) (ss ts : List Named) → IsRead texts ss → IsRead texts ts → are_same ss ts ≡ true → ss ≡ ts
 same_setup texts ss ts a b e = same_Some ss ts (sym a ∙ (ap texts (same_texts ss ts e) ∙ b))
 
--- work leaves the setup
-pub recovered_setup : (rules : Rules) (fate : Fate) (o : Option Doubt) (b : Book) → (recovered rules fate o b).scripts ≡ b.scripts
-recovered_setup rules kept None b = refl
-recovered_setup rules kept (Some doubt) b = by_work doubt.work
-  where
-    by_work : (w : Work) → (worked rules w b).scripts ≡ b.scripts
-    by_work (landing c inside) = refl
-    by_work compacting = refl
-recovered_setup rules plain o b = refl
-recovered_setup rules no_memory o b = refl
-recovered_setup rules (disk_fault count) o b = refl
-recovered_setup rules lost o b = refl
+-- ---- the setup with which a shelf is opened again
+
+-- a shelf that follows is told none
+pub bodies_fed : (scripts : List Named) (b : Book) → b.follows ≡ true → opening_bodies scripts b ≡ []
+bodies_fed scripts b fed =
+    ap (λ (ss : List Named). if are_same ss b.scripts then [] else renewal_body ss ∷ []) (follower_setup b scripts fed)
+    ∙ ap (λ (t : Bool). if t then [] else renewal_body b.scripts ∷ []) (same_self b.scripts)
+
+-- and one that does not the one that it is opened with
+pub bodies_unfed : (scripts : List Named) (b : Book) → b.follows ≡ false → opening_bodies scripts b ≡ (if are_same scripts b.scripts then [] else renewal_body scripts ∷ [])
+bodies_unfed scripts b unfed = ap (λ (ss : List Named). if are_same ss b.scripts then [] else renewal_body ss ∷ []) (leader_setup b scripts unfed)
 
 -- a shelf that is opened with the setup that it had, and then with another one
 pub opened_twice : (journal : Option Journal) (shelf : ℕ) (scripts before : List Named) (b : Book) → before ≡ b.scripts
@@ -58,6 +58,11 @@ unfolding step
 crashed_book rules shelf b nonce scripts fate over =
     let y = recovered rules fate b.down b in
     ap (λ (j : Option Journal). reopened_with j scripts y) over ∙ sym (opened_twice rules.journal shelf scripts b.scripts y (sym (recovered_setup rules fate b.down b)))
+
+-- what a crash leaves is as after another one
+pub crash_again : (rules : Rules) (b : Book) (nonce : ℕ) (scripts : List Named) (fate : Fate) → reopened (step rules b nonce (crash scripts) fate).1 ≡ (step rules b nonce (crash scripts) fate).1
+unfolding step
+crash_again rules b nonce scripts fate = refl
 
 -- the book of a crash, for each setup
 pub crash_book : (rules : Rules) (shelf : ℕ) (b : Book) (nonce : ℕ) (scripts : List Named) (fate : Fate) → AreOver rules shelf

@@ -2,12 +2,13 @@
 use Rattle.std.proofs.Common.{◌≡◌, ℕ, ◌+◌, List, length, Bool, true, false, Option, Some, None, refl, subst, arith}
 use Rattle.std.specs.Prelude.{if◌then◌else◌}
 use Rattle.script_value.specs.declared.outcome.TxName.{TxName}
-use Rattle.replay_spec.specs.Book.{Change, opens, extends, ends, finishes, sweeps, Doubt, Book}
+use Rattle.replay_spec.specs.Book.{Change, opens, extends, ends, finishes, sweeps, Book}
 use Rattle.replay_spec.specs.Rules.{Rules}
 use Rattle.replay_spec.specs.Admission.{◌>>=◌, admit}
 use Rattle.replay_spec.specs.Next.{Ticket}
-use Rattle.replay_spec.specs.Step.{publish, Reply, Decision, records, unless, down_by, decide}
+use Rattle.replay_spec.specs.Step.{publish, Reply, Decision, records, unless, barred, decide}
 use Rattle.replay_spec.specs.Laws.{IsLawful}
+use Rattle.replay_spec.proofs.Barred.{not_barred}
 use Rattle.replay_spec.proofs.Stand.{among_of}
 use Rattle.replay_spec.proofs.Going.{Records}
 use Rattle.replay_spec.specs.Recovery.{remade}
@@ -27,10 +28,11 @@ use Rattle.std.proofs.lemmas.Option.{slice_get_within}
 use Rattle.journal_spec.proofs.Brief.{Tells, Comes, published_comes, IsShort, short}
 use Rattle.journal_spec.proofs.Grammar.{TellsInRange, IsToldWith, state_low, in_grammar}
 
--- it was decided on a shelf that is up
-up_and_decided : (o : Option Doubt) (d : Decision) (r : Reply) (c : Change) (inside : List TxName) → unless (down_by o) d ≡ records r c inside → (o ≡ None) × (d ≡ records r c inside)
-up_and_decided None d r c inside e = (refl, e)
-up_and_decided (Some doubt) d r c inside e = absurd (let no : ⊥ = cc in no)
+-- what is recorded was decided on a shelf that is up, and does not follow
+up_and_decided : (b : Book) (o : Option Reply) (d : Decision) (r : Reply) (c : Change) (inside : List TxName) → barred b ≡ o → unless o d ≡ records r c inside
+    → (b.down ≡ None) × (b.follows ≡ false) × (d ≡ records r c inside)
+up_and_decided b None d r c inside is e = let up = not_barred b is in (up.0, up.1, e)
+up_and_decided b (Some x) d r c inside is e = absurd (let no : ⊥ = cc in no)
 
 -- what a change tells on a book in range is such as records tell
 tells_range : (rules : Rules) (b : Book) (t : Ticket) (c : Change) → IsInRange b → AreLimits rules b.scripts → IsTicket b t → Tells t (b.clock + rules.life) c → TellsInRange c
@@ -80,8 +82,8 @@ remade_script b (sweeps tick) names e = refl
 
 pub recorded_spelled : WhatIsRecordedIsSpelled
 recorded_spelled shelf rules b t r c inside journal less g whole range limits ticket is parts fits =
-    let decided = up_and_decided b.down (decide rules b t (admit b t.target)) r c inside is in
-    let h : Records (IsLawful (publish t) b) rules b t c inside = record { out = among_of b.out t.number; up = decided.0; reply = r; decided = decided.1 } in
+    let decided = up_and_decided b (barred b) (decide rules b t (admit b t.target)) r c inside refl is in
+    let h : Records (IsLawful (publish t) b) rules b t c inside = record { out = among_of b.out t.number; up = decided.0; unfed = decided.1; reply = r; decided = decided.2 } in
     let taken = recorded_remade rules b t c inside less g whole h in
     let it = recorded_orderly rules b t c inside g h in
     let comes : Comes rules b t (records r c inside) = subst (Comes rules b t) is (published_comes rules b t) in

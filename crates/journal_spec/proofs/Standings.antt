@@ -14,7 +14,7 @@ use Rattle.replay_spec.specs.Book.{Doubt, Book, reopened}
 use Rattle.replay_spec.specs.Step.{kept, recovered}
 use Rattle.journal_spec.specs.Before.{Earlier, Made, made_of}
 use Rattle.replay_spec.specs.Recovery.{of_length}
-use Rattle.journal_spec.specs.Making.{Texts, Making, nothing, begun, made, damaged, other, made_in}
+use Rattle.journal_spec.specs.Making.{Texts, Making, nothing, waits, waited, begun, made, damaged, other, waiting, made_in}
 use Rattle.journal_spec.specs.Bytes.{book_in_bytes}
 use Rattle.journal_spec.specs.Opening.{opened_book, opened_on}
 use Rattle.journal_spec.specs.Standing.{MakesOf, MakesIn, Flight, still, adds, puts, IsFoundOne, IsOneOf, HasRoom, Between, Carries, Hold, Held, HeldOpened, if_kept, Stands, Throughout, StaysThroughout, OpensThroughout}
@@ -114,6 +114,9 @@ one_found texts shelf v m reads makes = λ before after k held. ⊎_elim
 goes_on_with : (shelf : ℕ) (scripts : List Named) (x : Making) (b : Book) (earlier : Earlier) (m : Made) → made_in x ≡ Some (made_of b earlier) → opened_on shelf scripts x ≡ Some m
     → m.book ≡ opened_book shelf scripts b
 goes_on_with shelf scripts nothing b earlier m is opened = absurd (let no : ⊥ = cc in no)
+goes_on_with shelf scripts waited b earlier m is opened = absurd (let no : ⊥ = cc in no)
+goes_on_with shelf scripts (waits s) b earlier m is opened =
+    ap (λ (y : Made). y.book) (sym (same_Some (waiting s) m opened)) ∙ ap (λ (y : Made). opened_book shelf scripts y.book) (same_Some (waiting s) (made_of b earlier) is)
 goes_on_with shelf scripts (begun k) b earlier m is opened =
     ap (λ (y : Made). y.book) (sym (same_Some (record k { book = opened_book shelf scripts k.book }) m opened))
     ∙ ap (λ (y : Made). opened_book shelf scripts y.book) (same_Some k (made_of b earlier) is)

@@ -1,5 +1,5 @@
 -- The record of an event is none that is passed over, and makes the book behind it, on any orderly book.
-use Rattle.std.proofs.Common.{◌≡◌, ℕ, ◌+◌, ◌==◌, ◌<◌, List, [], ◌∷◌, ◌++◌, Option, Some, None, Bool, not, filter, length, refl, sym, ap, subst, ◌∙◌, inl, ⊎_elim, slice_get, arith}
+use Rattle.std.proofs.Common.{◌≡◌, ℕ, ◌+◌, ◌==◌, ◌<◌, List, [], ◌∷◌, ◌++◌, Option, Some, None, Bool, not, filter, length, false, refl, sym, ap, subst, ◌∙◌, inl, ⊎_elim, slice_get, arith}
 use Rattle.std.specs.Prelude.{nat_lt, if◌then◌else◌, ⊤}
 use Rattle.std.proofs.lemmas.Bool.Decides.{nat_tests}
 use Rattle.script_value.specs.declared.outcome.TxName.{TxName}
@@ -11,7 +11,7 @@ use Rattle.replay_spec.specs.Book.{Change, sweeps, Work, landing, compacting, Do
 use Rattle.replay_spec.specs.Book as spec
 use Rattle.replay_spec.specs.Rules.{Journal, Rules}
 use Rattle.replay_spec.specs.Change.{record_length, with_line, land}
-use Rattle.replay_spec.specs.Compaction.{rewritten, reopened_with}
+use Rattle.replay_spec.specs.Compaction.{rewritten, setup_for, going_on_with, reopened_with}
 use Rattle.replay_spec.specs.Admission.{◌>>=◌, or_else, Place, Admission, begins, resumes, refused, admit}
 use Rattle.replay_spec.specs.Next.{Ticket, starts, url_for, tape_for, comes_to, start_visit, page_visit}
 use Rattle.replay_spec.specs.Step.{Reply, Decision, replies, records, compacts, unless, too_long, full_journal, with_room, opening, extension, ending, finish, reply_by, full, stopped, gone_for, decide}
@@ -25,6 +25,7 @@ use Rattle.replay_spec.proofs.Numbers.{Uses}
 use Rattle.replay_spec.proofs.Again.{passes, place_there}
 use Rattle.replay_spec.proofs.Goers.{goers_go}
 use Rattle.replay_spec.proofs.Compacted.{not_repeated}
+use Rattle.replay_spec.proofs.Barred.{some_setup}
 use Rattle.replay_spec.proofs.Reopened.{reopened_same}
 use Rattle.journal_records.specs.Records as records
 use Rattle.journal_records.specs.Records.{body_of, changes}
@@ -176,7 +177,7 @@ moved_own b drawn out down None x h = tt
 moved_own b drawn out down (Some doubt) x h = by_work doubt.work h
   where
     by_work : (w : Work) → IsOwnWork b w x → IsOwnWork (record b { drawn = drawn; out = out; down = down }) w x
-    by_work (landing c inside) h = (h.0 ∙ ap told_own (sym (moved_state b drawn out down c)), moved_measured b drawn out down c h.1)
+    by_work (landing c inside) h = (h.0 ∙ ap told_own (sym (moved_state b drawn out down c)), moved_measured b drawn out down c h.1, h.2)
     by_work compacting h = absurd h
 
 -- ---- numbers that were seen
@@ -225,11 +226,11 @@ pub land_own : (rules : Rules) (shelf : ℕ) (b : Book) (c : Change) (inside : L
     → reopened (land rules c inside b) ≡ reopened (land (of_length (length (own_body b c))) c inside b)
 land_own rules shelf b c inside over h = land_long rules shelf (length (own_body b c)) b c inside over (own_length shelf b c h)
 
--- the record of what was landed would be taken, and makes the book behind the event
+-- the record of what was landed would be taken, and makes the book behind the event; it was landed on a shelf that does not follow
 abbrev pub IsMadeOf : Book → (seen : List ℕ) → Option Change → Book → Type 0
 IsMadeOf b seen None d = reopened d ≡ reopened b
 IsMadeOf b seen (Some c) d =
-    (inside : List TxName) × (IsTakenAs b c inside (own_told b c) × (IsNew seen c × (reopened d ≡ reopened (land (of_length (length (own_body b c))) c inside b))))
+    (inside : List TxName) × (IsTakenAs b c inside (own_told b c) × (IsNew seen c × ((reopened d ≡ reopened (land (of_length (length (own_body b c))) c inside b)) × (b.follows ≡ false))))
 
 pub record Follows (b : Book) (seen : List ℕ) (o : Option Change) (d : Book) : Type 0 where
   pub made : IsMadeOf b seen o d
@@ -245,9 +246,10 @@ swept_measured : (b : Book) (tick : ℕ) → IsMeasured b (sweeps tick)
 swept_measured b tick = omega arith
 
 -- an opening with the same setup
-opened_same : (journal : Option Journal) (scripts : List Named) (b d : Book) → scripts ≡ b.scripts → d.scripts ≡ b.scripts → reopened (reopened_with journal scripts d) ≡ reopened d
+opened_same : (journal : Option Journal) (scripts : List Named) (b d : Book) → setup_for d scripts ≡ b.scripts → d.scripts ≡ b.scripts → reopened (reopened_with journal scripts d) ≡ reopened d
 opened_same journal scripts b d same kept =
-    ap (λ (ss : List Named). reopened (reopened_with journal ss d)) (same ∙ sym kept) ∙ ap reopened (reopened_same journal d)
+    let own : setup_for d d.scripts ≡ d.scripts = some_setup (λ (ss : List Named). ss ≡ d.scripts) d d.scripts refl refl in
+    ap (λ (ss : List Named). reopened (going_on_with journal ss d)) (same ∙ (sym kept ∙ sym own)) ∙ ap reopened (reopened_same journal d)
 
 -- where a publish's number is spent first
 spent_land : (rules : Rules) (n : ℕ) (b : Book) (c : Change) (inside : List TxName) → reopened (land rules c inside (spend n b)) ≡ reopened (land rules c inside b)
@@ -282,7 +284,7 @@ module _ {lawful : Type 0} (shelf : ℕ) (rules : Rules) (over : AreOver rules s
             recorded_taken rules b t c inside g whole at,
             (
               λ m e there. used m there (inl (subst (λ (y : ℕ). Among y b.out) (is_same t.number m c is_it e) (at.out l))),
-              spent_land rules t.number b c inside ∙ land_own rules shelf b c inside over (short_measured c (state_told b c) (recorded_short shelf rules b t c inside over at)),
+              (spent_land rules t.number b c inside ∙ land_own rules shelf b c inside over (short_measured c (state_told b c) (recorded_short shelf rules b t c inside over at)), at.unfed),
             ),
           ),
         );
@@ -300,31 +302,32 @@ module _ {lawful : Type 0} (shelf : ℕ) (rules : Rules) (over : AreOver rules s
         own = (
           ap told_own (sym (moved_state b b.drawn out down c)),
           moved_measured b b.drawn out down c (short_measured c (state_told b c) (recorded_short shelf rules b t c inside over at)),
+          at.unfed,
         );
       }
-  follow_by d o (goes_to tick later up) l h same x doubt own used = record {
-    made = ([], (swept_taken b tick later, (λ m e there. e, land_own rules shelf b (sweeps tick) [] over (swept_measured b tick))));
+  follow_by d o (goes_to tick later up unfed) l h same x doubt own used = record {
+    made = ([], (swept_taken b tick later, (λ m e there. e, (land_own rules shelf b (sweeps tick) [] over (swept_measured b tick), unfed))));
     doubted = unread;
     doubt = no_doubt (land rules (sweeps tick) [] b) b.down up;
     own = up_own (land rules (sweeps tick) [] b) b.down up;
   }
-  follow_by d o (fails_at count tick later up) l h same x doubt own used =
+  follow_by d o (fails_at count tick later up unfed) l h same x doubt own used =
       let down = Some (record { count = count; work = landing (sweeps tick) [] }) in
       record {
         made = refl;
         doubted = unread;
         doubt = moved_taken b b.drawn b.out down (sweeps tick) [] unread (swept_taken b tick later);
-        own = (refl, moved_measured b b.drawn b.out down (sweeps tick) (swept_measured b tick));
+        own = (refl, moved_measured b b.drawn b.out down (sweeps tick) (swept_measured b tick), unfed);
       }
-  follow_by d o (rewrites up) l h same x doubt own used =
+  follow_by d o (rewrites up unfed) l h same x doubt own used =
       let still = h.still refl in
       record {
-        made = λ i. record (reopened b) { length = still.1 i; file = still.0 i };
+        made = λ i. record (reopened b) { length = still.1 i; file = still.0 i; follows = sym unfed i };
         doubted = unread;
         doubt = no_doubt (rewritten rules b) b.down up;
         own = up_own (rewritten rules b) b.down up;
       }
-  follow_by d o (fails_to_rewrite count up) l h same x doubt own used =
+  follow_by d o (fails_to_rewrite count up unfed) l h same x doubt own used =
       absurd (h.doubt (subst IsAppended (sym up) tt))
   follow_by d o (keeps setup count c inside down) l h same x doubt own used =
       let taken : IsTakenAs b c inside x = subst (λ (z : Option Doubt). IsTakenDoubt b z x) down doubt in
@@ -336,7 +339,7 @@ module _ {lawful : Type 0} (shelf : ℕ) (rules : Rules) (over : AreOver rules s
             subst (IsTakenAs b c inside) its.0 taken,
             (
               λ m e there. used m there (is_doubted b count c inside down m e),
-              opened_same rules.journal setup b (land rules c inside b) same refl ∙ land_own rules shelf b c inside over its.1,
+              (opened_same rules.journal setup b (land rules c inside b) same refl ∙ land_own rules shelf b c inside over its.1, its.2),
             ),
           ),
         );
@@ -359,10 +362,10 @@ still_by rules b d o draws h a e up = refl
 still_by rules b d o (spends n out) h a e up = refl
 still_by rules b d o (publishes t x inside at) h a e up = absurd (let no : ⊥ = cc in no)
 still_by rules b d o (fails count t x inside at) h a e up = refl
-still_by rules b d o (goes_to tick later up') h a e up = absurd (let no : ⊥ = cc in no)
-still_by rules b d o (fails_at count tick later up') h a e up = refl
-still_by rules b d o (rewrites up') h a e up = absurd (up up')
-still_by rules b d o (fails_to_rewrite count up') h a e up = absurd (h.doubt a)
+still_by rules b d o (goes_to tick later up' unfed) h a e up = absurd (let no : ⊥ = cc in no)
+still_by rules b d o (fails_at count tick later up' unfed) h a e up = refl
+still_by rules b d o (rewrites up' unfed) h a e up = absurd (up up')
+still_by rules b d o (fails_to_rewrite count up' unfed) h a e up = absurd (h.doubt a)
 still_by rules b d o (keeps setup count c inside down) h a e up = absurd (let no : ⊥ = cc in no)
 still_by rules b d o (keeps_rewritten setup count down) h a e up = absurd (subst IsAppended down a)
 still_by rules b d o (loses setup) h a e up = absurd (up refl)

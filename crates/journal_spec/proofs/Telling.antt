@@ -29,17 +29,17 @@ use Rattle.machine_states.specs.Machine.{Suspended, inside_of}
 use Rattle.kept_states.specs.FrameCodec.Forms.{read_form}
 use Rattle.kept_states.specs.Links.{behind_at}
 use Rattle.page_journal.specs.Records.{frames}
-use Rattle.journal_records.specs.Records.{Record, begins, changes, renews, draws}
+use Rattle.journal_records.specs.Records.{Record, begins, changes, renews, draws, follows, promotes}
 use Rattle.journal_records.specs.Reading.{read_record}
 use Rattle.journal_spec.specs.Before.{States, state_at, Earlier, nothing_told, Made, plain, links_behind, before_told}
 use Rattle.journal_spec.specs.Retaking.{arena_of, Told, unread, misread, told, told_as, told_by, told_in, held, landing, then_told, retaken}
 use Rattle.journal_spec.specs.Lengths.{state_over, state_by, chain_tape, own_state, own_before}
 use Rattle.journal_spec.specs.Whole.{HasOwnStates}
-use Rattle.journal_spec.specs.Making.{Texts, Making, nothing, begun, made, damaged, other, has_script, beside, began, first_setup, first_by, told_next, next_setup, next_by, second_by, with_body, made_in, book_of}
+use Rattle.journal_spec.specs.Making.{Texts, Making, nothing, waits, waited, begun, made, damaged, other, has_script, beside, in_file, waiting, began, first_setup, first_by, start_by, fed_by, told_next, next_setup, promoted_by, next_by, second_by, with_body, made_in, book_of}
 use Rattle.journal_spec.specs.Owning.{IsOwnState, IsOwnRecord, AreOwn, IsOwnBefore}
 use Rattle.journal_spec.specs.Laws.{OwnStatesAreTold}
 use Rattle.journal_spec.proofs.Makings.{with_push}
-use Rattle.journal_spec.proofs.Retaken.{held_fits, landing_is, retaken_orderly}
+use Rattle.journal_spec.proofs.Retaken.{held_fits, landing_is, retaken_orderly, filed_orderly}
 
 -- ---- what a change's page is written behind
 
@@ -380,10 +380,16 @@ setup_making : (place n : ℕ) (m : Made) (o : Option (List Named)) → IsOwnMad
 setup_making place n m None h = tt
 setup_making place n m (Some scripts) h = (line_orderly (renewed scripts n) (plain m) h.0, h.1)
 
+promoted_making : (place n : ℕ) (m : Made) (fed : Bool) → IsOwnMade m → IsOwnMaking (promoted_by place n m fed)
+promoted_making place n m false h = tt
+promoted_making place n m true h = (filed_orderly false (m.book.length + (n + 5)) m h.0, h.1)
+
 next_making : (texts : Texts) (place n : ℕ) (m : Made) (r : Option Record) → IsOwnMade m → IsOwnRecord m r → IsOwnMaking (next_by texts place n m r)
 next_making texts place n m None h own = tt
 next_making texts place n m (Some (begins s named)) h own = tt
 next_making texts place n m (Some (draws number)) h own = tt
+next_making texts place n m (Some follows) h own = tt
+next_making texts place n m (Some promotes) h own = promoted_making place n m m.book.follows h
 next_making texts place n m (Some (renews named)) h own = setup_making place n m (texts named) h
 next_making texts place n m (Some (changes c state)) h own = by_test (has_script (length m.book.scripts) c)
   where
@@ -392,36 +398,61 @@ next_making texts place n m (Some (changes c state)) h own = by_test (has_script
     by_test true = told_making place n m c state (told_in m.earlier m.book c state) refl h own
 
 -- a file's first records show no page
-first_own : (shelf : ℕ) (f : File) → IsOwnMade (beside nothing_told (first_of shelf f))
-first_own shelf f = (first_orderly shelf f, λ k n i p found shown. absurd (let no : ⊥ = cc in no))
+first_own : (fed : Bool) (size shelf : ℕ) (f : File) → IsOwnMade (in_file fed size (beside nothing_told (first_of shelf f)))
+first_own fed size shelf f = (filed_orderly fed size (beside nothing_told (first_of shelf f)) (first_orderly shelf f), λ k n i p found shown. absurd (let no : ⊥ = cc in no))
 
 second_making : (texts : Texts) (place n : ℕ) (m : Made) (r : Option Record) → IsOwnMade m × (m.earlier ≡ nothing_told) → IsOwnRecord m r → IsOwnMaking (second_by texts place n m r)
 second_making texts place n m None h own = tt
 second_making texts place n m (Some (begins s named)) h own = tt
 second_making texts place n m (Some (draws number)) h own =
     let f = record m.book.file { drawn = Some number } in
-    subst (λ (e : Earlier). IsOwnMade (beside e (first_of m.book.shelf f))) (sym h.1) (first_own m.book.shelf f)
+    subst (λ (e : Earlier). IsOwnMade (in_file m.book.follows (m.book.length + 14) (beside e (first_of m.book.shelf f)))) (sym h.1)
+    (first_own m.book.follows (m.book.length + 14) m.book.shelf f)
+second_making texts place n m (Some follows) h own = tt
+second_making texts place n m (Some promotes) h own = next_making texts place n m (Some promotes) h.0 own
 second_making texts place n m (Some (renews named)) h own = next_making texts place n m (Some (renews named)) h.0 own
 second_making texts place n m (Some (changes c state)) h own = next_making texts place n m (Some (changes c state)) h.0 own
 
-first_making : (texts : Texts) (shelf place n : ℕ) (r : Option Record) → IsOwnMaking (first_by texts shelf place n r)
-first_making texts shelf place n None = tt
-first_making texts shelf place n (Some (changes c state)) = tt
-first_making texts shelf place n (Some (renews named)) = tt
-first_making texts shelf place n (Some (draws number)) = tt
-first_making texts shelf place n (Some (begins s named)) = by_setup (texts named)
+first_making : (texts : Texts) (fed : Bool) (shelf place n : ℕ) (r : Option Record) → IsOwnMaking (first_by texts fed shelf place n r)
+first_making texts fed shelf place n None = tt
+first_making texts fed shelf place n (Some (changes c state)) = tt
+first_making texts fed shelf place n (Some (renews named)) = tt
+first_making texts fed shelf place n (Some (draws number)) = tt
+first_making texts fed shelf place n (Some follows) = tt
+first_making texts fed shelf place n (Some promotes) = tt
+first_making texts fed shelf place n (Some (begins s named)) = by_setup (texts named)
   where
-    by_test : (scripts : List Named) (t : Bool) → IsOwnMaking (cond t (begun (began shelf n scripts)) (other place))
-    by_test scripts true = (first_own shelf (first_file (14 + n) scripts), refl)
+    by_test : (scripts : List Named) (t : Bool) → IsOwnMaking (cond t (begun (began fed shelf place n scripts)) (other place))
+    by_test scripts true = (first_own fed (place + 6 + n) shelf (first_file (14 + n) scripts), refl)
     by_test scripts false = tt
 
-    by_setup : (o : Option (List Named)) → IsOwnMaking (first_setup shelf place n s o)
+    by_setup : (o : Option (List Named)) → IsOwnMaking (first_setup fed shelf place n s o)
     by_setup None = tt
     by_setup (Some scripts) = by_test scripts (s == shelf)
 
+start_making : (texts : Texts) (shelf place n : ℕ) (r : Option Record) → IsOwnMaking (start_by texts shelf place n r)
+start_making texts shelf place n None = tt
+start_making texts shelf place n (Some (begins s named)) = first_making texts false shelf place n (Some (begins s named))
+start_making texts shelf place n (Some (changes c state)) = tt
+start_making texts shelf place n (Some (renews named)) = tt
+start_making texts shelf place n (Some (draws number)) = tt
+start_making texts shelf place n (Some follows) = tt
+start_making texts shelf place n (Some promotes) = tt
+
+fed_making : (texts : Texts) (shelf place n : ℕ) (r : Option Record) → IsOwnMaking (fed_by texts shelf place n r)
+fed_making texts shelf place n None = tt
+fed_making texts shelf place n (Some (begins s named)) = first_making texts true shelf place n (Some (begins s named))
+fed_making texts shelf place n (Some (changes c state)) = tt
+fed_making texts shelf place n (Some (renews named)) = tt
+fed_making texts shelf place n (Some (draws number)) = tt
+fed_making texts shelf place n (Some follows) = tt
+fed_making texts shelf place n (Some promotes) = tt
+
 one_making : (texts : Texts) (shelf place : ℕ) (body : List ℕ) (x : Making) → IsOwnMaking x → ((m : Made) → made_in x ≡ Some m → IsOwnRecord m (read_record body))
     → IsOwnMaking (with_body texts shelf place body x)
-one_making texts shelf place body nothing h own = first_making texts shelf place (length body) (read_record body)
+one_making texts shelf place body nothing h own = start_making texts shelf place (length body) (read_record body)
+one_making texts shelf place body (waits s) h own = fed_making texts shelf place (length body) (read_record body)
+one_making texts shelf place body waited h own = first_making texts false shelf place (length body) (read_record body)
 one_making texts shelf place body (begun m) h own = second_making texts place (length body) m (read_record body) h (own m refl)
 one_making texts shelf place body (made m) h own = next_making texts place (length body) m (read_record body) h (own m refl)
 one_making texts shelf place body (damaged p) h own = tt
@@ -438,6 +469,8 @@ all_making texts shelf bodies front (body ∷ rest) own e h =
 
 own_made : (x : Making) (m : Made) → made_in x ≡ Some m → IsOwnMaking x → IsOwnMade m
 own_made nothing m is h = absurd (let no : ⊥ = cc in no)
+own_made waited m is h = absurd (let no : ⊥ = cc in no)
+own_made (waits s) m is h = let at : waiting s ≡ m = cc in subst IsOwnMade at (first_own true 15 s (first_file 0 []))
 own_made (begun k) m is h = let at : k ≡ m = cc in subst IsOwnMade at h.0
 own_made (made k) m is h = let at : k ≡ m = cc in subst IsOwnMade at h
 own_made (damaged p) m is h = absurd (let no : ⊥ = cc in no)

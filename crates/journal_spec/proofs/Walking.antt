@@ -15,16 +15,16 @@ use Rattle.replay_spec.proofs.Recovered.{Unseen, new_number, more_seen}
 use Rattle.replay_spec.proofs.Compacted.{more_among, line_orderly}
 use Rattle.machine_states.specs.Machine.{Suspended, inside_of}
 use Rattle.value_bytes.specs.Laws.{AreBytes}
-use Rattle.journal_records.specs.Records.{Record, begins, changes, renews, draws}
+use Rattle.journal_records.specs.Records.{Record, begins, changes, renews, draws, follows, promotes}
 use Rattle.journal_records.specs.Old.{read_record_in}
 use Rattle.journal_spec.specs.Before.{States, state_at, Made, plain}
 use Rattle.journal_spec.specs.Retaking.{Told, unread, misread, told, landing, with_state, retaken}
 use Rattle.journal_spec.specs.Lengths.{state_by, told_own, own_told}
-use Rattle.journal_spec.specs.Making.{Texts, Making, made, damaged, has_script, beside, told_next, next_setup, made_in}
+use Rattle.journal_spec.specs.Making.{Texts, Making, made, damaged, has_script, beside, told_next, next_setup, promoted, promoted_by, made_in}
 use Rattle.journal_spec.specs.Old.{told_at, told_of, landing_told, landing_of, change_next, next_at, with_bodies_at}
 use Rattle.journal_spec.specs.Reading.{AreAllBytes}
 use Rattle.journal_spec.specs.Copying.{inside_told, Entry, tells, settles, state_now, body_now, settled_by, entry_by}
-use Rattle.journal_spec.proofs.Retaken.{held_fits, landing_is, retaken_orderly}
+use Rattle.journal_spec.proofs.Retaken.{held_fits, landing_is, retaken_orderly, filed_orderly}
 use Rattle.journal_spec.proofs.Beside.{other_cons}
 
 -- what one body more of a format makes of what was made, with its entry, if it stays
@@ -36,6 +36,7 @@ pub data Step (f : ℕ) (ls : List Instance) (texts : Texts) (body : List ℕ) (
       → Step f ls texts body m (if b then tells c (state_now f m c state) (body_now f m body c state) ∷ [] else []) (retaken (length body) c (Some names) (told_of f m c state) m)
   passes : (c : Change) (state : Option (List ℕ)) → read_record_in f body ≡ Some (changes c state) → (told_of f m c state ≡ misread → ⊥)
       → landing_of f m c (told_of f m c state) ≡ None → Step f ls texts body m [] (retaken (length body) c None (told_of f m c state) m)
+  frees : read_record_in f body ≡ Some promotes → m.book.follows ≡ true → Step f ls texts body m [] (promoted (length body) m)
 
 pub record Moved (f : ℕ) (ls : List Instance) (texts : Texts) (place : ℕ) (body : List ℕ) (m : Made) (r : Option Record) : Type 0 where
   pub then_ : Made
@@ -116,6 +117,19 @@ module _ (f : ℕ) (ls : List Instance) (texts : Texts) (shelf place later : ℕ
   moved None read is = absurd (no_book f texts shelf later bodies place e is)
   moved (Some (begins s named)) read is = absurd (no_book f texts shelf later bodies place e is)
   moved (Some (draws number)) read is = absurd (no_book f texts shelf later bodies place e is)
+  moved (Some follows) read is = absurd (no_book f texts shelf later bodies place e is)
+  moved (Some promotes) read is = by_role m.book.follows refl is
+    where
+      by_role : (t : Bool) → m.book.follows ≡ t → made_in (with_bodies_at f texts shelf later bodies (promoted_by place (length body) m t)) ≡ Some e
+          → Moved f ls texts place body m (Some promotes)
+      by_role false g is = absurd (no_book f texts shelf later bodies place e is)
+      by_role true g is = record {
+        then_ = promoted (length body) m;
+        its = [];
+        is = ap (promoted_by place (length body) m) g;
+        entry = refl;
+        step = frees read g;
+      }
   moved (Some (renews named)) read is = by_setup (texts named) refl is
     where
       by_setup : (o : Option (List Named)) → texts named ≡ o → made_in (with_bodies_at f texts shelf later bodies (next_setup place (length body) m o)) ≡ Some e
@@ -158,6 +172,7 @@ orderly_at f n m c state sure g = by_format (f == 1) sure
 
 pub step_orderly : (f : ℕ) (ls : List Instance) (texts : Texts) (body : List ℕ) (m : Made) (es : List Entry) (n : Made) → Step f ls texts body m es n → IsOrderlyMade (plain m) → IsOrderlyMade (plain n)
 step_orderly f ls texts body m es n (turns named scripts read is) g = line_orderly (renewed scripts (length body)) (plain m) g
+step_orderly f ls texts body m es n (frees read fed) g = filed_orderly false (m.book.length + (length body + 5)) m g
 step_orderly f ls texts body m es n (lands c state names read sure h b stay) g =
     subst (λ (o : Option (List TxName)). IsOrderlyMade (plain (retaken (length body) c o (told_of f m c state) m))) h (orderly_at f (length body) m c state sure g)
 step_orderly f ls texts body m es n (passes c state read sure h) g =
@@ -245,6 +260,8 @@ step_onward : (f : ℕ) (ls : List Instance) (texts : Texts) (Has : Made → Typ
     → Step f ls texts body m es n → Onward m n
 step_onward f ls texts Has reads body m es n g has (turns named scripts read is) =
     onward_still m (beside m.earlier (resettled (length body) scripts (plain m))) (omega arith) (λ i there. there) (since_same (Unseen m.earlier.seen) m.book.instances) refl
+step_onward f ls texts Has reads body m es n g has (frees read fed) =
+    onward_still m (promoted (length body) m) (omega arith) (λ i there. there) (since_same (Unseen m.earlier.seen) m.book.instances) refl
 step_onward f ls texts Has reads body m es n g has (passes c state read sure h) =
     onward_still m (retaken (length body) c None (told_of f m c state) m) (omega arith) (λ i there. more_among c m.earlier.seen i there) (since_same (Unseen m.earlier.seen) m.book.instances) refl
 step_onward f ls texts Has reads body m es n g has (lands c state names read sure h b stay) =

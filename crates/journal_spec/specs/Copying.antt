@@ -1,6 +1,6 @@
 -- Which bodies of a journal stay when its file is compacted, whoever wrote it, and what they make. A file of an older format is compacted too:
--- of that the bodies that stay are written in the newest format.
-use Rattle.std.specs.Prelude.{◌≡◌, ℕ, ◌+◌, ◌≤◌, ◌^◌, ◌==◌, ◌&&◌, true, List, [], ◌∷◌, ◌++◌, length, map, Option, Some, None, is_some, nat_lt, if◌then◌else◌}
+-- of that the bodies that stay are written in the newest format. That a shelf followed another one's journal stays in no file.
+use Rattle.std.specs.Prelude.{◌≡◌, ℕ, ◌+◌, ◌≤◌, ◌^◌, ◌==◌, ◌&&◌, true, false, List, [], ◌∷◌, ◌++◌, length, map, Option, Some, None, is_some, nat_lt, if◌then◌else◌}
 use Rattle.script_value.specs.declared.outcome.TxName.{TxName}
 use Rattle.script_nodes.specs.Setup.{Named}
 use Rattle.replay_spec.specs.Book.{Page, Instance, Change, Line, changed, renewed, instance_at, page_at}
@@ -12,6 +12,7 @@ use Rattle.kept_states.specs.FrameCodec.Forms.{form_bytes}
 use Rattle.page_journal.specs.Records.{is_format, at_rest}
 use Rattle.journal_records.specs.Records.{Record, changes, renews, draws, body_of}
 use Rattle.journal_records.specs.Old.{newest_format, read_record_in}
+use Rattle.journal_records.specs.Roles.{behind_front}
 use Rattle.journal_spec.specs.Before.{Earlier, state_at, Made, plain, before_told}
 use Rattle.journal_spec.specs.Retaking.{arena_of, Told, unread, misread, told, told_in, landing, retaken}
 use Rattle.journal_spec.specs.Making.{Texts, Making, nothing, begun, made, beside, made_in, book_of}
@@ -100,10 +101,20 @@ abbrev pub entries_joined : List Entry → List Entry
 entries_joined [] = []
 entries_joined (e ∷ es) = entry_ahead e (entries_joined es)
 
--- The bodies of the compacted file of this book, whose file is of this format: the first one, that of the next number, and those that stay.
-abbrev pub copies : (format : ℕ) → Texts → (shelf : ℕ) → (first : List ℕ) → (bodies : List (List ℕ)) → Made → List (List ℕ)
-copies format texts shelf first bodies m =
-    first ∷ (body_of (draws m.book.logged) ∷ map body_in (entries_joined (entries format m.book.instances texts shelf 8 (first ∷ bodies) nothing)))
+-- the first of these bodies, if there is one
+abbrev pub first_body_of : List (List ℕ) → List ℕ
+first_body_of [] = []
+first_body_of (body ∷ bodies) = body
+
+-- the body of the record that a journal begins with, behind those that tell whether the shelf follows another one's journal
+abbrev pub begin_in : List (List ℕ) → List ℕ
+begin_in bodies = first_body_of (behind_front bodies)
+
+-- The bodies of the compacted file of this book, whose file of this format has these bodies: the one that a journal begins with, that of the
+-- next number, and those that stay.
+abbrev pub copies : (format : ℕ) → Texts → (shelf : ℕ) → (bodies : List (List ℕ)) → Made → List (List ℕ)
+copies format texts shelf bodies m =
+    begin_in bodies ∷ (body_of (draws m.book.logged) ∷ map body_in (entries_joined (entries format m.book.instances texts shelf 8 bodies nothing)))
 
 -- of each page of these instances the same state is told
 abbrev pub SameStates : List Instance → (e f : Earlier) → Type 0
@@ -112,20 +123,20 @@ SameStates is e f =
 
 -- what records make is the book of the compacted file, with the states that were told of its pages
 pub record IsCompacted (m k : Made) : Type 0 where
-  pub book : k.book ≡ record m.book { length = file_length (compaction m.book); file = compaction m.book }
+  pub book : k.book ≡ record m.book { length = file_length (compaction m.book); file = compaction m.book; follows = false }
   pub states : SameStates m.book.instances m.earlier k.earlier
 
 -- The bodies that are copied make the book of the compacted file, whoever wrote them: none is read or run anew.
 abbrev pub CopiesMakeTheBook : Type 0
 CopiesMakeTheBook =
-    (texts : Texts) (shelf : ℕ) (first : List ℕ) (bodies : List (List ℕ)) (m : Made) → AreAllBytes (first ∷ bodies)
-    → made_in (book_of texts shelf (first ∷ bodies)) ≡ Some m
-    → (k : Made) × (made_in (book_of texts shelf (copies newest_format texts shelf first bodies m)) ≡ Some k) × IsCompacted m k
+    (texts : Texts) (shelf : ℕ) (bodies : List (List ℕ)) (m : Made) → AreAllBytes bodies
+    → made_in (book_of texts shelf bodies) ≡ Some m → m.book.follows ≡ false
+    → (k : Made) × (made_in (book_of texts shelf (copies newest_format texts shelf bodies m)) ≡ Some k) × IsCompacted m k
 
 -- What records make is this book with another file, which begins with the same setup and tells the next number, and the same states were told
 -- of its pages.
 pub record IsMigrated (m k : Made) : Type 0 where
-  pub book : k.book ≡ record m.book { length = k.book.length; file = k.book.file }
+  pub book : k.book ≡ record m.book { length = k.book.length; file = k.book.file; follows = false }
   pub first : k.book.file.scripts ≡ m.book.file.scripts
   pub drawn : k.book.file.drawn ≡ Some m.book.logged
   pub states : SameStates m.book.instances m.earlier k.earlier
@@ -146,7 +157,7 @@ pub record IsToldAnew (format : ℕ) (m : Made) : Type 0 where
 -- room for them.
 abbrev pub MigrationsMakeTheBook : Type 0
 MigrationsMakeTheBook =
-    (format : ℕ) (texts : Texts) (shelf : ℕ) (first : List ℕ) (bodies : List (List ℕ)) (m : Made) → is_format format ≡ true
-    → IsToldAnew format m → AreAllBytes (first ∷ bodies) → made_in (book_of_format format texts shelf (first ∷ bodies)) ≡ Some m
-    → length (at_rest (copies format texts shelf first bodies m)) ≤ 2 ^ 30
-    → (k : Made) × (made_in (book_of texts shelf (copies format texts shelf first bodies m)) ≡ Some k) × IsMigrated m k
+    (format : ℕ) (texts : Texts) (shelf : ℕ) (bodies : List (List ℕ)) (m : Made) → is_format format ≡ true
+    → IsToldAnew format m → AreAllBytes bodies → made_in (book_of_format format texts shelf bodies) ≡ Some m → m.book.follows ≡ false
+    → length (at_rest (copies format texts shelf bodies m)) ≤ 2 ^ 30
+    → (k : Made) × (made_in (book_of texts shelf (copies format texts shelf bodies m)) ≡ Some k) × IsMigrated m k

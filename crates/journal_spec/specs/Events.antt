@@ -1,8 +1,8 @@
 -- What events do to the bodies of a file.
-use Rattle.std.specs.Prelude.{◌≡◌, ◌≤◌, ◌<◌, ◌+◌, ◌^◌, ℕ, List, [], ◌∷◌, ◌++◌, length, Option, Some, None, if◌then◌else◌, ⊤}
+use Rattle.std.specs.Prelude.{◌≡◌, ◌≤◌, ◌<◌, ◌+◌, ◌^◌, ℕ, List, [], ◌∷◌, ◌++◌, length, Option, Some, None, ⊤}
 use Rattle.script_value.specs.declared.outcome.TxName.{TxName}
 use Rattle.script_nodes.specs.Setup.{Named}
-use Rattle.replay_spec.specs.Book.{Change, Line, File, Book, reopened, are_same}
+use Rattle.replay_spec.specs.Book.{Change, Line, File, Book, reopened}
 use Rattle.replay_spec.specs.Rules.{Journal, Rules, empty_book}
 use Rattle.replay_spec.specs.Change.{with_line, land}
 use Rattle.replay_spec.specs.Compaction.{reopened_with}
@@ -13,16 +13,17 @@ use Rattle.replay_spec.specs.Laws.{Moment, then_book, book_after, AreLawful}
 use Rattle.replay_spec.specs.Remade.{IsFiled}
 use Rattle.server_limits.specs.Limits.{most_fuel}
 use Rattle.journal_records.specs.Fields.{numbers_end}
-use Rattle.journal_records.specs.Records.{IsInGrammar, begin_of, renewal_of, texts_of, body_of}
+use Rattle.journal_records.specs.Records.{IsInGrammar, begin_of, renewal_of, texts_of}
 use Rattle.journal_spec.specs.Lengths.{state_by, own_before, own_body, journal_rules}
 use Rattle.journal_spec.specs.Making.{Texts, book_of}
 use Rattle.journal_spec.specs.Bodies.{spelled, bodies_of}
+use Rattle.journal_spec.specs.Opening.{opening_bodies}
 use Rattle.journal_spec.specs.Whole.{AreWhole, CanBeWritten}
 use Rattle.journal_spec.specs.Files.{IsWritten, IsMade}
 use Rattle.journal_spec.specs.Spelling.{PartsFit, AreLimits, GivesTick, StateFits}
 
 -- One line more is one body more. A change that lands adds the body that it leaves on the book before; a crash with another setup adds
--- the body that tells it, and a crash with the same one adds none.
+-- the body that tells it, and a crash with the same one adds none, as on a shelf that follows another one's journal.
 abbrev pub BodiesGrow : Type 0
 BodiesGrow =
     ((shelf : ℕ) (l : Line) (f : File)
@@ -31,7 +32,7 @@ BodiesGrow =
     → bodies_of b.shelf (land rules c inside b).file ≡ bodies_of b.shelf b.file ++ own_body b c ∷ [])
     × ((j : Journal) (scripts : List Named) (b : Book)
     → bodies_of b.shelf (reopened_with (Some j) scripts b).file
-    ≡ bodies_of b.shelf b.file ++ (if are_same scripts b.scripts then [] else body_of (renewal_of scripts) ∷ []))
+    ≡ bodies_of b.shelf b.file ++ opening_bodies scripts b)
 
 -- a setup that is what its texts are read as, and can be run and written
 pub record IsGiven (texts : Texts) (scripts : List Named) : Type 0 where

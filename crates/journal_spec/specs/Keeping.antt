@@ -1,5 +1,5 @@
 -- How a journal goes on beside its shelf.
-use Rattle.std.specs.Prelude.{◌≡◌, ℕ, List, [], ◌∷◌, ◌++◌, length, Contains, Option, Some, None, ⊤}
+use Rattle.std.specs.Prelude.{◌≡◌, ℕ, false, List, [], ◌∷◌, ◌++◌, length, Contains, Option, Some, None, ⊤}
 use Rattle.script_value.specs.declared.outcome.TxName.{TxName}
 use Rattle.replay_spec.specs.Book.{Change, Work, landing, compacting, Doubt, Book, spend}
 use Rattle.replay_spec.specs.Rules.{Rules}
@@ -16,7 +16,7 @@ use Rattle.journal_spec.specs.Before.{Earlier, made_of}
 use Rattle.journal_spec.specs.Retaking.{Told, unread, misread, told, told_in, held}
 use Rattle.journal_spec.specs.Lengths.{state_told, own_told, own_body, journal_rules}
 use Rattle.journal_spec.specs.Making.{Texts, made_in, book_of}
-use Rattle.journal_spec.specs.Opening.{IsRead, renewal_bodies}
+use Rattle.journal_spec.specs.Opening.{IsReadUnlessFed, opening_bodies}
 use Rattle.journal_spec.specs.Whole.{HasWholeScripts, CanBeWritten}
 use Rattle.journal_spec.specs.Events.{Gives}
 use Rattle.journal_spec.specs.Owning.{AreOwn, AreLanded}
@@ -69,12 +69,12 @@ pub record IsRecoverable (b : Book) (seen : List ℕ) : Type 0 where
   pub doubt : IsTakenDoubt b b.down doubted
   pub used : AreUsed seen b
 
--- the bodies of a journal make a shelf's book, which can go on, and whose setup is what its names and texts are read as
+-- the bodies of a journal make a shelf's book, which can go on, and whose setup is what its names and texts are read as, unless it follows
 pub record Keeps (texts : Texts) (shelf : ℕ) (bodies : List (List ℕ)) (b : Book) : Type 0 where
   pub earlier : Earlier
   pub makes : made_in (book_of texts shelf bodies) ≡ Some (made_of b earlier)
   pub recoverable : IsRecoverable b earlier.seen
-  pub read : IsRead texts b.scripts
+  pub read : IsReadUnlessFed texts b
 
 -- the body of the record that a change leaves, whose new page's state has these bytes
 abbrev pub body_by : Change → (state : Option (List ℕ)) → List ℕ
@@ -85,9 +85,9 @@ abbrev pub landed_bodies : Book → Option Change → List (List ℕ)
 landed_bodies b None = []
 landed_bodies b (Some c) = own_body b c ∷ []
 
--- the body of the record of the setup that an event gives, if it has other names or texts than the one before
+-- the body of the record of the setup that an event gives, if it is told and has other names or texts than the one before
 abbrev pub told_bodies : Event → Book → List (List ℕ)
-told_bodies (crash scripts) b = renewal_bodies scripts b.scripts
+told_bodies (crash scripts) b = opening_bodies scripts b
 told_bodies _ b = []
 
 -- the bodies of the records that an event leaves behind those of a file, with the states that its scripts leave
@@ -125,12 +125,12 @@ AreAppended texts shelf (m ∷ ms) b =
 abbrev pub IsMeasured : Book → Change → Type 0
 IsMeasured b c = record_length c (state_told b c) ≡ length (own_body b c)
 
--- what is told of the state of this work is the one that its script leaves, and its record is measured by its body
+-- what is told of the state of this work is the one that its script leaves, its record is measured by its body, and the shelf does not follow
 abbrev pub IsOwnWork : Book → Work → Told → Type 0
-IsOwnWork b (landing c inside) x = (x ≡ own_told b c) × IsMeasured b c
+IsOwnWork b (landing c inside) x = (x ≡ own_told b c) × IsMeasured b c × (b.follows ≡ false)
 IsOwnWork b compacting x = ⊥
 
--- what is told of the state in doubt is the one that its script leaves, and its record is measured by its body
+-- what is told of the state in doubt is the one that its script leaves, its record is measured by its body, and the shelf does not follow
 abbrev pub IsOwnDoubt : Book → Option Doubt → Told → Type 0
 IsOwnDoubt b None x = ⊤
 IsOwnDoubt b (Some doubt) x = IsOwnWork b doubt.work x

@@ -1,5 +1,5 @@
 -- What holds of journals and of the books that they make.
-use Rattle.std.specs.Prelude.{◌≡◌, ◌⊎◌, ℕ, ◌≤◌, ◌^◌, List, ◌∷◌, [], ◌++◌, length, Option, Some, None, true, false, option_map, ⊤}
+use Rattle.std.specs.Prelude.{◌≡◌, ◌⊎◌, ℕ, ◌≤◌, ◌^◌, List, ◌∷◌, [], ◌++◌, length, Option, Some, None, Bool, true, false, option_map, ⊤}
 use Rattle.script_value.specs.declared.outcome.TxName.{TxName}
 use Rattle.script_nodes.specs.Setup.{Named}
 use Rattle.page_journal.specs.Records.{newest, is_format, at_rest}
@@ -10,13 +10,13 @@ use Rattle.replay_spec.specs.Step.{Event, crash, Fate, lost, kept, recovered, st
 use Rattle.replay_spec.specs.Runs.{lands}
 use Rattle.replay_spec.specs.Recovery.{number_in}
 use Rattle.replay_spec.specs.Laws.{IsLawful, Moment, AreLawful, book_after}
-use Rattle.journal_records.specs.Records.{Record, begins, changes, IsInGrammar, begin_of}
+use Rattle.journal_records.specs.Records.{Record, begins, changes, follows, promotes, IsInGrammar, begin_of}
 use Rattle.replay_spec.specs.Compaction.{compaction, file_length}
 use Rattle.journal_spec.specs.Before.{Made}
 use Rattle.journal_spec.specs.Lengths.{own_body}
-use Rattle.journal_spec.specs.Making.{Texts, nothing, begun, damaged, other, began, first_by, made_in, book_of}
+use Rattle.journal_spec.specs.Making.{Texts, nothing, begun, damaged, other, began, first_by, start_by, fed_by, made_in, book_of}
 use Rattle.journal_spec.specs.Old.{book_of_format}
-use Rattle.journal_spec.specs.Opening.{IsRead, ReadsAsTold, ReadsWhole, first_body, renewal_body, renewal_bodies, opened_book, opened_on}
+use Rattle.journal_spec.specs.Opening.{IsRead, IsReadUnlessFed, ReadsAsTold, ReadsWhole, first_body, renewal_body, opening_bodies, opened_book, opened_on}
 use Rattle.journal_spec.specs.Whole.{HasWholeScripts, HasOwnStates}
 use Rattle.journal_spec.specs.Events.{IsGiven, Gives}
 use Rattle.journal_spec.specs.Owning.{AreOwn, AreLanded, IsOwnBefore}
@@ -26,22 +26,25 @@ use Rattle.journal_spec.specs.Standing.{MakesIn, adds, puts, flight_of, HasRoom,
 use Rattle.journal_spec.specs.Keeping.{AreOver, IsTaken, IsOut, landed_in, IsRecoverable, Keeps, KeepsDoubt, KeepsWith, body_by, left_bodies, bodies_left, IsAppending, KeepsSetup, IsWritable, AreAppended, stake_of}
 use Rattle.journal_spec.specs.Spelling.{IsInRange}
 
--- the record is no first one of a journal
+-- the record is none with which a journal begins
 abbrev pub IsNoBegin : Option Record → Type 0
 IsNoBegin (Some (begins s named)) = ⊥
 IsNoBegin _ = ⊤
 
--- The first record of a journal of this shelf, whose names and texts are read as a setup, makes an empty book of that setup; one of another
--- shelf number makes the journal another shelf's. Where the names and texts are no setup, and where the first record is any other, the
--- journal is damaged there.
+-- The record that a journal of this shelf begins with, whose names and texts are read as a setup, makes an empty book of that setup; one of
+-- another shelf number makes the journal another shelf's. Where the names and texts are no setup, and where the record is any other, the
+-- journal is damaged there. At the start of a file, and there alone, another record may stand before it, which tells that the shelf follows
+-- another one's journal; and directly behind that one, and there alone, one that tells that it follows no longer.
 abbrev pub OnlyItsBeginBegins : Type 0
 OnlyItsBeginBegins =
-    (texts : Texts) (shelf place n : ℕ)
+    (texts : Texts) (fed : Bool) (shelf place n : ℕ)
     → ((named : List (List ℕ × List ℕ)) (scripts : List Named) → texts named ≡ Some scripts
-    → (first_by texts shelf place n (Some (begins shelf named)) ≡ begun (began shelf n scripts))
-    × ((s : ℕ) → (s ≡ shelf → ⊥) → first_by texts shelf place n (Some (begins s named)) ≡ other place))
-    × ((s : ℕ) (named : List (List ℕ × List ℕ)) → texts named ≡ None → first_by texts shelf place n (Some (begins s named)) ≡ damaged place)
-    × ((r : Option Record) → IsNoBegin r → first_by texts shelf place n r ≡ damaged place)
+    → (first_by texts fed shelf place n (Some (begins shelf named)) ≡ begun (began fed shelf place n scripts))
+    × ((s : ℕ) → (s ≡ shelf → ⊥) → first_by texts fed shelf place n (Some (begins s named)) ≡ other place))
+    × ((s : ℕ) (named : List (List ℕ × List ℕ)) → texts named ≡ None → first_by texts fed shelf place n (Some (begins s named)) ≡ damaged place)
+    × ((r : Option Record) → IsNoBegin r → first_by texts fed shelf place n r ≡ damaged place)
+    × ((r : Option Record) → (r ≡ Some follows → ⊥) → start_by texts shelf place n r ≡ first_by texts false shelf place n r)
+    × ((r : Option Record) → (r ≡ Some promotes → ⊥) → fed_by texts shelf place n r ≡ first_by texts true shelf place n r)
 
 -- What a disk that stands between two books may hold after a crash makes one of them.
 abbrev pub ImagesMakeBooks : Type 0
@@ -96,11 +99,11 @@ ASetupIsItsTexts =
     → (scripts ≡ b.scripts) × (opened_book shelf scripts b ≡ reopened b)
 
 -- What any bodies make is a book of this shelf, as after a crash, that can go on where its scripts can be run. Where they are bytes, its
--- numbers are in range, and the journal is as long as it tells.
+-- numbers are in range, and the journal is as long as it tells. A shelf that follows another one's journal may not know of a setup yet.
 pub record IsFitting (texts : Texts) (shelf : ℕ) (bodies : List (List ℕ)) (m : Made) : Type 0 where
   pub again : m.book ≡ reopened m.book
   pub shelf_is : m.book.shelf ≡ shelf
-  pub read : ReadsAsTold texts → IsRead texts m.book.scripts
+  pub read : ReadsAsTold texts → IsReadUnlessFed texts m.book
   pub whole : ReadsWhole texts → HasWholeScripts m.book
   pub recoverable : HasWholeScripts m.book → IsRecoverable m.book m.earlier.seen
   pub range : AreAllBytes bodies → IsInRange m.book
@@ -126,37 +129,39 @@ FreshJournalsAreKept =
     → let bodies = first_body scripts shelf ∷ [] in
     KeepsDoubt texts shelf bodies (empty_book rules scripts shelf) × AreOwn texts shelf bodies × AreLanded texts shelf bodies
 
--- A setup with other names or texts than the one before is told by one body more, which makes the book of the shelf that is opened with it.
--- It tells no state, and is none that is passed over.
+-- A setup with other names or texts than the one before is told by one body more, which makes the book of the shelf that is opened with it,
+-- where that does not follow another one's journal. It tells no state, and is none that is passed over.
 abbrev pub RenewalsAreKept : Type 0
 RenewalsAreKept =
     (texts : Texts) (shelf : ℕ) (bodies : List (List ℕ)) (b : Book) (scripts : List Named) → Keeps texts shelf bodies b → IsGiven texts scripts
-    → are_same scripts b.scripts ≡ false
+    → b.follows ≡ false → are_same scripts b.scripts ≡ false
     → KeepsWith texts shelf bodies (renewal_body scripts ∷ []) (opened_book shelf scripts b)
 
--- What a shelf goes on with that is opened with a setup is what its records make with the body that it writes: the first one, where there
--- is no record; and that of the setup, where it has other names or texts than the one before.
+-- What a shelf goes on with that is opened with a setup is what its records make with the body that it writes: the one that a journal begins
+-- with, where there is no record; and that of the setup, where it has other names or texts than the one before. A shelf that follows another
+-- one's journal writes none.
 abbrev pub OpeningsAreRecords : Type 0
 OpeningsAreRecords =
     (texts : Texts) (shelf : ℕ) (scripts : List Named) → IsGiven texts scripts
     → (IsInGrammar (begin_of shelf scripts) → made_in (book_of texts shelf (first_body scripts shelf ∷ [])) ≡ opened_on shelf scripts nothing)
-    × ((bodies : List (List ℕ)) (m : Made) → made_in (book_of texts shelf bodies) ≡ Some m → IsRead texts m.book.scripts
+    × ((bodies : List (List ℕ)) (m : Made) → made_in (book_of texts shelf bodies) ≡ Some m → IsReadUnlessFed texts m.book
     → (opened_on shelf scripts (book_of texts shelf bodies) ≡ Some (record m { book = opened_book shelf scripts m.book }))
-    × (made_in (book_of texts shelf (bodies ++ renewal_bodies scripts m.book.scripts)) ≡ Some (record m { book = opened_book shelf scripts m.book })))
+    × (made_in (book_of texts shelf (bodies ++ opening_bodies scripts m.book)) ≡ Some (record m { book = opened_book shelf scripts m.book })))
 
--- Where that body is in flight, a disk stands between the book before and the one of the shelf that is opened with that setup.
+-- Where that body is in flight, a disk stands between the book before and the one of the shelf that is opened with that setup, where that
+-- does not follow another one's journal.
 abbrev pub RenewalsStandBetween : Type 0
 RenewalsStandBetween =
     (texts : Texts) (shelf : ℕ) (bodies : List (List ℕ)) (b : Book) (scripts : List Named) → Keeps texts shelf bodies b → IsGiven texts scripts
-    → are_same scripts b.scripts ≡ false → Holdable bodies (renewal_body scripts)
+    → b.follows ≡ false → are_same scripts b.scripts ≡ false → Holdable bodies (renewal_body scripts)
     → (l : Between texts shelf b (opened_book shelf scripts b)) × Carries newest bodies (adds (renewal_body scripts)) l
 
--- A change that would be taken, and whose number is out, can be landed, whatever its page's state is: the body of its record makes the
--- book after it.
+-- A change that would be taken, and whose number is out, can be landed, whatever its page's state is, where the shelf does not follow another
+-- one's journal: the body of its record makes the book after it.
 abbrev pub LandingsAreKept : Type 0
 LandingsAreKept =
     (texts : Texts) (shelf : ℕ) (bodies : List (List ℕ)) (b : Book) (c : Change) (state : Option (List ℕ)) (inside : List TxName)
-    → (k : Keeps texts shelf bodies b) → b.down ≡ None → IsInGrammar (changes c state)
+    → (k : Keeps texts shelf bodies b) → b.down ≡ None → b.follows ≡ false → IsInGrammar (changes c state)
     → IsTaken k.earlier b c state inside → IsOut b (number_in c)
     → Keeps texts shelf (bodies ++ body_by c state ∷ []) (landed_in (length (body_by c state)) c inside b)
 
@@ -165,7 +170,7 @@ LandingsAreKept =
 abbrev pub LandingsStandBetween : Type 0
 LandingsStandBetween =
     (texts : Texts) (shelf : ℕ) (bodies : List (List ℕ)) (b : Book) (c : Change) (state : Option (List ℕ)) (inside : List TxName)
-    → (k : Keeps texts shelf bodies b) → b.down ≡ None → IsInGrammar (changes c state)
+    → (k : Keeps texts shelf bodies b) → b.down ≡ None → b.follows ≡ false → IsInGrammar (changes c state)
     → IsTaken k.earlier b c state inside → IsOut b (number_in c)
     → Holdable bodies (body_by c state)
     → (l : Between texts shelf b (landed_in (length (body_by c state)) c inside b))
@@ -199,27 +204,27 @@ EventsStandBetween =
 
 -- the book with the compacted file in the place of its own
 abbrev pub compacted_book : Book → Book
-compacted_book b = record b { length = file_length (compaction b); file = compaction b }
+compacted_book b = record b { length = file_length (compaction b); file = compaction b; follows = false }
 
 -- Where the copies that a compaction makes are put in the place of the bodies that they were made of, whoever wrote these, a disk stands
 -- between the book before and the one with the compacted file.
 abbrev pub CompactionsStandBetween : Type 0
 CompactionsStandBetween =
-    (texts : Texts) (shelf : ℕ) (first : List ℕ) (bodies : List (List ℕ)) (m : Made) → AreAllBytes (first ∷ bodies)
-    → made_in (book_of texts shelf (first ∷ bodies)) ≡ Some m
-    → length (at_rest (first ∷ bodies)) ≤ 2 ^ 30 → length (at_rest (copies newest texts shelf first bodies m)) ≤ 2 ^ 30
+    (texts : Texts) (shelf : ℕ) (bodies : List (List ℕ)) (m : Made) → AreAllBytes bodies
+    → made_in (book_of texts shelf bodies) ≡ Some m → m.book.follows ≡ false
+    → length (at_rest bodies) ≤ 2 ^ 30 → length (at_rest (copies newest texts shelf bodies m)) ≤ 2 ^ 30
     → (l : Between texts shelf m.book (compacted_book m.book))
-    × Carries newest (first ∷ bodies) (puts newest (copies newest texts shelf first bodies m)) l
+    × Carries newest bodies (puts newest (copies newest texts shelf bodies m)) l
 
 -- Where the bodies of a file of any format that stay, written in the newest one, are put in its place, a disk stands between its book and the one
 -- with the new file.
 abbrev pub MigrationsStandBetween : Type 0
 MigrationsStandBetween =
-    (format : ℕ) (texts : Texts) (shelf : ℕ) (first : List ℕ) (bodies : List (List ℕ)) (m : Made) → is_format format ≡ true
-    → IsToldAnew format m → AreAllBytes (first ∷ bodies) → made_in (book_of_format format texts shelf (first ∷ bodies)) ≡ Some m
-    → length (at_rest (first ∷ bodies)) ≤ 2 ^ 30 → length (at_rest (copies format texts shelf first bodies m)) ≤ 2 ^ 30
-    → (k : Made) × (made_in (book_of texts shelf (copies format texts shelf first bodies m)) ≡ Some k) × IsMigrated m k
-    × ((l : Between texts shelf m.book k.book) × Carries format (first ∷ bodies) (puts newest (copies format texts shelf first bodies m)) l)
+    (format : ℕ) (texts : Texts) (shelf : ℕ) (bodies : List (List ℕ)) (m : Made) → is_format format ≡ true
+    → IsToldAnew format m → AreAllBytes bodies → made_in (book_of_format format texts shelf bodies) ≡ Some m → m.book.follows ≡ false
+    → length (at_rest bodies) ≤ 2 ^ 30 → length (at_rest (copies format texts shelf bodies m)) ≤ 2 ^ 30
+    → (k : Made) × (made_in (book_of texts shelf (copies format texts shelf bodies m)) ≡ Some k) × IsMigrated m k
+    × ((l : Between texts shelf m.book k.book) × Carries format bodies (puts newest (copies format texts shelf bodies m)) l)
 
 -- What a journal told of each page is the state that its script left there, where its states are own ones.
 abbrev pub OwnStatesAreTold : Type 0

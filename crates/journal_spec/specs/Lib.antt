@@ -22,3 +22,4 @@ pub mod Depths
 pub mod Vectors
 pub mod VectorsOfPages
 pub mod OwnCopies
+pub mod Feeding

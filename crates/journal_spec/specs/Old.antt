@@ -1,6 +1,6 @@
 -- What the records of a file make in each of the formats 1 to 6. Format 6 is the one that is written.
 use Rattle.std.proofs.Common.{◌≡◌, refl, ap, ◌∙◌}
-use Rattle.std.specs.Prelude.{ℕ, ◌+◌, ◌==◌, Bool, true, List, [], ◌∷◌, length, Option, Some, None, is_some, if◌then◌else◌}
+use Rattle.std.specs.Prelude.{ℕ, ◌+◌, ◌==◌, Bool, true, false, List, [], ◌∷◌, length, Option, Some, None, is_some, if◌then◌else◌}
 use Rattle.std.specs.List.{list_all}
 use Rattle.script_value.specs.Val.{Val}
 use Rattle.script_value.specs.declared.outcome.TxName.{TxName}
@@ -12,13 +12,13 @@ use Rattle.script_nodes.specs.Arena.{Arena}
 use Rattle.script_nodes.specs.Setup.{Named}
 use Rattle.machine_states.specs.Machine.{Suspended, inside_of}
 use Rattle.kept_states.specs.FrameCodec.Reading.{read_state}
-use Rattle.journal_records.specs.Records.{Record, begins, changes, renews, draws}
+use Rattle.journal_records.specs.Records.{Record, begins, changes, renews, draws, follows, promotes}
 use Rattle.journal_records.specs.Reading.{read_record}
 use Rattle.journal_records.specs.Old.{read_record_in}
 use Rattle.journal_spec.specs.Before.{Earlier, Made, plain, before_told}
 use Rattle.journal_spec.specs.Retaking.{arena_of, Told, unread, misread, told, told_as, script_for, told_in, landing, retaken}
 use Rattle.journal_spec.specs.Lengths.{own_told}
-use Rattle.journal_spec.specs.Making.{Texts, Making, nothing, begun, made, damaged, other, has_script, told_next, next_setup, first_by, with_drawn, next_by, second_by, with_body, with_bodies, book_of}
+use Rattle.journal_spec.specs.Making.{Texts, Making, nothing, waits, waited, begun, made, damaged, other, has_script, told_next, next_setup, first_by, start_by, fed_by, promoted_by, with_drawn, next_by, second_by, with_body, with_bodies, book_of}
 
 -- whether a state binds each web cell that the state before it binds, if there is one: as each run of a script does that goes on from it
 abbrev pub binds_before : (before : Option Suspended) → Suspended → Bool
@@ -68,16 +68,19 @@ abbrev pub next_at : (format : ℕ) → Texts → (place length : ℕ) → Made 
 next_at format texts place n m (Some (changes c state)) =
     if has_script (length m.book.scripts) c then change_next format place n m c state else damaged place
 next_at format texts place n m (Some (renews named)) = next_setup place n m (texts named)
+next_at format texts place n m (Some promotes) = promoted_by place n m m.book.follows
 next_at format texts place n m _ = damaged place
 
--- what the record directly after the first one makes in this format
+-- what the record directly after the one of the setup makes in this format
 abbrev pub second_at : (format : ℕ) → Texts → (place length : ℕ) → Made → Option Record → Making
 second_at format texts place n m (Some (draws number)) = made (with_drawn number m)
 second_at format texts place n m r = next_at format texts place n m r
 
 -- what records make in this format with one body more, whose gate is at this place
 abbrev pub with_body_at : (format : ℕ) → Texts → (shelf place : ℕ) → List ℕ → Making → Making
-with_body_at format texts shelf place body nothing = first_by texts shelf place (length body) (read_record_in format body)
+with_body_at format texts shelf place body nothing = start_by texts shelf place (length body) (read_record_in format body)
+with_body_at format texts shelf place body (waits s) = fed_by texts shelf place (length body) (read_record_in format body)
+with_body_at format texts shelf place body waited = first_by texts false shelf place (length body) (read_record_in format body)
 with_body_at format texts shelf place body (begun m) = second_at format texts place (length body) m (read_record_in format body)
 with_body_at format texts shelf place body (made m) = next_at format texts place (length body) m (read_record_in format body)
 with_body_at format texts shelf place body (damaged p) = damaged p
@@ -100,6 +103,8 @@ next_now texts place n m (Some (begins s named)) = refl
 next_now texts place n m (Some (changes c state)) = refl
 next_now texts place n m (Some (renews named)) = refl
 next_now texts place n m (Some (draws number)) = refl
+next_now texts place n m (Some follows) = refl
+next_now texts place n m (Some promotes) = refl
 
 -- the record after the first means in the newest format what it means where no format is named
 second_now : (texts : Texts) (place n : ℕ) (m : Made) (r : Option Record) → second_at 6 texts place n m r ≡ second_by texts place n m r
@@ -108,11 +113,15 @@ second_now texts place n m (Some (begins s named)) = refl
 second_now texts place n m (Some (changes c state)) = refl
 second_now texts place n m (Some (renews named)) = refl
 second_now texts place n m (Some (draws number)) = refl
+second_now texts place n m (Some follows) = refl
+second_now texts place n m (Some promotes) = refl
 
 -- one more record means in the newest format what it means where no format is named
 body_now : (texts : Texts) (shelf place : ℕ) (body : List ℕ) (m : Making) → with_body_at 6 texts shelf place body m ≡ with_body texts shelf place body m
 unfolding read_record_in read_record
 body_now texts shelf place body nothing = refl
+body_now texts shelf place body (waits s) = refl
+body_now texts shelf place body waited = refl
 body_now texts shelf place body (begun m) = second_now texts place (length body) m (read_record body)
 body_now texts shelf place body (made m) = next_now texts place (length body) m (read_record body)
 body_now texts shelf place body (damaged p) = refl

@@ -1,5 +1,5 @@
 -- Worked rows of files without pages.
-use Rattle.std.specs.Prelude.{◌≡◌, ℕ, ◌+◌, ◌-◌, ◌^◌, List, [], ◌∷◌, Some, None, codes, refl}
+use Rattle.std.specs.Prelude.{◌≡◌, ℕ, ◌+◌, ◌-◌, ◌^◌, true, false, List, [], ◌∷◌, Some, None, codes, refl}
 use Rattle.script_value.specs.Val.{text, symbol, list, vals_of, no_vals}
 use Rattle.script_nodes.specs.declared.script.SendKind.TheVariants.{Suspend}
 use Rattle.script_nodes.specs.Core.{lit, no_cores}
@@ -7,11 +7,11 @@ use Rattle.script_nodes.specs.Setup.{Named}
 use Rattle.replay_spec.specs.Book.{Change, opens, ends, sweeps, changed, renewed, Book}
 use Rattle.replay_spec.specs.Compaction.{file_length}
 use Rattle.value_bytes.specs.Reading.{read_within}
-use Rattle.journal_records.specs.Records.{begins, changes, draws, renews, begin_of, renewal_of, body_of}
+use Rattle.journal_records.specs.Records.{begins, changes, draws, renews, follows, promotes, begin_of, renewal_of, body_of}
 use Rattle.journal_records.specs.Old.{newest_format, read_record_in}
 use Rattle.journal_records.specs.Reading.{read_record}
 use Rattle.journal_spec.specs.Before.{nothing_told, Made}
-use Rattle.journal_spec.specs.Making.{Texts, nothing, begun, made, damaged, other, began, book_of}
+use Rattle.journal_spec.specs.Making.{Texts, nothing, waits, waited, begun, made, damaged, other, in_file, waiting, began, made_in, book_of}
 use Rattle.journal_spec.specs.Opening.{opened_on}
 use Rattle.journal_spec.specs.Copying.{copies}
 
@@ -47,13 +47,13 @@ abbrev sweep_to : ℕ → List ℕ
 sweep_to tick = body_of (changes (sweeps tick) None)
 
 -- the first record alone makes a book whose file is 46 bytes long
-first_alone : book_of texts 0 (begin_ten ∷ []) ≡ begun (began 0 32 (ten ∷ []))
+first_alone : book_of texts 0 (begin_ten ∷ []) ≡ begun (began false 0 8 32 (ten ∷ []))
 unfolding read_record
 first_alone = refl
 
 -- the book that the first record alone makes
 abbrev begun_ten : Book
-begun_ten = (began 0 32 (ten ∷ [])).book
+begun_ten = (began false 0 8 32 (ten ∷ [])).book
 
 -- the first record alone makes a book whose journal is 46 bytes long
 its_length : begun_ten.length ≡ 46
@@ -181,11 +181,12 @@ one_more = refl
 opened_as_before : opened_on 0 (ten ∷ []) (made (record { book = at_50; earlier = nothing_told })) ≡ Some (record { book = at_50; earlier = nothing_told })
 opened_as_before = refl
 
--- with another one it goes on as its records make with that, and where there is no record as the first one makes
-opened_with_another : opened_on 0 (eleven ∷ []) (begun (began 0 32 (ten ∷ []))) ≡ Some (record { book = edited; earlier = nothing_told })
+-- opened with another setup, a shelf goes on with what its records and that setup make
+opened_with_another : opened_on 0 (eleven ∷ []) (begun (began false 0 8 32 (ten ∷ []))) ≡ Some (record { book = edited; earlier = nothing_told })
 opened_with_another = refl
 
-opened_on_nothing : opened_on 0 (ten ∷ []) nothing ≡ Some (began 0 32 (ten ∷ []))
+-- opened where there is no record, a shelf goes on with what the first record of its setup makes
+opened_on_nothing : opened_on 0 (ten ∷ []) nothing ≡ Some (began false 0 8 32 (ten ∷ []))
 opened_on_nothing = refl
 
 -- a shelf is not opened on another one's file
@@ -210,7 +211,8 @@ ticks_60 : book_of texts 0 (begin_ten ∷ sweep_to 50 ∷ lost_end 2 ∷ sweep_t
 unfolding read_record read_within
 ticks_60 = refl
 
-ticks_copied : copies newest_format texts 0 begin_ten (sweep_to 50 ∷ lost_end 2 ∷ sweep_to 60 ∷ []) at_60 ≡ begin_ten ∷ body_of (draws 3) ∷ sweep_to 60 ∷ []
+-- a compacted file has the first record, the next number and the last tick; the record that was passed over is gone
+ticks_copied : copies newest_format texts 0 (begin_ten ∷ sweep_to 50 ∷ lost_end 2 ∷ sweep_to 60 ∷ []) at_60 ≡ begin_ten ∷ body_of (draws 3) ∷ sweep_to 60 ∷ []
 unfolding read_record_in read_within
 ticks_copied = refl
 
@@ -228,12 +230,132 @@ edited_ticks = refl
 
 -- a setup that changed between two ticks is copied, with both ticks
 edits_are_copied :
-    copies newest_format texts 0 begin_ten (sweep_to 50 ∷ body_of (renewal_of (eleven ∷ [])) ∷ sweep_to 60 ∷ []) edited_at_60
+    copies newest_format texts 0 (begin_ten ∷ sweep_to 50 ∷ body_of (renewal_of (eleven ∷ [])) ∷ sweep_to 60 ∷ []) edited_at_60
     ≡ begin_ten ∷ body_of (draws 0) ∷ sweep_to 50 ∷ body_of (renewal_of (eleven ∷ [])) ∷ sweep_to 60 ∷ []
 unfolding read_record_in
 edits_are_copied = refl
 
 -- a compacted file that is compacted again is the same
-number_copied : copies newest_format texts 0 begin_ten (body_of (draws 3) ∷ sweep_to 50 ∷ []) (record { book = compacted; earlier = nothing_told }) ≡ begin_ten ∷ body_of (draws 3) ∷ sweep_to 50 ∷ []
+number_copied : copies newest_format texts 0 (begin_ten ∷ body_of (draws 3) ∷ sweep_to 50 ∷ []) (record { book = compacted; earlier = nothing_told }) ≡ begin_ten ∷ body_of (draws 3) ∷ sweep_to 50 ∷ []
 unfolding read_record_in
 number_copied = refl
+
+-- ---- files of shelves that follow another one's journal, or followed one
+
+-- the body of the record that a shelf follows another one's journal
+abbrev follow : List ℕ
+follow = body_of follows
+
+-- the body of the record that a shelf follows no longer
+abbrev promoted : List ℕ
+promoted = body_of promotes
+
+-- the record that a shelf follows, alone, makes a shelf that waits for its first record
+follow_alone : book_of texts 0 (follow ∷ []) ≡ waits 0
+unfolding read_record
+follow_alone = refl
+
+-- the file of a shelf that waits is 15 bytes long
+waits_long : (waiting 0).book.length ≡ 15
+waits_long = refl
+
+-- the book of a shelf that waits follows
+waits_follows : (waiting 0).book.follows ≡ true
+waits_follows = refl
+
+-- a shelf that waits is told no setup where it is opened with one
+waits_opened : opened_on 0 (ten ∷ []) (waits 0) ≡ Some (waiting 0)
+waits_opened = refl
+
+-- behind the record that a shelf follows, the record of the first setup makes a book that follows
+follow_begin : book_of texts 0 (follow ∷ begin_ten ∷ []) ≡ begun (began true 0 14 32 (ten ∷ []))
+unfolding read_record
+follow_begin = refl
+
+-- with its first setup alone, the file of a shelf that follows is 6 bytes longer than another
+follow_begin_long : (began true 0 14 32 (ten ∷ [])).book.length ≡ 52
+follow_begin_long = refl
+
+-- a tick that a shelf was fed makes the book that it makes elsewhere, in a longer file, and it follows
+follow_tick : book_of texts 0 (follow ∷ begin_ten ∷ sweep_to 50 ∷ []) ≡ made (in_file true 66 (record { book = at_50; earlier = nothing_told }))
+unfolding read_record
+follow_tick = refl
+
+-- the records of a compacted file that a shelf was fed make the book that they make elsewhere, in a longer file, and it follows
+follow_drawn : book_of texts 0 (follow ∷ begin_ten ∷ body_of (draws 3) ∷ sweep_to 50 ∷ []) ≡ made (in_file true 80 (record { book = compacted; earlier = nothing_told }))
+unfolding read_record
+follow_drawn = refl
+
+-- a shelf that follows is opened with the setup that its records told, whatever it is given
+follows_on : opened_on 0 (eleven ∷ []) (begun (began true 0 14 32 (ten ∷ []))) ≡ Some (began true 0 14 32 (ten ∷ []))
+follows_on = refl
+
+-- the record that a shelf follows no longer makes the same book, in a file that is 6 bytes longer, and it does not follow
+promoted_tick : book_of texts 0 (follow ∷ begin_ten ∷ sweep_to 50 ∷ promoted ∷ []) ≡ made (in_file false 72 (record { book = at_50; earlier = nothing_told }))
+unfolding read_record
+promoted_tick = refl
+
+-- the records that a shelf follows, and follows no longer, make no book where no other stands behind them
+promoted_alone : book_of texts 0 (follow ∷ promoted ∷ []) ≡ waited
+unfolding read_record
+promoted_alone = refl
+
+-- where a file has these two records alone, there is no book yet
+no_book_yet : made_in waited ≡ None
+no_book_yet = refl
+
+-- behind the records that a shelf follows, and follows no longer, its first setup makes a book that does not follow
+promoted_begin : book_of texts 0 (follow ∷ promoted ∷ begin_ten ∷ []) ≡ begun (began false 0 20 32 (ten ∷ []))
+unfolding read_record
+promoted_begin = refl
+
+-- opened where it follows no longer and has no setup, a shelf goes on with what the first record of its own makes, 12 bytes later
+promoted_opened : opened_on 0 (ten ∷ []) waited ≡ Some (began false 0 20 32 (ten ∷ []))
+promoted_opened = refl
+
+-- behind the record that a shelf follows, the first setup of another shelf is told from its place
+other_behind_follow : book_of texts 1 (follow ∷ begin_ten ∷ []) ≡ other 14
+unfolding read_record
+other_behind_follow = refl
+
+-- behind the record that a shelf follows no longer, the first setup of another shelf is told from its place
+other_behind_both : book_of texts 1 (follow ∷ promoted ∷ begin_ten ∷ []) ≡ other 20
+unfolding read_record
+other_behind_both = refl
+
+-- a second record that the shelf follows no longer is damage
+promoted_twice : book_of texts 0 (follow ∷ begin_ten ∷ promoted ∷ promoted ∷ []) ≡ damaged 57
+unfolding read_record
+promoted_twice = refl
+
+-- a second record that the shelf follows no longer is damage, also where no setup stands before it
+promoted_twice_alone : book_of texts 0 (follow ∷ promoted ∷ promoted ∷ []) ≡ damaged 20
+unfolding read_record
+promoted_twice_alone = refl
+
+-- the record that a shelf follows no longer is damage in the file of one that never followed
+promoted_no_follower : book_of texts 0 (begin_ten ∷ promoted ∷ []) ≡ damaged 45
+unfolding read_record
+promoted_no_follower = refl
+
+-- the record that a shelf follows no longer is damage at the front of a file
+promoted_first : book_of texts 0 (promoted ∷ begin_ten ∷ []) ≡ damaged 8
+unfolding read_record
+promoted_first = refl
+
+-- the record that a shelf follows is damage behind a setup
+follow_later : book_of texts 0 (begin_ten ∷ follow ∷ []) ≡ damaged 45
+unfolding read_record
+follow_later = refl
+
+-- a second record that the shelf follows is damage
+follow_twice : book_of texts 0 (follow ∷ follow ∷ begin_ten ∷ []) ≡ damaged 14
+unfolding read_record
+follow_twice = refl
+
+-- a compacted file tells neither
+marks_are_not_copied :
+    copies newest_format texts 0 (follow ∷ begin_ten ∷ sweep_to 50 ∷ lost_end 2 ∷ promoted ∷ sweep_to 60 ∷ []) (in_file false (at_60.book.length + 12) at_60)
+    ≡ begin_ten ∷ body_of (draws 3) ∷ sweep_to 60 ∷ []
+unfolding read_record_in read_within
+marks_are_not_copied = refl

@@ -1,5 +1,5 @@
 -- Worked rows of files with pages.
-use Rattle.std.specs.Prelude.{◌≡◌, ℕ, ◌+◌, List, [], ◌∷◌, ◌++◌, Some, None, codes, refl}
+use Rattle.std.specs.Prelude.{◌≡◌, false, ℕ, ◌+◌, List, [], ◌∷◌, ◌++◌, Some, None, codes, refl}
 use Rattle.script_value.specs.Val.{text, list, no_vals}
 use Rattle.script_nodes.specs.declared.script.SendKind.TheVariants.{Suspend}
 use Rattle.script_nodes.specs.Core.{lit, send, no_cores}
@@ -108,7 +108,7 @@ first_instance n = record {
 
 -- the book that the first record alone makes
 abbrev begun_waiting : Book
-begun_waiting = (began 3 56 (waiting ∷ [])).book
+begun_waiting = (began false 3 8 56 (waiting ∷ [])).book
 
 -- the book behind a start, where the file is this long
 abbrev started : (length : ℕ) → Book
@@ -275,14 +275,14 @@ a_form_in_3 = refl
 
 -- a start of format 2, and one of format 3, is written in the newest format with the form of its state and a list of no pages that went
 start_of_2_now :
-    copies 2 texts 3 begin_waiting (old_start bare_bytes ∷ []) (record { book = started_by 57; earlier = record { seen = 0 ∷ []; states = (0, bare) ∷ [] } })
+    copies 2 texts 3 (begin_waiting ∷ old_start bare_bytes ∷ []) (record { book = started_by 57; earlier = record { seen = 0 ∷ []; states = (0, bare) ∷ [] } })
     ≡ begin_waiting ∷ body_of (draws 1) ∷ start_body 0 0 flat ∷ []
 unfolding read_record_in read_within
 start_of_2_now = refl
 
 -- a start of format 3 is copied in the newest one, after the next number
 start_of_3_now :
-    copies 3 texts 3 begin_waiting (old_start flat ∷ []) (record { book = started_by 58; earlier = record { seen = 0 ∷ []; states = (0, bare) ∷ [] } })
+    copies 3 texts 3 (begin_waiting ∷ old_start flat ∷ []) (record { book = started_by 58; earlier = record { seen = 0 ∷ []; states = (0, bare) ∷ [] } })
     ≡ begin_waiting ∷ body_of (draws 1) ∷ start_body 0 0 flat ∷ []
 unfolding read_record_in read_within
 start_of_3_now = refl

@@ -12,6 +12,7 @@ ghost use Rattle.journal_spec.specs.Spelling.{WhatIsRecordedIsSpelled, RangesAre
 ghost use Rattle.journal_spec.specs.Depths.{RunsStayShallow};
 ghost use Rattle.journal_spec.specs.Reading.{ReadersMakeTheBook};
 ghost use Rattle.journal_spec.specs.Laws.{OnlyItsBeginBegins, ImagesMakeBooks, OpenedImagesMakeBooks, BooksStandAlike, ACrashIsLostOrKept, CrashesOpen, ASetupIsItsTexts, BodiesMakeFittingBooks, BodiesOfAnyFormatFit, FreshJournalsAreKept, RenewalsAreKept, OpeningsAreRecords, RenewalsStandBetween, LandingsAreKept, LandingsStandBetween, EventsAreKept, EventsStandBetween, CompactionsStandBetween, MigrationsStandBetween, OwnStatesAreTold, RunsAreKept};
+ghost use Rattle.journal_spec.specs.Feeding.{FollowersMakeTheBook, OneBodyMore, PromotionsMakeTheBook, BodiesStandBetween, FedJournalsAreOwn, FollowersAreTold, FrontsAreThese, LaterJournalsAreKept};
 ghost use Rattle.journal_spec.specs.Disks.{RecoveriesStay, RecoveriesFindOne, OpeningsStay, SettledJournalsStand, QuietCallsStand, WritesStandBetween, CallsLeaveStanding};
 
 use journal_records::records_are_exact;
@@ -92,7 +93,7 @@ pub fn runs_stay_shallow()
 
 // Of one file, as records and setups are added to it.
 
-/// The first record of this shelf makes an empty book, where its names and texts are a setup.
+/// The record of its setup, which a journal of this shelf begins with, makes an empty book, where its names and texts are a setup.
 pub fn only_its_begin_begins()
     ensures { OnlyItsBeginBegins }
 {}
@@ -223,6 +224,62 @@ pub fn own_states_are_told()
 /// under rules and setups that change.
 pub fn runs_are_kept()
     ensures { RunsAreKept }
+{
+    records_are_exact();
+}
+
+// Of shelves that follow another one's journal.
+
+/// The records that a shelf is fed make of it what they make of their own shelf, but for the length of its file, and that it follows.
+pub fn followers_make_the_book()
+    ensures { FollowersMakeTheBook }
+{
+    records_are_exact();
+}
+
+/// What bodies make with one more is what that one makes behind them.
+pub fn one_body_more()
+    ensures { OneBodyMore }
+{}
+
+/// One body more promotes a shelf that follows: its book stays, but for the length of its file.
+pub fn promotions_make_the_book()
+    ensures { PromotionsMakeTheBook }
+{
+    records_are_exact();
+}
+
+/// A shelf that is fed a journal with own states has own states, also once it is promoted.
+pub fn fed_journals_are_own()
+    ensures { FedJournalsAreOwn }
+{
+    records_are_exact();
+}
+
+/// A shelf follows only where the first record of its file tells so, in the newest format.
+pub fn followers_are_told()
+    ensures { FollowersAreTold }
+{
+    records_are_exact();
+}
+
+/// Which records make nothing, which a shelf that waits for the first record of the journal that it follows, and which one that waited.
+pub fn fronts_are_these()
+    ensures { FrontsAreThese }
+{
+    records_are_exact();
+}
+
+/// Behind the records of a shelf that waited, a journal begins as in a file of its own.
+pub fn later_journals_are_kept()
+    ensures { LaterJournalsAreKept }
+{
+    records_are_exact();
+}
+
+/// With any body in flight, a disk stands between the book of those before it and the book of all.
+pub fn bodies_stand_between()
+    ensures { BodiesStandBetween }
 {
     records_are_exact();
 }
