@@ -1,6 +1,7 @@
 -- What copying all records of a file makes.
 use Rattle.std.proofs.Common.{◌≡◌, ℕ, zero, suc, ◌+◌, ◌≤◌, ◌<◌, ◌^◌, Bool, true, false, if◌then◌else◌, drop, get_or, slice_get, List, [], ◌∷◌, ◌++◌, length, Some, refl, sym, ◌∙◌, ap, subst, arith, append_assoc}
 use Rattle.std.specs.List.{AllByRecursion}
+use Rattle.std.proofs.lemmas.Bool.{false≢true}
 use Rattle.std.proofs.lemmas.List.{append-nil}
 use Rattle.std.proofs.lemmas.List.Elements.{All-from_recursion}
 use Rattle.std.proofs.lemmas.Option.{same_Some}
@@ -12,10 +13,11 @@ use Rattle.page_journal.proofs.Frames.{closed_end}
 use Rattle.file_notes.specs.declared.note.Note.{Note}
 use Rattle.file_notes.specs.declared.notes.FileNotes.{FileNotes}
 use Rattle.file_notes.specs.Notes.{length_in, picked}
+use Rattle.file_notes.specs.JournalRecords.Roles.{is_role, behind_front}
 use Rattle.file_copies.specs.declared.copier.Copier.{Copier}
 use Rattle.file_copies.specs.declared.copier.Stage.{Stage}
 use Rattle.file_copies.specs.declared.copier.Stage.TheVariants.{First, Number, Others}
-use Rattle.file_copies.specs.Copies.{copied, puts, stage_then, place_then, IsAsNoted, IsCopied, IsBegun}
+use Rattle.file_copies.specs.Copies.{others_of, copied, puts, behind_first, stage_then, place_then, IsAsNoted, IsCopied, IsBegun}
 
 pub frames_of_both : (xs ys : List (List ℕ)) → frames (xs ++ ys) ≡ frames xs ++ frames ys
 frames_of_both [] ys = refl
@@ -24,7 +26,7 @@ frames_of_both (x ∷ xs) ys = ap (λ (l : List ℕ). 1 ∷ (framed x ++ l)) (fr
 -- what is put for these bodies, the first of them of this stage, where these are left of the plan
 abbrev outs : (drawn : Bool) (number : List ℕ) → Stage → (plan : List Bool) → List (List ℕ) → List (List ℕ)
 outs drawn number First plan [] = []
-outs drawn number First plan (b ∷ bs) = b ∷ (number ∷ outs drawn number (stage_then drawn First) plan bs)
+outs drawn number First plan (b ∷ bs) = if is_role b then outs drawn number First plan bs else b ∷ (number ∷ outs drawn number (behind_first drawn) plan bs)
 outs drawn number Number plan [] = []
 outs drawn number Number plan (b ∷ bs) = picked plan bs
 outs drawn number Others plan bs = picked plan bs
@@ -42,11 +44,20 @@ none_picked [] = refl
 none_picked (t ∷ ts) = refl
 
 -- the copy of a whole file
-whole_copy : (drawn : Bool) (number : List ℕ) (plan : List Bool) (bodies : List (List ℕ)) → outs drawn number First plan bodies ≡ copied plan drawn number bodies
+whole_copy : (drawn : Bool) (number : List ℕ) (plan : List Bool) (bodies : List (List ℕ)) → outs drawn number First plan bodies ≡ copied plan drawn number (behind_front bodies)
 whole_copy drawn number plan [] = refl
-whole_copy true number plan (b ∷ []) = ap (λ (xs : List (List ℕ)). b ∷ (number ∷ xs)) (sym (none_picked plan))
-whole_copy true number plan (b ∷ c ∷ bs) = refl
-whole_copy false number plan (b ∷ bs) = refl
+whole_copy drawn number plan (b ∷ bs) = by_role (is_role b) (whole_copy drawn number plan bs)
+  where
+    behind : (d : Bool) (cs : List (List ℕ)) → outs d number (behind_first d) plan cs ≡ picked plan (others_of d cs)
+    behind true [] = sym (none_picked plan)
+    behind true (c ∷ cs) = refl
+    behind false cs = refl
+
+    by_role : (t : Bool) → outs drawn number First plan bs ≡ copied plan drawn number (behind_front bs)
+        → (if t then outs drawn number First plan bs else b ∷ (number ∷ outs drawn number (behind_first drawn) plan bs))
+        ≡ copied plan drawn number (if t then behind_front bs else b ∷ bs)
+    by_role true rest = rest
+    by_role false rest = ap (λ (xs : List (List ℕ)). b ∷ (number ∷ xs)) (behind drawn bs)
 
 outs_none : (drawn : Bool) (number : List ℕ) (s : Stage) (plan : List Bool) → outs drawn number s plan [] ≡ []
 outs_none drawn number First plan = refl
@@ -61,18 +72,26 @@ there_low (y ∷ ys) (suc n) x e = let h = there_low ys n x e in omega (arith, h
 -- one record more
 outs_step : (c : Copier) (body : List ℕ) (bodies : List (List ℕ)) (s : Stage) → length c.plan.now ≡ length c.notes.now → IsAsNoted c body s
     → outs c.drawn c.number.now s (drop c.next c.plan.now) (body ∷ bodies)
-    ≡ puts c body s ++ outs c.drawn c.number.now (stage_then c.drawn s) (drop (place_then c.next s) c.plan.now) bodies
-outs_step c body bodies First many noted = refl
+    ≡ puts c body s ++ outs c.drawn c.number.now (stage_then c.drawn body s) (drop (place_then c.next s) c.plan.now) bodies
+outs_step c body bodies First many noted = by_role (is_role body)
+  where
+    rest : Stage → List (List ℕ)
+    rest s = outs c.drawn c.number.now s (drop c.next c.plan.now) bodies
+
+    by_role : (t : Bool) → (if t then rest First else body ∷ (c.number.now ∷ rest (behind_first c.drawn)))
+        ≡ (if t then (let none : List (List ℕ) = [] in none) else body ∷ (c.number.now ∷ [])) ++ rest (if t then First else behind_first c.drawn)
+    by_role true = refl
+    by_role false = refl
 outs_step c body bodies Number many noted = by_drawn c.drawn
   where
-    by_drawn : (d : Bool) → picked (drop c.next c.plan.now) bodies ≡ outs d c.number.now (stage_then d Number) (drop c.next c.plan.now) bodies
+    by_drawn : (d : Bool) → picked (drop c.next c.plan.now) bodies ≡ outs d c.number.now (stage_then d body Number) (drop c.next c.plan.now) bodies
     by_drawn true = refl
     by_drawn false = refl
 outs_step c body bodies Others many noted =
     picked_on c.plan.now c.next body bodies (omega (arith, many, there_low c.notes.now c.next noted.0 noted.1.0))
     ∙ ap (λ (xs : List (List ℕ)). puts c body Others ++ xs) (by_drawn c.drawn)
   where
-    by_drawn : (d : Bool) → picked (drop (suc c.next) c.plan.now) bodies ≡ outs d c.number.now (stage_then d Others) (drop (suc c.next) c.plan.now) bodies
+    by_drawn : (d : Bool) → picked (drop (suc c.next) c.plan.now) bodies ≡ outs d c.number.now (stage_then d body Others) (drop (suc c.next) c.plan.now) bodies
     by_drawn true = refl
     by_drawn false = refl
 
@@ -98,7 +117,11 @@ TellsShort most c next = AllByRecursion (λ n. length_in n ≤ most) (picked (dr
 
 one_short : (c : Copier) (body : List ℕ) (rest : List (List ℕ)) (s : Stage) (most : ℕ) → length c.plan.now ≡ length c.notes.now → IsAsNoted c body s → c.head ≤ most + 14 → length c.number.now ≤ most → TellsShort most c c.next
     → (TellsShort most c (place_then c.next s) → AreShort most rest) → AreShort most (puts c body s ++ rest)
-one_short c body rest First most many noted head number all then_so = (omega (arith, noted, head), (number, then_so all))
+one_short c body rest First most many noted head number all then_so = by_role (is_role body) noted
+  where
+    by_role : (t : Bool) → (t ≡ false → length body + 14 ≡ c.head) → AreShort most ((if t then (let none : List (List ℕ) = [] in none) else body ∷ (c.number.now ∷ [])) ++ rest)
+    by_role true is = then_so all
+    by_role false is = let long = is refl in (omega (arith, long, head), (number, then_so all))
 one_short c body rest Number most many noted head number all then_so = then_so all
 one_short c body rest Others most many noted head number all then_so =
     by_mark (get_or c.plan.now c.next false)
@@ -117,6 +140,23 @@ one_short c body rest Others most many noted head number all then_so =
     by_mark true tell = (omega (arith, tell.0, noted.1.1), then_so tell.1)
     by_mark false tell = then_so tell
 
+-- a record that tells in front of the first one whether the shelf follows is passed over
+pub role_passed : (c : Copier) (body : List ℕ) → c.stage ≡ First → is_role body ≡ true → IsCopied c body c
+role_passed c body first role = record {
+  sound = λ ok. ok;
+  file = λ ok. sym (append-nil c.file.items) ∙ ap (λ (xs : List (List ℕ)). c.file.items ++ frames xs) (sym puts_none);
+  noted = λ ok. subst (λ (s : Stage). IsAsNoted c body s) (sym first) (λ off. absurd (false≢true (sym off ∙ role)));
+  stage = first ∙ sym stage_stays;
+  next = λ ok. sym (ap (λ (s : Stage). place_then c.next s) first);
+  same = record { notes = refl; head = refl; plan = refl; drawn = refl; number = refl };
+}
+  where
+    puts_none : puts c body c.stage ≡ []
+    puts_none = ap (λ (s : Stage). puts c body s) first ∙ ap (λ (t : Bool). if t then (let none : List (List ℕ) = [] in none) else body ∷ (c.number.now ∷ [])) role
+
+    stage_stays : stage_then c.drawn body c.stage ≡ First
+    stage_stays = ap (λ (s : Stage). stage_then c.drawn body s) first ∙ ap (λ (t : Bool). if t then First else behind_first c.drawn) role
+
 -- what a copier put, from one record on
 pub record AreCopied (old new : Copier) (bodies : List (List ℕ)) : Type 0 where
   pub sound : new.sound ≡ true → old.sound ≡ true
@@ -130,15 +170,15 @@ module _ (old mid new : Copier) (body : List ℕ) (bodies : List (List ℕ)) (ma
   put = puts old body old.stage
 
   abbrev then_these : List (List ℕ)
-  then_these = outs old.drawn old.number.now (stage_then old.drawn old.stage) (drop (place_then old.next old.stage) old.plan.now) bodies
+  then_these = outs old.drawn old.number.now (stage_then old.drawn body old.stage) (drop (place_then old.next old.stage) old.plan.now) bodies
 
   left : mid.sound ≡ true → outs mid.drawn mid.number.now mid.stage (drop mid.next mid.plan.now) bodies ≡ then_these
   left here =
       ap (λ (d : Bool). outs d mid.number.now mid.stage (drop mid.next mid.plan.now) bodies) first.same.drawn
       ∙ (ap (λ (n : List ℕ). outs old.drawn n mid.stage (drop mid.next mid.plan.now) bodies) first.same.number
       ∙ (ap (λ (t : Stage). outs old.drawn old.number.now t (drop mid.next mid.plan.now) bodies) first.stage
-      ∙ (ap (λ (k : ℕ). outs old.drawn old.number.now (stage_then old.drawn old.stage) (drop k mid.plan.now) bodies) (first.next here)
-      ∙ ap (λ (ts : List Bool). outs old.drawn old.number.now (stage_then old.drawn old.stage) (drop (place_then old.next old.stage) ts) bodies) first.same.plan)))
+      ∙ (ap (λ (k : ℕ). outs old.drawn old.number.now (stage_then old.drawn body old.stage) (drop k mid.plan.now) bodies) (first.next here)
+      ∙ ap (λ (ts : List Bool). outs old.drawn old.number.now (stage_then old.drawn body old.stage) (drop (place_then old.next old.stage) ts) bodies) first.same.plan)))
 
   tells_on : (most : ℕ) → mid.sound ≡ true → TellsShort most old (place_then old.next old.stage) → TellsShort most mid mid.next
   tells_on most here tell =
@@ -182,7 +222,7 @@ all_copied old new place (body ∷ bodies) many (mid, first, rest) =
 -- ---- the whole file
 
 module _ (notes : FileNotes) (plan : List Bool) (number : List ℕ) (old new : Copier) (bodies : List (List ℕ)) (begun : IsBegun notes plan number old) (all : AreCopied old new bodies) (ok : new.sound ≡ true) where
-  these : outs old.drawn old.number.now old.stage (drop old.next old.plan.now) bodies ≡ copied plan notes.drawn number bodies
+  these : outs old.drawn old.number.now old.stage (drop old.next old.plan.now) bodies ≡ copied plan notes.drawn number (behind_front bodies)
   these =
       ap (λ (d : Bool). outs d old.number.now old.stage (drop old.next old.plan.now) bodies) begun.drawn_is
       ∙ (ap (λ (n : List ℕ). outs notes.drawn n old.stage (drop old.next old.plan.now) bodies) begun.number_is
@@ -191,17 +231,17 @@ module _ (notes : FileNotes) (plan : List Bool) (number : List ℕ) (old new : C
       ∙ (ap (λ (ts : List Bool). outs notes.drawn number First ts bodies) begun.plan_is ∙ whole_copy notes.drawn number plan bodies))))
 
   -- of a copier that begins, behind all records of a file, with a closed gate
-  pub copy_is : (file : List ℕ) → file ≡ new.file.items ++ 0 ∷ [] → file ≡ at_rest (copied plan notes.drawn number bodies)
+  pub copy_is : (file : List ℕ) → file ≡ new.file.items ++ 0 ∷ [] → file ≡ at_rest (copied plan notes.drawn number (behind_front bodies))
   copy_is file is =
       is
       ∙ (ap (λ (xs : List ℕ). xs ++ 0 ∷ []) (all.file ok)
       ∙ (ap (λ (xs : List ℕ). (xs ++ frames (outs old.drawn old.number.now old.stage (drop old.next old.plan.now) bodies)) ++ 0 ∷ []) begun.file
-      ∙ (ap (λ (xs : List (List ℕ)). (header newest ++ frames xs) ++ 0 ∷ []) these ∙ append_assoc (header newest) (frames (copied plan notes.drawn number bodies)) (0 ∷ []))))
+      ∙ (ap (λ (xs : List (List ℕ)). (header newest ++ frames xs) ++ 0 ∷ []) these ∙ append_assoc (header newest) (frames (copied plan notes.drawn number (behind_front bodies))) (0 ∷ []))))
 
   -- none of its records is longer than the notes tell
-  pub copy_short : (most : ℕ) → notes.head ≤ most + 14 → length number ≤ most → AllByRecursion (λ n. length_in n ≤ most) (picked plan notes.notes.items) → NoLonger most (copied plan notes.drawn number bodies)
+  pub copy_short : (most : ℕ) → notes.head ≤ most + 14 → length number ≤ most → AllByRecursion (λ n. length_in n ≤ most) (picked plan notes.notes.items) → NoLonger most (copied plan notes.drawn number (behind_front bodies))
   copy_short most head short tell =
-      All-from_recursion (λ b. length b ≤ most) (copied plan notes.drawn number bodies)
+      All-from_recursion (λ b. length b ≤ most) (copied plan notes.drawn number (behind_front bodies))
       (subst (AreShort most) these
       (all.short most ok (subst (λ (h : ℕ). h ≤ most + 14) (sym begun.head_is) head) (subst (λ (x : List ℕ). length x ≤ most) (sym begun.number_is) short)
       (subst (λ (k : ℕ). TellsShort most old k) (sym begun.next)

@@ -6,6 +6,7 @@ use Rattle.page_journal.specs.Records.{newest, header, frames, at_rest}
 use Rattle.file_notes.specs.declared.note.Note.{Note}
 use Rattle.file_notes.specs.declared.notes.FileNotes.{FileNotes}
 use Rattle.file_notes.specs.Notes.{length_in, picked}
+use Rattle.file_notes.specs.JournalRecords.Roles.{is_role, behind_front}
 use Rattle.file_copies.specs.declared.copier.Copier.{Copier}
 use Rattle.file_copies.specs.declared.copier.Stage.{Stage}
 use Rattle.file_copies.specs.declared.copier.Stage.TheVariants.{First, Number, Others}
@@ -21,9 +22,9 @@ abbrev pub copied : (plan : List Bool) (drawn : Bool) (number : List ℕ) → Li
 copied plan drawn number [] = []
 copied plan drawn number (first ∷ bodies) = first ∷ (number ∷ picked plan (others_of drawn bodies))
 
--- the file has what is copied of these bodies
+-- the file has what is copied of these bodies, but for those of a role in front of all others
 abbrev pub IsCopyOf : (plan : List Bool) → FileNotes → (number : List ℕ) → List (List ℕ) → (file : List ℕ) → Type 0
-IsCopyOf plan notes number bodies file = file ≡ at_rest (copied plan notes.drawn number bodies)
+IsCopyOf plan notes number bodies file = file ≡ at_rest (copied plan notes.drawn number (behind_front bodies))
 
 -- the bytes in memory are what is copied of these bodies
 abbrev pub IsCopyIn : (plan : List Bool) → FileNotes → (number : List ℕ) → List (List ℕ) → (file : Vec ℕ) → Type 0
@@ -44,16 +45,20 @@ IsForBodies plan (first ∷ bodies) = length plan ≡ length bodies
 
 -- what is put into the new file for a body at this stage, where these are left of the plan
 abbrev pub puts : Copier → List ℕ → Stage → List (List ℕ)
-puts c body First = body ∷ (c.number.now ∷ [])
+puts c body First = if is_role body then [] else body ∷ (c.number.now ∷ [])
 puts c body Number = []
 puts c body Others = if get_or c.plan.now c.next false then body ∷ [] else []
 
--- which record comes next behind one of this stage
-abbrev pub stage_then : (drawn : Bool) → Stage → Stage
-stage_then true First = Number
-stage_then false First = Others
-stage_then d Number = Others
-stage_then d Others = Others
+-- which record comes next behind the first one
+abbrev pub behind_first : (drawn : Bool) → Stage
+behind_first true = Number
+behind_first false = Others
+
+-- which record comes next behind this one of this stage
+abbrev pub stage_then : (drawn : Bool) → (body : List ℕ) → Stage → Stage
+stage_then d body First = if is_role body then First else behind_first d
+stage_then d body Number = Others
+stage_then d body Others = Others
 
 -- the place of the note that comes next behind a record of this stage
 abbrev pub place_then : ℕ → Stage → ℕ
@@ -63,7 +68,7 @@ place_then n _ = n
 -- the body is as its note tells, if it has one
 abbrev pub IsAsNoted : Copier → List ℕ → Stage → Type 0
 IsAsNoted c body Others = (n : Note) × ((slice_get c.notes.now c.next ≡ Some n) × (length_in n ≡ length body))
-IsAsNoted c body First = length body + 14 ≡ c.head
+IsAsNoted c body First = is_role body ≡ false → length body + 14 ≡ c.head
 IsAsNoted c body Number = ⊤
 
 -- a copier by the same notes
@@ -87,7 +92,7 @@ pub record IsCopied (old : Copier) (body : List ℕ) (new : Copier) : Type 0 whe
   pub sound : new.sound ≡ true → old.sound ≡ true
   pub file : new.sound ≡ true → new.file.items ≡ old.file.items ++ frames (puts old body old.stage)
   pub noted : new.sound ≡ true → IsAsNoted old body old.stage
-  pub stage : new.stage ≡ stage_then old.drawn old.stage
+  pub stage : new.stage ≡ stage_then old.drawn body old.stage
   pub next : new.sound ≡ true → new.next ≡ place_then old.next old.stage
   pub same : IsSameCopier old new
 

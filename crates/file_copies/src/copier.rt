@@ -1,15 +1,17 @@
-ghost use Rattle.std.specs.Prelude.{◌≡◌, ◌<◌, ◌^◌, ◌&&◌, [], ◌∷◌, if◌then◌else◌, length, IfOk, IfSome};
-ghost use Rattle.file_copies.specs.Copies.{stage_then, IsBegun, IsComing, IsCopied, IsFinished, IsPut, IsReady};
+ghost use Rattle.std.specs.Prelude.{◌≡◌, ◌<◌, ◌^◌, ◌&&◌, false, [], ◌∷◌, if◌then◌else◌, length, IfOk, IfSome};
+ghost use Rattle.file_notes.specs.JournalRecords.Roles.{is_role};
+ghost use Rattle.file_copies.specs.Copies.{behind_first, IsBegun, IsComing, IsCopied, IsFinished, IsPut, IsReady};
 ghost use Rattle.file_copies.specs.declared.copier.Stage.TheVariants as stage;
 
 use crate::frame::put_record;
-use file_notes::{FileNotes, Note};
+use file_notes::{FileNotes, Note, is_role};
 use page_journal::{NEWEST_FORMAT, Take};
 use std::alloc::{AllocError, Global};
 
 /// Which record of the file comes next.
 #[derive(Clone, Copy, Debug, PartialEq, Eq)]
 pub enum Stage {
+    /// The first record, or one in front of it that tells whether the shelf follows another one's journal.
     First,
     /// The number that an earlier compaction told.
     Number,
@@ -18,7 +20,7 @@ pub enum Stage {
 
 // Which record comes behind the first one.
 fn behind_first(drawn: bool) -> Stage
-    ensures { result ≡ stage_then drawn stage.First }
+    ensures { result ≡ behind_first drawn }
 {
     if drawn { Stage::Number } else { Stage::Others }
 }
@@ -134,6 +136,7 @@ impl<'n> Copier<'n> {
         requires short { length body.now < 2 ^ 30 }
         requires ready { IsReady self.old }
         requires first { self.old.stage ≡ stage.First }
+        requires other { is_role body.now ≡ false }
         ensures { IsCopied self.old body.now self.new }
     {
         self.check(body.len() as u64 + 14 == self.head);
@@ -141,6 +144,18 @@ impl<'n> Copier<'n> {
         let number = self.number;
         self.put(number);
         self.stage = behind_first(self.drawn);
+    }
+
+    // The first record, or one in front of it, which goes.
+    fn front(&mut self, body: &[u8])
+        requires short { length body.now < 2 ^ 30 }
+        requires ready { IsReady self.old }
+        requires first { self.old.stage ≡ stage.First }
+        ensures { IsCopied self.old body.now self.new }
+    {
+        if !is_role(body) {
+            self.first(body);
+        }
     }
 
     // The record that has the next note: it stays, or not, and is as long as the note tells.
@@ -169,7 +184,7 @@ impl Take for Copier<'_> {
     fn body(&mut self, place: u64, body: &[u8]) {
         let _ = place;
         match self.stage {
-            Stage::First => self.first(body),
+            Stage::First => self.front(body),
             Stage::Number => self.stage = Stage::Others,
             Stage::Others => self.other(body),
         }

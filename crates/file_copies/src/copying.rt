@@ -41,8 +41,9 @@ impl From<AllocError> for CopyFault {
     }
 }
 
-/// The compacted file of a journal: its first record, the one of this number, and those that are planned to stay. It is as long as is
-/// asked for, and no record of it is longer than this. Nothing is written to the disk.
+/// The compacted file of a journal: its first record, the one of this number, and those that are planned to stay. What tells in front
+/// of the first one whether the shelf follows another one's journal goes. The file is as long as is asked for, and no record of it is
+/// longer than this. Nothing is written to the disk.
 ///
 /// Where a disk does not read as is known of its file, that is told as want of memory.
 pub fn compacted_file<D: Disk>(

@@ -68,7 +68,7 @@ abbrev pub drawn_length : Bool → ℕ
 drawn_length true = 14
 drawn_length false = 0
 
--- how long the file is, with the records that recovery passes over
+-- how long the file is, with the records that recovery passes over, and without those in front of its first one
 abbrev pub total_in : FileNotes → ℕ
 total_in s = (s.head + drawn_length s.drawn) + all_lengths s.notes.items
 

@@ -2,7 +2,7 @@
 use Rattle.std.specs.Prelude.{ℕ, ◌+◌, ◌&&◌, Bool, true, false, not, List, [], ◌∷◌, if◌then◌else◌}
 use Rattle.replay_spec.specs.Book.{Instance as Live, Change, opens, extends, ends, finishes, sweeps, Line, changed, renewed}
 use Rattle.replay_spec.specs.Compaction.{is_there}
-use Rattle.journal_records.specs.Records.{Record, begins, changes, renews, draws}
+use Rattle.journal_records.specs.Records.{Record, begins, changes, renews, draws, follows, promotes}
 use Rattle.file_notes.specs.declared.note.Note.{Note}
 use Rattle.file_notes.specs.declared.note.Note.TheVariants.{Instance, Freed, Time, Setup, Passed}
 
@@ -20,6 +20,8 @@ note_read (changes c state) n = note_by c n
 note_read (begins shelf named) n = Passed n
 note_read (renews named) n = Passed n
 note_read (draws number) n = Passed n
+note_read follows n = Passed n
+note_read promotes n = Passed n
 
 -- what is known of a line of a file
 abbrev pub note_of : Line → Note

@@ -8,6 +8,7 @@ mod notes;
 mod past;
 mod plan;
 
+pub use journal_records::is_role;
 pub use note::Note;
 pub use notes::FileNotes;
 pub use past::FilePast;

@@ -64,6 +64,8 @@ impl Note {
             Logged::Begin { .. } => Note::Passed { length },
             Logged::Texts { .. } => Note::Passed { length },
             Logged::Drawn { .. } => Note::Passed { length },
+            Logged::Follow => Note::Passed { length },
+            Logged::Promoted => Note::Passed { length },
         }
     }
 

@@ -5,6 +5,7 @@ ghost use Rattle.replay_spec.specs.Rules.{first_file};
 ghost use Rattle.replay_spec.specs.Change.{with_line};
 ghost use Rattle.journal_records.specs.Views.{logged_of};
 ghost use Rattle.instance_book.specs.Changes.{change_of};
+ghost use Rattle.file_notes.specs.Notes.{note_read};
 ghost use Rattle.file_notes.specs.Files.{file_in, with_drawn, with_read, with_mark, marks_in, total_in, IsNoted, HasRoom, IsCompactedFrom, IsPlan, IsPlanned, IsLonger, StaysAsTold, IsPicked};
 
 use crate::note::Note;
@@ -19,7 +20,8 @@ use std::snapshot::Snapshot;
 // How long the record of a number is in a file, with its gate.
 const DRAWN: u128 = 14;
 
-/// What is known of the records of a file.
+/// What is known of the records of a file. A record in front of the first one, which tells whether the shelf follows another one's
+/// journal, has no note and is not counted.
 #[derive(Drop)]
 pub struct FileNotes {
     // How long the file is with its first record alone.
@@ -139,24 +141,23 @@ impl FileNotes {
         self.past = FilePast::Drawn { before, number };
     }
 
-    /// A record behind the others that was read, whose body is so long, and that lands or is passed over. There is room for its note.
-    pub fn read(&mut self, logged: &Logged, lands: bool, length: u32)
+    /// A record behind the others that was read and lands, whose note is this and whose body is so long. There is room for its note.
+    pub fn read(&mut self, logged: Snapshot<Logged>, note: Note, length: u32)
         requires noted { IsNoted self.old }
         requires room { HasRoom self.old.notes }
-        ensures file { file_in self.new ≡ with_read lands (logged_of logged.now) length (file_in self.old) }
-        ensures marks { marks_in self.new ≡ marks_in self.old ++ with_mark lands (logged_of logged.now) ∷ [] }
+        requires note { note ≡ note_read (logged_of logged.value) length }
+        ensures file { file_in self.new
+            ≡ with_read true (logged_of logged.value) length (file_in self.old) }
+        ensures marks { marks_in self.new
+            ≡ marks_in self.old ++ with_mark true (logged_of logged.value) ∷ [] }
         ensures drawn { self.new.drawn ≡ self.old.drawn }
         ensures noted { IsNoted self.new }
     {
-        if !lands {
-            put(&mut self.notes, Note::Passed { length });
-            return;
-        }
-        put(&mut self.notes, Note::of_read(logged, length));
+        put(&mut self.notes, note);
         let before = Snapshot::of(&self.past);
         self.past = FilePast::Read {
             before,
-            logged: Snapshot::of(logged),
+            logged,
             length: length as u64,
         };
     }
@@ -211,11 +212,11 @@ impl FileNotes {
     }
 
     /// The record of another setup behind the others. There is room for its note.
-    pub fn renew(&mut self, setup: &Setup, length: u32)
+    pub fn renew(&mut self, setup: Snapshot<Setup>, length: u32)
         requires noted { IsNoted self.old }
         requires room { HasRoom self.old.notes }
         ensures file { file_in self.new
-            ≡ with_line (renewed (scripts_of setup.now) length) (file_in self.old) }
+            ≡ with_line (renewed (scripts_of setup.value) length) (file_in self.old) }
         ensures marks { marks_in self.new ≡ marks_in self.old ++ true ∷ [] }
         ensures drawn { self.new.drawn ≡ self.old.drawn }
         ensures noted { IsNoted self.new }
@@ -224,7 +225,7 @@ impl FileNotes {
         let before = Snapshot::of(&self.past);
         self.past = FilePast::Renewed {
             before,
-            setup: Snapshot::of(setup),
+            setup,
             length: length as u64,
         };
     }

@@ -1,5 +1,6 @@
 use Rattle.std.proofs.Common.{◌∙◌, ap, sym, length, arith}
 use Rattle.page_journal.specs.Settled.{bodies_in}
+use Rattle.file_notes.specs.JournalRecords.Roles.{behind_front}
 use Rattle.file_copies.specs.Copies.{copied}
 use Rattle.file_copies.proofs.Copied.{all_copied, copy_is, copy_short, whole_file}
 use Rattle.file_copies.proofs.copying.compacted_file.Goals as goal
@@ -27,5 +28,5 @@ returns-clause-whole_file g c =
     let most = c.args.longest in
     let drawn = c.requires.longest.drawn in
     let number = c.requires.number in
-    (whole_file (copied c.args.plan.now c.args.notes.now.drawn c.args.number.now bodies) _ most (omega (arith, c.requires.short, done.long)) (copy_is c.args.notes.now c.args.plan.now c.args.number.now old new bodies begun all done.sound _ done.closed)
+    (whole_file (copied c.args.plan.now c.args.notes.now.drawn c.args.number.now (behind_front bodies)) _ most (omega (arith, c.requires.short, done.long)) (copy_is c.args.notes.now c.args.plan.now c.args.number.now old new bodies begun all done.sound _ done.closed)
     (copy_short c.args.notes.now c.args.plan.now c.args.number.now old new bodies begun all done.sound most c.requires.first (omega (arith, drawn, number)) c.requires.longest.all)).0
