@@ -16,3 +16,4 @@ pub mod Spelled
 pub mod ToldState
 pub use Rattle.instance_book.proofs as InstanceBook
 pub use Rattle.journal_spec.proofs as JournalSpec
+pub use Rattle.visit_runs.proofs as VisitRuns

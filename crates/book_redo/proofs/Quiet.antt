@@ -71,6 +71,8 @@ late_told format low library b (logged.Finish f) = (None, (refl, quiet_is format
 late_told format low library b (logged.Sweep clock) = (None, (refl, quiet_is format library b (sweeps clock) tt))
 late_told format low library b (logged.Texts scripts) = refl
 late_told format low library b (logged.Drawn number) = refl
+late_told format low library b logged.Follow = refl
+late_told format low library b logged.Promoted = refl
 
 -- it shows no page
 abbrev pub HasNoPage : Logged → Type 0
@@ -86,6 +88,8 @@ quiet_told format library b (logged.Finish f) none = (None, (refl, quiet_is form
 quiet_told format library b (logged.Sweep clock) none = (None, (refl, quiet_is format library b (sweeps clock) tt))
 quiet_told format library b (logged.Texts scripts) none = refl
 quiet_told format library b (logged.Drawn number) none = refl
+quiet_told format library b logged.Follow none = refl
+quiet_told format library b logged.Promoted none = refl
 
 -- a page that is told with the bytes that the newest format has of its state
 pub told_if : (format : ℕ) (library : Library) (b : Book) (p : PageRecord) (bytes : List ℕ) (state : Option (List ℕ)) (x : Result Renewed AllocError)

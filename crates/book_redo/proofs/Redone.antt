@@ -24,7 +24,7 @@ use Rattle.machine_states.specs.declared.frame.Suspended as stored
 use Rattle.frame_codec.specs.Forms.{read_form}
 use Rattle.frame_codec.specs.FormViews.{before_of}
 use Rattle.instance_book.specs.KeptStates.Links.{next_links, behind_at}
-use Rattle.journal_records.specs.Records.{Record, begins, changes, renews, draws}
+use Rattle.journal_records.specs.Records.{Record, begins, changes, renews, draws, follows, promotes}
 use Rattle.journal_records.specs.Views.{ending_of, finish_of}
 use Rattle.journal_records.specs.declared.records.EndedRecord.{EndedRecord}
 use Rattle.journal_records.specs.declared.records.FinishRecord.{FinishRecord}
@@ -181,6 +181,8 @@ pub reopened_by : (library : Library) (r : Record) (again : Bool) (old mid new :
 reopened_by library (begins shelf named) again old mid new landed after = (refl, reopens_then (λ b. b) old mid new landed.1 after)
 reopened_by library (renews named) again old mid new landed after = (refl, reopens_then (λ b. b) old mid new landed.1 after)
 reopened_by library (draws number) again old mid new landed after = (refl, reopens_then (λ b. record b { logged = number }) old mid new landed.1 after)
+reopened_by library follows again old mid new landed after = (refl, reopens_then (λ b. b) old mid new landed.1 after)
+reopened_by library promotes again old mid new landed after = (refl, reopens_then (λ b. b) old mid new landed.1 after)
 reopened_by library (changes c state) again old mid new landed after = λ earlier has.
     let h = landed earlier has in
     record {
@@ -199,6 +201,8 @@ pub misread_by : (library : Library) (r : Record) (again : Bool) (old new : kept
 misread_by library (begins shelf named) again old new landed = absurd (let no : false ≡ true = landed.0 in let never : ⊥ = cc in never)
 misread_by library (renews named) again old new landed = absurd (let no : false ≡ true = landed.0 in let never : ⊥ = cc in never)
 misread_by library (draws number) again old new landed = absurd (let no : false ≡ true = landed.0 in let never : ⊥ = cc in never)
+misread_by library follows again old new landed = absurd (let no : false ≡ true = landed.0 in let never : ⊥ = cc in never)
+misread_by library promotes again old new landed = absurd (let no : false ≡ true = landed.0 in let never : ⊥ = cc in never)
 misread_by library (changes c state) again old new landed = λ earlier has.
     let h = landed earlier has in
     record {

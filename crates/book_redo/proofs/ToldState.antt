@@ -1,5 +1,5 @@
 -- What the record of a page tells of the page's state, in each format.
-use Rattle.std.proofs.Common.{◌≡◌, ◌∙◌, ap, sym, subst, ℕ, zero, suc, ◌==◌, Bool, true, false, List, Option, Some, None, option_map, Result, Ok, Err, refl}
+use Rattle.std.proofs.Common.{◌≡◌, ◌∙◌, ap, sym, subst, ℕ, zero, suc, ◌==◌, Bool, true, false, List, Option, Some, None, is_some, option_map, Result, Ok, Err, refl}
 use Rattle.std.specs.Prelude.{if◌then◌else◌, IfOk}
 use Rattle.std.specs.Borrow.{Bor}
 use Rattle.std.specs.declared.alloc.AllocError.{AllocError}
@@ -26,7 +26,8 @@ use Rattle.journal_spec.specs.Old.{binds_before, told_alone}
 use Rattle.journal_spec.proofs.Anew.{binds_is, binds_are}
 use Rattle.book_redo.specs.declared.behind.Behind.{Behind}
 use Rattle.book_redo.specs.Behind.{TellsBehind, IsStoredFrom, IsSpelledBehind, IsWrittenBehind}
-use Rattle.book_redo.specs.Told.{alone_behind, form_behind, ReadsForm, ReadsAt, told_for, IsToldAt}
+use Rattle.book_redo.specs.Redo.{is_read}
+use Rattle.book_redo.specs.Told.{alone_behind, form_behind, ReadsForm, ReadsAt, told_for, IsToldAt, IsReadThere}
 use Rattle.book_redo.proofs.Anew.{before_beside, script_beside, read_again}
 
 -- ---- the bytes of a state by itself
@@ -126,3 +127,26 @@ pub told_if : (format : ℕ) (library : Library) (b : Book) (c : Change) (bytes 
     → IfOk r (ReadsAt format x bytes) → IfOk r (IsToldAt format library b c bytes)
 told_if format library b c bytes x (Ok d) tells reads = told_some format library b c bytes x d tells reads
 told_if format library b c bytes x (Err e) tells reads = tt
+
+-- ---- whether it is told
+
+read_as : (d : Option stored.Suspended) → is_some d ≡ is_read (told_as (option_map suspended_of d))
+read_as None = refl
+read_as (Some d) = refl
+
+pub read_there : (library : Library) (b : Book) (c : Change) (bytes : List ℕ) (x : Behind) (d : Option stored.Suspended) (t : Bool) → t ≡ is_some d → TellsBehind library b c (Some x) → ReadsForm x bytes d
+    → IsReadThere library b c bytes t
+read_there library b c bytes x d t there tells reads m beside place n is states =
+    there
+    ∙ (read_as d
+    ∙ sym (ap is_read (told_some 3 library b c bytes x d tells reads m beside place n is states ∙ ap (λ (s : Option Named). told_for s (option_map suspended_of d)) script)))
+  where
+    script : script_for m.book c ≡ Some (named_of x.script.now)
+    script = ap (λ (y : spec.Book). script_for y c) is ∙ (script_beside library beside b c ∙ (tells m.earlier states).script)
+
+pub read_nowhere : (library : Library) (b : Book) (c : Change) (bytes : List ℕ) → TellsBehind library b c None → IsReadThere library b c bytes true
+read_nowhere library b c bytes none m beside place n is states =
+    sym (ap is_read (told_none 3 library b c bytes none m beside place n is states ∙ ap (λ (s : Option Named). told_for s None) script))
+  where
+    script : script_for m.book c ≡ None
+    script = ap (λ (y : spec.Book). script_for y c) is ∙ (script_beside library beside b c ∙ none)

@@ -9,3 +9,4 @@ pub use Rattle.instance_book.specs as InstanceBook
 pub use Rattle.journal_spec.specs as JournalSpec
 pub use Rattle.frame_codec.specs as FrameCodec
 pub use Rattle.machine_states.specs as MachineStates
+pub use Rattle.visit_runs.specs as VisitRuns

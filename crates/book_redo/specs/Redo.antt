@@ -1,6 +1,7 @@
 -- What a record that is told again makes of a book.
 use Rattle.std.specs.Borrow.{Bor}
-use Rattle.std.specs.Prelude.{◌≡◌, ◌⊎◌, ◌<◌, ℕ, ◌+◌, max, slice_get, Bool, true, false, ◌&&◌, List, [], ◌∷◌, length, Option, Some, None, if◌then◌else◌, ⊤}
+use Rattle.std.specs.Prelude.{◌≡◌, ◌⊎◌, ◌<◌, ℕ, ◌+◌, max, slice_get, Bool, true, false, ◌&&◌, List, [], ◌∷◌, length, Option, Some, None, Result, Ok, Err, if◌then◌else◌, ⊤}
+use Rattle.std.specs.declared.alloc.AllocError.{AllocError}
 use Rattle.script_value.specs.Val.{Val, list, no_vals}
 use Rattle.script_value.specs.declared.outcome.TxName.{TxName}
 use Rattle.script_nodes.specs.Arena.{Arena}
@@ -20,7 +21,7 @@ use Rattle.frame_codec.specs.Stored.{IsStored}
 use Rattle.frame_codec.specs.Forms.{read_form}
 use Rattle.instance_book.specs.KeptStates.Kept.{IsFormed, kept_of}
 use Rattle.instance_book.specs.KeptStates.Links.{next_links, behind_at}
-use Rattle.journal_records.specs.Records.{Record, begins, changes, renews, draws}
+use Rattle.journal_records.specs.Records.{Record, begins, changes, renews, draws, follows, promotes}
 use Rattle.journal_records.specs.Fields.{start}
 use Rattle.journal_records.specs.Views.{origin_of, page_change}
 use Rattle.journal_records.specs.declared.records.PageRecord.{PageRecord}
@@ -41,7 +42,7 @@ use Rattle.instance_book.specs.declared.shown.ShownState.{ShownState}
 use Rattle.instance_book.specs.declared.book.Book.{Book}
 use Rattle.instance_book.specs.Views.{Beside, book_of, instances_of, instance_of, used_of, script_in}
 use Rattle.instance_book.specs.Places.{Source, given, source_in, HasState, AreStatesOf, arena_of}
-use Rattle.instance_book.specs.Makes.{MakesUnder, Makes, StaysSame, HasPlaces, shelf_from, HasStatesFrom, HasItsStates, KeepsStates, rules_with, Reopens}
+use Rattle.instance_book.specs.Makes.{MakesUnder, Makes, StaysSame, HasPlaces, KeepsPlaces, shelf_from, HasStatesFrom, HasItsStates, KeepsStates, rules_with, Reopens}
 use Rattle.instance_book.specs.Changes.{changed_by}
 use Rattle.instance_book.specs.Standing.{book_under, place_of, IsPlacedAt, IsKeptAt, BeginsAt}
 use Rattle.instance_book.specs.Segments.{effects_in, new_in, IsExtendedBy}
@@ -183,7 +184,7 @@ file_with n c (Some inside) f = with_line (changed c n) f
 
 -- what stands beside a book with a record of this length more, which lands with these names or is passed over
 abbrev pub beside_with : (length : ℕ) → Change → Option (List TxName) → Beside → Beside
-beside_with n c names x = record { length = x.length + (n + 5); file = file_with n c names x.file; down = None }
+beside_with n c names x = record x { length = x.length + (n + 5); file = file_with n c names x.file; down = None }
 
 -- the record of a change, of whose state this is told, makes of the book what recovery decides, as after a crash
 abbrev pub IsRedoneFor : Library → Change → (again : Bool) → (old new : Book) → Told → Type 0
@@ -202,12 +203,14 @@ number_by (changes c state) = number_in c
 number_by _ = None
 
 -- What a record makes of the book, as after a crash: one of a change what recovery decides, where its state could be read; one that tells
--- a number goes on with it; and one of a setup makes no change.
+-- a number goes on with it; and one of a setup, or of whether the shelf follows another one's journal, makes no change.
 abbrev pub IsRedoneBy : Library → Record → (again read : Bool) → (old new : Book) → Type 0
 IsRedoneBy library (begins shelf named) again read old new = (read ≡ true) × Reopens (λ b. b) old new
 IsRedoneBy library (changes c state) again read old new = IsRedone library c state again read old new
 IsRedoneBy library (renews named) again read old new = (read ≡ true) × Reopens (λ b. b) old new
 IsRedoneBy library (draws number) again read old new = (read ≡ true) × Reopens (λ b. record b { logged = number }) old new
+IsRedoneBy library follows again read old new = (read ≡ true) × Reopens (λ b. b) old new
+IsRedoneBy library promotes again read old new = (read ≡ true) × Reopens (λ b. b) old new
 
 -- ---- on the way
 
@@ -301,9 +304,23 @@ pub record MakesSo (f : spec.Book → spec.Book) (old new : Book) : Type 0 where
   pub book : Makes f old new
   pub states : KeepsStates old new
 
+-- nothing of a book is changed but the room that it has
+pub record IsUnchanged (old new : Book) : Type 0 where
+  pub book : StaysSame old new
+  pub placed : KeepsPlaces old new
+  pub states : KeepsStates old new
+
+-- a fact that holds unless a record was taken: where memory ran out, and where what the record tells could not be read
+abbrev pub UnlessTaken : Result Bool AllocError → Type 0 → Type 0
+UnlessTaken (Ok true) holds = ⊤
+UnlessTaken (Ok false) holds = holds
+UnlessTaken (Err e) holds = holds
+
 -- what a record makes of the book, before it is as after a crash
 abbrev pub IsLandedRecord : Library → Record → (again read : Bool) → (old new : Book) → Type 0
 IsLandedRecord library (begins shelf named) again read old new = (read ≡ true) × MakesSo (λ b. b) old new
 IsLandedRecord library (changes c state) again read old new = IsLanded library c state again read old new
 IsLandedRecord library (renews named) again read old new = (read ≡ true) × MakesSo (λ b. b) old new
 IsLandedRecord library (draws number) again read old new = (read ≡ true) × MakesSo (λ b. record b { logged = number }) old new
+IsLandedRecord library follows again read old new = (read ≡ true) × MakesSo (λ b. b) old new
+IsLandedRecord library promotes again read old new = (read ≡ true) × MakesSo (λ b. b) old new

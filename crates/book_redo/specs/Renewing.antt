@@ -3,7 +3,7 @@ use Rattle.std.specs.Prelude.{◌≡◌, ℕ, List, [], Option, Some, None, ⊤}
 use Rattle.script_nodes.specs.Setup.{Library}
 use Rattle.replay_spec.specs.Book.{Change}
 use Rattle.replay_spec.specs.Recovery.{number_in}
-use Rattle.journal_records.specs.Records.{Record, begins, changes, renews, draws, IsInGrammar}
+use Rattle.journal_records.specs.Records.{Record, begins, changes, renews, draws, follows, promotes, IsInGrammar}
 use Rattle.journal_records.specs.Views.{logged_of, page_change}
 use Rattle.journal_records.specs.declared.records.PageRecord.{PageRecord}
 use Rattle.instance_book.specs.declared.book.Book.{Book}
@@ -68,6 +68,8 @@ IsRenewed format library b (begins shelf named) x = IsToldAsIs (begins shelf nam
 IsRenewed format library b (changes c state) x = IsChangeRenewed format library b c state x
 IsRenewed format library b (renews named) x = IsToldAsIs (renews named) x
 IsRenewed format library b (draws number) x = IsToldAsIs (draws number) x
+IsRenewed format library b follows x = IsToldAsIs follows x
+IsRenewed format library b promotes x = IsToldAsIs promotes x
 
 -- the record of this page can be written, with no bytes of its state
 abbrev pub FitsWithout : PageRecord → Type 0

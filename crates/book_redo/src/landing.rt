@@ -1,4 +1,4 @@
-ghost use Rattle.std.specs.Prelude.{◌≡◌, ◌<◌, ◌≤◌, ◌+◌, ◌^◌, false, true, Some, None, map, IfOk, OnOk};
+ghost use Rattle.std.specs.Prelude.{◌≡◌, ◌<◌, ◌≤◌, ◌+◌, ◌^◌, false, true, Some, None, map, IfOk, OnOk, OnErr};
 ghost use Rattle.script_nodes.specs.Setup.{Library as Scripts};
 ghost use Rattle.script_nodes.specs.Views.{library_of, named_of};
 ghost use Rattle.instance_cells.specs.Views.{effect_of};
@@ -8,7 +8,7 @@ ghost use Rattle.journal_records.specs.Records.{IsInGrammar, EndingFits, FinishF
 ghost use Rattle.journal_records.specs.Views.{origin_of, page_change, ending_of, finish_of, logged_of};
 ghost use Rattle.instance_book.specs.Makes.{count_of, Makes, HasPlaces, HasSomeStates, KeepsPlaces, KeepsStates, Reopens, StaysLow};
 ghost use Rattle.instance_book.specs.Changes.{HasRoomFor, KeepsPlacesBy, KeepsStatesBy};
-ghost use Rattle.book_redo.specs.Redo.{counted_to, Counts, LandsAs, EndsIn, IsFree, IsLanded, number_by, IsRedoneBy, IsBeginning, OpensAt, KeepsPlacesAt, KeepsStatesOpened, IsAnswered, IsLandedRecord};
+ghost use Rattle.book_redo.specs.Redo.{counted_to, Counts, LandsAs, EndsIn, IsFree, IsLanded, number_by, IsRedoneBy, IsBeginning, OpensAt, KeepsPlacesAt, KeepsStatesOpened, IsAnswered, IsLandedRecord, IsUnchanged, UnlessTaken};
 
 use crate::takes::{are_held, can_open, takes};
 use crate::told::{state_told, told_there};
@@ -93,6 +93,7 @@ fn open(
         (KeepsStatesOpened begins.entry.place (named_of begins.entry.script.now) told page
         book.old book.new) }
     ensures low { OnOk result (StaysLow book.old book.new) }
+    ensures same { OnErr result (IsUnchanged book.old book.new) }
 {
     let number = told.ticket;
     let defaults = begins.script.script.instance_defaults();
@@ -126,6 +127,7 @@ fn redo_opening(
         (page_change told) (Some state) again read book.old book.new) }
     ensures placed { OnOk result (HasPlaces (library_of library.now).all book.new) }
     ensures low { OnOk result (StaysLow book.old book.new) }
+    ensures same { UnlessTaken result (IsUnchanged book.old book.new) }
 {
     let number = told.ticket;
     let Some(begins) = start_of(library, script as usize) else {
@@ -200,6 +202,7 @@ fn redo_extension(
         (page_change told) (Some state) again read book.old book.new) }
     ensures placed { OnOk result (HasPlaces (library_of library.now).all book.new) }
     ensures low { OnOk result (StaysLow book.old book.new) }
+    ensures same { UnlessTaken result (IsUnchanged book.old book.new) }
 {
     let number = told.ticket;
     match comes_to(
@@ -241,6 +244,7 @@ fn redo_page(
         (page_change told) (Some state) again read book.old book.new) }
     ensures placed { OnOk result (HasPlaces (library_of library.now).all book.new) }
     ensures low { OnOk result (StaysLow book.old book.new) }
+    ensures same { UnlessTaken result (IsUnchanged book.old book.new) }
 {
     match &told.origin {
         Origin::Start { script } => {
@@ -292,6 +296,7 @@ fn redo_ending(
         → IsLanded library (ends (ending_of ended)) None again true book.old book.new) }
     ensures placed { KeepsPlaces book.old book.new }
     ensures low { OnOk result (StaysLow book.old book.new) }
+    ensures same { OnErr result (IsUnchanged book.old book.new) }
 {
     let number = ended.ticket;
     if again {
@@ -389,6 +394,7 @@ fn redo_record(
         IsLandedRecord (library_of library.now) (logged_of logged) again read book.old book.new) }
     ensures placed { OnOk result (HasPlaces (library_of library.now).all book.new) }
     ensures low { OnOk result (StaysLow book.old book.new) }
+    ensures same { UnlessTaken result (IsUnchanged book.old book.new) }
 {
     match logged {
         Logged::Begin {
@@ -413,15 +419,18 @@ fn redo_record(
             redo_drawn(book, number);
             Ok(true)
         }
+        Logged::Follow => Ok(true),
+        Logged::Promoted => Ok(true),
     }
 }
 
 /// Makes what a record tells again, or passes it over, as recovery decides; one of a number that was seen before is passed over. The
-/// book is then as after a crash. A start is of the script of its place in the present setup. A record of a setup makes no change.
+/// book is then as after a crash. A start is of the script of its place in the present setup. A record of a setup, or of
+/// whether the shelf follows another one's journal, makes no change.
 /// It asks for a book that one instance more leaves countable in 32 bits.
 ///
-/// Whether its state could be read: false where its bytes are no state of the page's script, and the book is then as it was.
-/// Where memory runs out, the book is to be given up.
+/// Whether its state could be read: false where its bytes are no state of the page's script. There, and where memory runs out, the
+/// book is as it was.
 pub fn redo(
     alloc: Global,
     book: &mut Book,
@@ -440,6 +449,7 @@ pub fn redo(
     ensures redone { IfOk result (λ read.
         IsRedoneBy (library_of library.now) (logged_of logged) again read book.old book.new) }
     ensures placed { OnOk result (HasPlaces (library_of library.now).all book.new) }
+    ensures same { UnlessTaken result (IsUnchanged book.old book.new) }
 {
     if !redo_record(alloc, book, library, logged, again)? {
         return Ok(false);

@@ -3,7 +3,7 @@ ghost use Rattle.script_nodes.specs.Views.{library_of};
 ghost use Rattle.instance_book.specs.Makes.{HasPlaces, HasSomeStates};
 ghost use Rattle.journal_records.specs.Views.{page_change};
 ghost use Rattle.book_redo.specs.Behind.{IsStoredFrom};
-ghost use Rattle.book_redo.specs.Told.{ReadsAlone, ReadsForm, ReadsAt, IsToldAt};
+ghost use Rattle.book_redo.specs.Told.{ReadsAlone, ReadsForm, ReadsAt, IsToldAt, IsReadThere};
 
 use crate::behind::{Behind, behind_of};
 use frame_codec::{decode, decode_form};
@@ -84,5 +84,28 @@ pub fn told_state(
     match behind_of(alloc, book, library, page)? {
         Some(behind) => read_at(alloc, format, &behind, state),
         None => Ok(None),
+    }
+}
+
+/// Whether the record of a page tells a state of its script by these bytes in the newest format, or is of a page of no script, which need
+/// tell none.
+pub fn is_told(
+    alloc: Global,
+    book: &Book,
+    library: &Library,
+    page: &PageRecord,
+    state: &[u8],
+) -> Result<bool, AllocError>
+    requires placed { HasPlaces (library_of library.now).all book.now }
+    requires kept { HasSomeStates (library_of library.now).all book.now }
+    ensures { IfOk result (IsReadThere (library_of library.now) book.now
+        (page_change page.now) state.now) }
+{
+    match behind_of(alloc, book, library, page)? {
+        Some(behind) => {
+            let told = read_form(alloc, &behind, state)?;
+            Ok(told.is_some())
+        }
+        None => Ok(true),
     }
 }

@@ -36,5 +36,6 @@ reply_of (reply.Oversize length) = step.oversize length
 reply_of (reply.JournalFull length) = step.journal_full length
 reply_of (reply.DiskFault count) = step.disk_failed count
 reply_of (reply.Down count) = step.down count
+reply_of reply.Following = step.following
 reply_of reply.Worn = step.worn
 reply_of reply.Memory = step.memory

@@ -1,5 +1,5 @@
 -- What a shelf begins with, and what a sweep makes of its book.
-use Rattle.std.specs.Prelude.{◌≡◌, ℕ, List, filter, Option, None, option_map}
+use Rattle.std.specs.Prelude.{◌≡◌, ℕ, false, List, filter, Option, None, option_map}
 use Rattle.script_value.specs.Val.{Val}
 use Rattle.script_nodes.specs.Setup.{Named, Library}
 use Rattle.journal_records.specs.ReplaySpec.Book as spec
@@ -23,7 +23,7 @@ cells_at n b = option_map (λ i. i.item.cells) (at_number (λ i. i.number) n b.i
 -- beside a book with nothing in it: its journal has this setup alone
 abbrev pub begun : Option Journal → List Named → Beside
 begun journal scripts =
-    let head = begun_length journal scripts in record { length = head; file = first_file head scripts; down = None }
+    let head = begun_length journal scripts in record { length = head; file = first_file head scripts; down = None; follows = false }
 
 -- Beside a journal that has the setup alone, the book is that of a shelf with nothing in it.
 abbrev pub IsEmpty : (shelf : ℕ) → Book → Type 0

@@ -1,5 +1,5 @@
 -- What the program's book stands for in the definitions.
-use Rattle.std.specs.Prelude.{◌≡◌, ℕ, List, [], map, get_or, Option, Some, None}
+use Rattle.std.specs.Prelude.{◌≡◌, ℕ, Bool, false, List, [], map, get_or, Option, Some, None}
 use Rattle.script_value.specs.Val.{list, no_vals}
 use Rattle.script_nodes.specs.Core.{lit, no_cores}
 use Rattle.script_nodes.specs.Setup.{Named, Library}
@@ -76,15 +76,16 @@ instance_of all i = instance_with all i.number i.item
 abbrev pub instances_of : List Named → InOrder KeptInstance → List spec.Instance
 instances_of all is = map (instance_of all) is.things.items
 
--- what stands beside a book: the length of its journal, its file, and what is in doubt
+-- what stands beside a book: the length of its journal, its file, what is in doubt, and whether the shelf follows another one's journal
 pub record Beside : Type 0 where
   pub length : ℕ
   pub file : File
   pub down : Option Doubt
+  pub follows : Bool
 
 -- beside a book that has no journal
 abbrev pub no_journal : Beside
-no_journal = record { length = 0; file = first_file 0 []; down = None }
+no_journal = record { length = 0; file = first_file 0 []; down = None; follows = false }
 
 -- the book under this library, beside this
 abbrev pub book_of : Library → Beside → Book → spec.Book
@@ -98,6 +99,7 @@ book_of library beside b = record {
   file = beside.file;
   out = b.out.items;
   down = beside.down;
+  follows = beside.follows;
   instances = instances_of library.all b.instances;
 }
 

@@ -32,5 +32,5 @@ returns-in-Sweep-clause-landed c =
 pub returns-in-Sweep-clause-placed : goal.returns-in-Sweep-clause-placed
 returns-in-Sweep-clause-placed c = c.redo_sweep.ensures.placed (library_of c.args.library.now).all c.requires.placed
 
-pub returns-clause-placed : goal.returns-clause-placed
-returns-clause-placed c = c.redo_drawn.ensures.placed (library_of c.args.library.now).all c.requires.placed
+pub returns-in-Drawn-clause-placed : goal.returns-in-Drawn-clause-placed
+returns-in-Drawn-clause-placed c = c.redo_drawn.ensures.placed (library_of c.args.library.now).all c.requires.placed
