@@ -14,7 +14,7 @@ use Rattle.book_redo.specs.InstanceBook.Swept.{IsEmpty}
 use Rattle.book_redo.specs.InstanceBook.Makes.{rules_with}
 use Rattle.book_redo.specs.Redo.{told_of, names_told}
 use Rattle.book_redo.proofs.InstanceBook.Seen.{length_seen, length_mend, length_put, length_kept}
-use Rattle.journal_records.specs.Records.{Record, begins, changes, renews, draws}
+use Rattle.journal_records.specs.Records.{Record, begins, changes, renews, draws, follows, promotes}
 use Rattle.book_redo.specs.declared.renew.Renewed.TheVariants as renewed
 use Rattle.book_recovery.specs.declared.found.Found.{Found}
 use Rattle.book_recovery.specs.declared.found.Found.TheVariants as found
@@ -41,7 +41,7 @@ redone_count c None b = omega arith
 redone_count c (Some inside) b = changed_count b.scripts c inside b.instances
 
 -- a book whose instances are those of another one, or one more
-more_counted : (library : Library) (old new : kept.Book) (b c : Book) → b.instances ≡ (book_under library old).instances → (book_under library new).instances ≡ c.instances
+pub more_counted : (library : Library) (old new : kept.Book) (b c : Book) → b.instances ≡ (book_under library old).instances → (book_under library new).instances ≡ c.instances
     → length c.instances ≤ length b.instances + 1 → count_of new ≤ count_of old + 1
 more_counted library old new b c before after few =
     let one : length b.instances ≡ count_of old = ap (λ (is : List Instance). length is) before ∙ count_seen library old in
@@ -53,6 +53,10 @@ pub redone_few : (shelf : ℕ) (alone : Bool) (library : Library) (seen : InOrde
     → IsMadeOf library seen r old o → CountsOneMore old o
 redone_few shelf alone library seen r old None way made = tt
 redone_few shelf alone library seen (begins s named) old (Some new) way made =
+    more_counted library old new (book_under library old) (book_under library old) refl (ap (λ (y : Book). y.instances) (made.1.book library no_journal)) (omega arith)
+redone_few shelf alone library seen follows old (Some new) way made =
+    more_counted library old new (book_under library old) (book_under library old) refl (ap (λ (y : Book). y.instances) (made.1.book library no_journal)) (omega arith)
+redone_few shelf alone library seen promotes old (Some new) way made =
     more_counted library old new (book_under library old) (book_under library old) refl (ap (λ (y : Book). y.instances) (made.1.book library no_journal)) (omega arith)
 redone_few shelf alone library seen (renews named) old (Some new) way made =
     more_counted library old new (book_under library old) (book_under library old) refl (ap (λ (y : Book). y.instances) (made.1.book library no_journal)) (omega arith)
@@ -73,6 +77,10 @@ told_few format shelf alone library seen (begins s named) old (Some new) way (x,
     redone_few shelf alone library seen (begins s named) old (Some new) way (as_it_is library seen old (Some new) (begins s named) x alike made)
 told_few format shelf alone library seen (renews named) old (Some new) way (x, (alike, made)) =
     redone_few shelf alone library seen (renews named) old (Some new) way (as_it_is library seen old (Some new) (renews named) x alike made)
+told_few format shelf alone library seen follows old (Some new) way (x, (alike, made)) =
+    redone_few shelf alone library seen follows old (Some new) way (as_it_is library seen old (Some new) follows x alike made)
+told_few format shelf alone library seen promotes old (Some new) way (x, (alike, made)) =
+    redone_few shelf alone library seen promotes old (Some new) way (as_it_is library seen old (Some new) promotes x alike made)
 told_few format shelf alone library seen (draws number) old (Some new) way (x, (alike, made)) =
     redone_few shelf alone library seen (draws number) old (Some new) way (as_it_is library seen old (Some new) (draws number) x alike made)
 told_few format shelf alone library seen (changes c state) old (Some new) way (renewed.Told l, (alike, made)) =

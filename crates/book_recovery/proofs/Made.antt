@@ -1,4 +1,4 @@
-use Rattle.std.proofs.Common.{◌≡◌, ◌∙◌, ap, sym, subst, ℕ, ◌+◌, ◌≤◌, ◌^◌, ◌==◌, max, Bool, true, false, List, [], ◌∷◌, length, Option, Some, None, if◌then◌else◌, refl, arith, inl, inr}
+use Rattle.std.proofs.Common.{◌≡◌, ◌∙◌, ap, sym, subst, ℕ, ◌+◌, ◌≤◌, ◌^◌, ◌==◌, max, Bool, true, false, not, List, [], ◌∷◌, length, Option, Some, None, if◌then◌else◌, refl, arith, inl, inr}
 use Rattle.std.proofs.lemmas.Bool.Decides.{nat_tests}
 use Rattle.script_value.specs.declared.outcome.TxName.{TxName}
 use Rattle.script_nodes.specs.Setup.{Named, Library}
@@ -23,18 +23,18 @@ use Rattle.book_redo.specs.InstanceBook.Views.{Beside, no_journal, book_of, inst
 use Rattle.book_redo.specs.InstanceBook.Standing.{book_under}
 use Rattle.book_redo.specs.Redo.{told_of, HasToldStates, is_read, names_told, IsFree, IsUntold, file_with, beside_with, IsRedone}
 use Rattle.book_redo.specs.InstanceBook.Makes.{Reopens}
-use Rattle.journal_records.specs.Records.{Record, begins, changes, renews, draws}
+use Rattle.journal_records.specs.Records.{Record, begins, changes, renews, draws, follows, promotes}
 use Rattle.journal_records.specs.Old.{read_record_in}
 use Rattle.setup_reader.specs.Texts.{setup_of_texts}
 use Rattle.book_redo.specs.JournalSpec.Before.{States, state_at, Earlier, nothing_told, Made, plain}
 use Rattle.book_redo.specs.JournalSpec.Retaking.{Told, unread, misread, told, told_in, held, states_with, then_told, retaken}
-use Rattle.book_redo.specs.JournalSpec.Making.{Making, begun, made, damaged, other, began, beside, has_script, first_by, first_setup, told_next, next_setup, with_drawn}
+use Rattle.book_redo.specs.JournalSpec.Making.{Making, begun, made, damaged, other, began, beside, has_script, first_by, start_by, fed_by, first_setup, told_next, next_setup, promoted, promoted_by, with_drawn}
 use Rattle.book_redo.specs.JournalSpec.Old.{change_next, next_at, second_at, with_body_at}
 use Rattle.book_redo.specs.declared.renew.Renewed.{Renewed}
 use Rattle.book_redo.specs.declared.renew.Renewed.TheVariants as renewed
 use Rattle.book_redo.specs.Renewing.{IsAsNewest, IsPassedOver, IsOutside, IsToldAsIs}
 use Rattle.book_recovery.specs.Found.{beside_file}
-use Rattle.book_recovery.specs.Reading.{seen_by, TellsOf, IsUnderWay, SeesNumber, Sees, may_stand, IsMadeOf, IsPassed, IsMadeBy, IsMadeIn, making_of, IsMadeAs, IsNothing, IsRenewed, IsFirst}
+use Rattle.book_recovery.specs.Reading.{seen_by, TellsOf, IsUnderWay, SeesNumber, Sees, may_stand, IsMadeOf, IsPassed, IsMadeBy, IsMadeIn, turns, making_of, IsMadeAs, IsBefore, IsNothing, IsRenewed, IsFirst}
 use Rattle.book_recovery.proofs.Longer.{instances_longer, states_longer}
 
 -- What a reader of records makes.
@@ -164,15 +164,15 @@ file_after n c None b = refl
 file_after n c (Some inside) b = refl
 
 -- what the program's book is after it, beside a file
-book_after : (library : Library) (place n : ℕ) (c : Change) (o : Option (List TxName)) (b : Book) (old new : kept.Book) → b ≡ book_of library (beside_file (place + 1) b.file) old
-    → book_of library (beside_with n c o (beside_file (place + 1) b.file)) new ≡ reopened (redone (of_length n) c o (book_of library (beside_file (place + 1) b.file) old))
-    → reopened (redone (of_length n) c o b) ≡ book_of library (beside_file (place + 5 + n + 1) (reopened (redone (of_length n) c o b)).file) new
-book_after library place n c o b old new is h =
+book_after : (library : Library) (fed : Bool) (place n : ℕ) (c : Change) (o : Option (List TxName)) (b : Book) (old new : kept.Book) → b ≡ book_of library (beside_file fed (place + 1) b.file) old
+    → book_of library (beside_with n c o (beside_file fed (place + 1) b.file)) new ≡ reopened (redone (of_length n) c o (book_of library (beside_file fed (place + 1) b.file) old))
+    → reopened (redone (of_length n) c o b) ≡ book_of library (beside_file fed (place + 5 + n + 1) (reopened (redone (of_length n) c o b)).file) new
+book_after library fed place n c o b old new is h =
     let long : place + 1 + (n + 5) ≡ place + 5 + n + 1 = omega arith in
     ap (λ (y : Book). reopened (redone (of_length n) c o y)) is
     ∙ (sym h
-    ∙ (ap (λ (l : ℕ). book_of library (beside_file l (file_with n c o b.file)) new) long
-    ∙ ap (λ (f : File). book_of library (beside_file (place + 5 + n + 1) f) new) (sym (file_after n c o b))))
+    ∙ (ap (λ (l : ℕ). book_of library (beside_file fed l (file_with n c o b.file)) new) long
+    ∙ ap (λ (f : File). book_of library (beside_file fed (place + 5 + n + 1) f) new) (sym (file_after n c o b))))
 
 -- one more than the number of a change is counted
 pub logged_is : (c : Change) (k : ℕ) → number_in c ≡ Some k → logged_by c ≡ k + 1
@@ -215,8 +215,8 @@ misread_is (told d) e = absurd (let no : ⊥ = cc in no)
 pub good_is : (x : Told) → true ≡ is_read x → x ≡ misread → ⊥
 good_is x read bad = let yes : true ≡ false = read ∙ ap is_read bad in let no : ⊥ = cc in no
 
-module _ (format shelf place : ℕ) (body : List ℕ) (library : Library) (alone : Bool) (before : InOrder (Unit {0})) (old : kept.Book) (m : Making)
-    (is : IsMadeAs shelf (place + 1) alone old library before m) where
+module _ (format shelf place : ℕ) (body : List ℕ) (library : Library) (fed alone : Bool) (before : InOrder (Unit {0})) (old : kept.Book) (m : Making)
+    (is : IsMadeAs shelf (place + 1) fed alone old library before m) where
   abbrev w : Made
   w = is.whole
 
@@ -230,10 +230,10 @@ module _ (format shelf place : ℕ) (body : List ℕ) (library : Library) (alone
 
     -- a change that is passed over in this format
     passed_made : (after : InOrder (Unit {0})) (new : kept.Book) → IsPassedOver format library old c state → IsPassed (changes c state) old new → SeesNumber (number_in c) before after
-        → IsMadeAs shelf (place + 5 + length body + 1) false new library after (with_body_at format setup_of_texts shelf place body m)
+        → IsMadeAs shelf (place + 5 + length body + 1) fed false new library after (with_body_at format setup_of_texts shelf place body m)
     passed_made after new passes (k, (number, again)) sees =
         let n = length body in
-        let x = beside_file (place + 1) w.book.file in
+        let x = beside_file fed (place + 1) w.book.file in
         let counts : logged_by c ≡ k + 1 = logged_is c k number in
         let h : book_of library (beside_with n c None x) new ≡ reopened (redone (of_length n) c None (book_of library x old)) =
         ap (λ (y : Book). record y { length = place + 1 + (n + 5) }) (again.book library x)
@@ -241,13 +241,13 @@ module _ (format shelf place : ℕ) (body : List ℕ) (library : Library) (alone
         record {
           whole = retaken n c None unread w;
           is = comes_at ∙ passes w x place n is.book is.tells.states;
-          book = book_after library place n c None w.book old new is.book h;
+          book = book_after library fed place n c None w.book old new is.book h;
           tells = tells_then library c None unread before after old new w.earlier is.tells (again.states (given (λ q. state_at q w.earlier.states)) library.all is.tells.states) sees;
           first = λ yes. absurd (let no : ⊥ = cc in no);
         }
 
     outside_damaged : IsOutside format library old c state → with_body_at format setup_of_texts shelf place body m ≡ damaged place
-    outside_damaged outside = comes_at ∙ outside w (beside_file (place + 1) w.book.file) place (length body) is.book is.tells.states
+    outside_damaged outside = comes_at ∙ outside w (beside_file fed (place + 1) w.book.file) place (length body) is.book is.tells.states
 
   module _ (c : Change) (state now : Option (List ℕ)) (read : read_record_in format body ≡ Some (changes c state)) (stands : has_script (length library.setup) c ≡ true)
       (as_newest : IsAsNewest format library old c state now) where
@@ -258,28 +258,28 @@ module _ (format shelf place : ℕ) (body : List ℕ) (library : Library) (alone
     again = is_repeated (number_in c) (seen_by before)
 
     abbrev b : Book
-    b = book_of library (beside_file (place + 1) w.book.file) old
+    b = book_of library (beside_file fed (place + 1) w.book.file) old
 
     its : told_in w.earlier w.book c now ≡ x
-    its = ap (λ (y : Book). told_in w.earlier y c now) is.book ∙ told_beside library (beside_file (place + 1) w.book.file) no_journal w.earlier old c now
+    its = ap (λ (y : Book). told_in w.earlier y c now) is.book ∙ told_beside library (beside_file fed (place + 1) w.book.file) no_journal w.earlier old c now
 
     comes : with_body_at format setup_of_texts shelf place body m ≡ told_next place (length body) w c x
     comes =
         comes_at c state read stands
-        ∙ (as_newest.makes w (beside_file (place + 1) w.book.file) place (length body) is.book is.tells.states ∙ ap (told_next place (length body) w c) its)
+        ∙ (as_newest.makes w (beside_file fed (place + 1) w.book.file) place (length body) is.book is.tells.states ∙ ap (told_next place (length body) w c) its)
 
     changed_made : (after : InOrder (Unit {0})) (new : kept.Book) → IsRedone library c now again true old new → SeesNumber (number_in c) before after
-        → IsMadeAs shelf (place + 5 + length body + 1) false new library after (with_body_at format setup_of_texts shelf place body m)
+        → IsMadeAs shelf (place + 5 + length body + 1) fed false new library after (with_body_at format setup_of_texts shelf place body m)
     changed_made after new redo sees =
         let h = redo w.earlier is.tells.states in
         let good = good_is x h.read_is in
         let o = names_told again b c x in
-        let first : names_told again (book_under library old) c x ≡ o = names_beside library no_journal (beside_file (place + 1) w.book.file) old again c x in
+        let first : names_told again (book_under library old) c x ≡ o = names_beside library no_journal (beside_file fed (place + 1) w.book.file) old again c x in
         let seen : is_repeated (number_in c) w.earlier.seen ≡ again = repeated_alike (number_in c) w.earlier.seen (seen_by before) is.tells.numbers in
         record {
           whole = retaken (length body) c o x w;
           is = comes ∙ next_names place (length body) w c x again b good seen is.book;
-          book = book_after library place (length body) c o w.book old new is.book (h.book refl (length body) (beside_file (place + 1) w.book.file));
+          book = book_after library fed place (length body) c o w.book old new is.book (h.book refl (length body) (beside_file fed (place + 1) w.book.file));
           tells =
               tells_then library c o x before after old new w.earlier is.tells
               (subst (λ (p : Option (List TxName)). HasToldStates library.all (states_with p (number_in c) x w.earlier.states) new) first
@@ -293,7 +293,7 @@ module _ (format shelf place : ℕ) (body : List ℕ) (library : Library) (alone
   -- ---- a record of another setup
 
   pub renewed_made : (named : List (List ℕ × List ℕ)) (next : Library) → read_record_in format body ≡ Some (renews named) → HasPlaces library.all old → IsRenewed named library next
-      → IsMadeAs shelf (place + 5 + length body + 1) false old next before (with_body_at format setup_of_texts shelf place body m)
+      → IsMadeAs shelf (place + 5 + length body + 1) fed false old next before (with_body_at format setup_of_texts shelf place body m)
   renewed_made named next read placed anew =
       let n = length body in
       let long : place + 1 + (n + 5) ≡ place + 5 + n + 1 = omega arith in
@@ -305,8 +305,8 @@ module _ (format shelf place : ℕ) (body : List ℕ) (library : Library) (alone
         is = by_alone alone is.is ∙ ap (next_setup place n w) anew.read;
         book =
             ap (λ (y : Book). record y { scripts = next.setup; length = y.length + (n + 5); file = with_line (renewed_line next.setup n) y.file }) is.book
-            ∙ (ap (λ (is : List Instance). record (book_of next (beside_file (place + 1 + (n + 5)) f) old) { instances = is }) alike
-            ∙ ap (λ (l : ℕ). book_of next (beside_file l f) old) long);
+            ∙ (ap (λ (is : List Instance). record (book_of next (beside_file fed (place + 1 + (n + 5)) f) old) { instances = is }) alike
+            ∙ ap (λ (l : ℕ). book_of next (beside_file fed l f) old) long);
         tells = record {
           numbers = is.tells.numbers;
           known = is.tells.known;
@@ -328,6 +328,36 @@ module _ (format shelf place : ℕ) (body : List ℕ) (library : Library) (alone
       by_alone true e = ap (with_body_at format setup_of_texts shelf place body) e ∙ ap (second_at format setup_of_texts place (length body) w) read
       by_alone false e = ap (with_body_at format setup_of_texts shelf place body) e ∙ ap (next_at format setup_of_texts place (length body) w) read
 
+  -- ---- a record that tells that the shelf follows no longer
+
+  fed_is : w.book.follows ≡ fed
+  fed_is = ap (λ (b : Book). b.follows) is.book
+
+  pub turned_by : read_record_in format body ≡ Some promotes → with_body_at format setup_of_texts shelf place body m ≡ promoted_by place (length body) w fed
+  turned_by read = by_alone alone is.is ∙ ap (promoted_by place (length body) w) fed_is
+    where
+      by_alone : (t : Bool) → m ≡ making_of t w → with_body_at format setup_of_texts shelf place body m ≡ promoted_by place (length body) w w.book.follows
+      by_alone true e = ap (with_body_at format setup_of_texts shelf place body) e ∙ ap (second_at format setup_of_texts place (length body) w) read
+      by_alone false e = ap (with_body_at format setup_of_texts shelf place body) e ∙ ap (next_at format setup_of_texts place (length body) w) read
+
+  pub promoted_made : fed ≡ true → read_record_in format body ≡ Some promotes
+      → IsMadeAs shelf (place + 5 + length body + 1) false false old library before (with_body_at format setup_of_texts shelf place body m)
+  promoted_made followed read =
+      let n = length body in
+      let long : place + 1 + (n + 5) ≡ place + 5 + n + 1 = omega arith in
+      record {
+        whole = promoted n w;
+        is = turned_by read ∙ ap (promoted_by place n w) followed;
+        book =
+            ap (λ (y : Book). record y { length = y.length + (n + 5); follows = false }) is.book
+            ∙ ap (λ (l : ℕ). book_of library (beside_file false l w.book.file) old) long;
+        tells = is.tells;
+        first = λ yes. absurd (let no : ⊥ = cc in no);
+      }
+
+  pub promoted_damaged : fed ≡ false → read_record_in format body ≡ Some promotes → with_body_at format setup_of_texts shelf place body m ≡ damaged place
+  promoted_damaged off read = turned_by read ∙ ap (promoted_by place (length body) w) off
+
   -- ---- a record that can't stand there
 
   no_record : read_record_in format body ≡ None → with_body_at format setup_of_texts shelf place body m ≡ damaged place
@@ -343,19 +373,27 @@ module _ (format shelf place : ℕ) (body : List ℕ) (library : Library) (alone
   out_of_place t (changes c state) = has_script (length library.setup) c ≡ false
   out_of_place t (renews named) = ⊥
   out_of_place t (draws number) = t ≡ false
+  out_of_place t follows = Unit {0}
+  out_of_place t promotes = Unit {0}
 
-  pub misplaced : (r : Record) → read_record_in format body ≡ Some r → may_stand alone (length library.setup) r ≡ false → ((named : List (List ℕ × List ℕ)) → r ≡ renews named → ⊥)
+  pub misplaced : (r : Record) → read_record_in format body ≡ Some r → may_stand alone (length library.setup) r ≡ false → ((named : List (List ℕ × List ℕ)) → r ≡ renews named → ⊥) → (r ≡ promotes → ⊥)
       → with_body_at format setup_of_texts shelf place body m ≡ damaged place
-  misplaced (begins s named) read off apart = by_alone alone is.is
+  misplaced (begins s named) read off apart turned = by_alone alone is.is
     where
       by_alone : (t : Bool) → m ≡ making_of t w → with_body_at format setup_of_texts shelf place body m ≡ damaged place
       by_alone true e = ap (with_body_at format setup_of_texts shelf place body) e ∙ ap (second_at format setup_of_texts place (length body) w) read
       by_alone false e = ap (with_body_at format setup_of_texts shelf place body) e ∙ ap (next_at format setup_of_texts place (length body) w) read
-  misplaced (changes c state) read off apart =
+  misplaced (changes c state) read off apart turned =
       next_is format place shelf body alone c state w m read is.is
       ∙ ap (λ (t : Bool). if t then change_next format place (length body) w c state else damaged place) (ap (λ (k : ℕ). has_script k c) many ∙ off)
-  misplaced (renews named) read off apart = absurd (apart named refl)
-  misplaced (draws number) read off apart = by_alone alone is.is off
+  misplaced (renews named) read off apart turned = absurd (apart named refl)
+  misplaced promotes read off apart turned = absurd (turned refl)
+  misplaced follows read off apart turned = by_alone alone is.is
+    where
+      by_alone : (t : Bool) → m ≡ making_of t w → with_body_at format setup_of_texts shelf place body m ≡ damaged place
+      by_alone true e = ap (with_body_at format setup_of_texts shelf place body) e ∙ ap (second_at format setup_of_texts place (length body) w) read
+      by_alone false e = ap (with_body_at format setup_of_texts shelf place body) e ∙ ap (next_at format setup_of_texts place (length body) w) read
+  misplaced (draws number) read off apart turned = by_alone alone is.is off
     where
       by_alone : (t : Bool) → m ≡ making_of t w → t ≡ false → with_body_at format setup_of_texts shelf place body m ≡ damaged place
       by_alone true e not = absurd (let never : ⊥ = cc in never)
@@ -367,29 +405,30 @@ module _ (format shelf place : ℕ) (body : List ℕ) (library : Library) (alone
   -- ---- a record that tells a number
 
   drawn_made : (number : ℕ) (new : kept.Book) → read_record_in format body ≡ Some (draws number) → length body ≡ 9 → alone ≡ true → Reopens (λ b. record b { logged = number }) old new
-      → IsMadeAs shelf (place + 5 + length body + 1) false new library before (with_body_at format setup_of_texts shelf place body m)
-  drawn_made number new read nine single again =
+      → IsMadeAs shelf (place + 5 + length body + 1) fed false new library before (with_body_at format setup_of_texts shelf place body m)
+  drawn_made number new read nine single reopens =
       let start = is.first single in
-      let k = start.0 in
-      let f : File = record (first_file (14 + k) library.setup) { drawn = Some number } in
-      let b = beside_file (place + 1) w.book.file in
-      let book_is : book_of library b old ≡ (began shelf k library.setup).book = sym is.book ∙ ap (λ (x : Made). x.book) start.1 in
-      let at : place + 1 ≡ 14 + k + 0 = ap (λ (y : Book). y.length) book_is in
-      let long : 14 + k + 14 ≡ place + 5 + length body + 1 = omega (arith, at, nine) in
-      let file_is : record w.book.file { drawn = Some number } ≡ f = ap (λ (x : Made). record x.book.file { drawn = Some number }) start.1 in
-      let shelf_is : w.book.shelf ≡ shelf = ap (λ (x : Made). x.book.shelf) start.1 in
+      let b = beside_file fed (place + 1) w.book.file in
+      let drawn : Made → Book = λ y. (with_drawn number y).book in
+      let told_by : Book → Book = λ y. record (reopened (record y { logged = number })) { length = y.length + 14; file = record y.file { drawn = Some number } } in
+      let begins_so : drawn w ≡ told_by w.book = subst (λ (y : Made). drawn y ≡ told_by y.book) (sym start.2) refl in
+      let then_is : record (told_by w.book) { length = place + 1 + 14 } ≡ book_of library (beside_file fed (place + 1 + 14) (record w.book.file { drawn = Some number })) new =
+      ap (λ (y : Book). record (reopened (record y { logged = number })) { length = place + 1 + 14; file = record w.book.file { drawn = Some number } }) is.book
+      ∙ sym (ap (λ (y : Book). record y { length = place + 1 + 14; file = record w.book.file { drawn = Some number } }) (reopens.book library b)) in
+      let length_is : told_by w.book ≡ record (told_by w.book) { length = place + 1 + 14 } = ap (λ (l : ℕ). record (told_by w.book) { length = l + 14 }) (ap (λ (y : Book). y.length) is.book) in
+      let long : place + 1 + 14 ≡ place + 5 + length body + 1 = omega (arith, nine) in
       let whole : Made = with_drawn number w in
-      let whole_is : whole.book ≡ (first_of shelf f).book = (λ i. (first_of (shelf_is i) (file_is i)).book) in
+      let file_is : whole.book.file ≡ record w.book.file { drawn = Some number } = ap (λ (y : Book). y.file) begins_so in
       record {
         whole = whole;
         is = by_alone alone is.is single;
         book =
-            whole_is
-            ∙ (sym (ap (λ (y : Book). record (reopened (record y { logged = number })) { length = 14 + k + 14; file = record f { lines = [] } }) book_is)
-            ∙ (sym (ap (λ (y : Book). record y { length = 14 + k + 14; file = record f { lines = [] } }) (again.book library b))
-            ∙ (ap (λ (l : ℕ). book_of library (beside_file l (record f { lines = [] })) new) long
-            ∙ ap (λ (y : Book). book_of library (beside_file (place + 5 + length body + 1) y.file) new) (sym whole_is))));
-        tells = record { numbers = is.tells.numbers; known = is.tells.known; states = again.states (given (λ n. state_at n w.earlier.states)) library.all is.tells.states };
+            begins_so
+            ∙ (length_is
+            ∙ (then_is
+            ∙ (ap (λ (l : ℕ). book_of library (beside_file fed l (record w.book.file { drawn = Some number })) new) long
+            ∙ ap (λ (f : File). book_of library (beside_file fed (place + 5 + length body + 1) f) new) (sym file_is))));
+        tells = record { numbers = is.tells.numbers; known = is.tells.known; states = reopens.states (given (λ n. state_at n w.earlier.states)) library.all is.tells.states };
         first = λ yes. absurd (let no : ⊥ = cc in no);
       }
     where
@@ -401,6 +440,8 @@ module _ (format shelf place : ℕ) (body : List ℕ) (library : Library) (alone
 
 abbrev pub IsNine : List ℕ → Record → Type 0
 IsNine body (draws number) = length body ≡ 9
+IsNine body follows = length body ≡ 1
+IsNine body promotes = length body ≡ 1
 IsNine body _ = Unit {0}
 
 -- what is told as it is makes what the record makes
@@ -410,21 +451,23 @@ as_it_is library before old o r (renewed.Told l) is makes = subst (λ (q : Recor
 as_it_is library before old o r renewed.Passed is makes = absurd is
 as_it_is library before old o r renewed.Misread is makes = absurd is
 
-pub later_made : (format shelf place : ℕ) (body : List ℕ) (library : Library) (alone : Bool) (before after : InOrder (Unit {0})) (old new : kept.Book) (r : Record)
+pub later_made : (format shelf place : ℕ) (body : List ℕ) (library : Library) (fed alone : Bool) (before after : InOrder (Unit {0})) (old new : kept.Book) (r : Record)
     → read_record_in format body ≡ Some r → IsNine body r → may_stand alone (length library.setup) r ≡ true → IsMadeIn format library before r old (Some new) → Sees r before after
-    → (m : Making) → IsMadeAs shelf (place + 1) alone old library before m
-    → IsMadeAs shelf (place + 5 + length body + 1) false new library after (with_body_at format setup_of_texts shelf place body m)
-later_made format shelf place body library alone before after old new (begins s named) read nine stands redo sees m is = absurd (let not : ⊥ = cc in not)
-later_made format shelf place body library alone before after old new (changes c state) read nine stands (renewed.Told l, (alike, makes)) sees m is =
-    changed_made format shelf place body library alone before old m is c state alike.0 read stands alike.1.1 after new
+    → (m : Making) → IsMadeAs shelf (place + 1) fed alone old library before m
+    → IsMadeAs shelf (place + 5 + length body + 1) fed false new library after (with_body_at format setup_of_texts shelf place body m)
+later_made format shelf place body library fed alone before after old new (begins s named) read nine stands redo sees m is = absurd (let not : ⊥ = cc in not)
+later_made format shelf place body library fed alone before after old new (changes c state) read nine stands (renewed.Told l, (alike, makes)) sees m is =
+    changed_made format shelf place body library fed alone before old m is c state alike.0 read stands alike.1.1 after new
     (subst (λ (q : Record). IsMadeOf library before q old (Some new)) alike.1.0 makes) sees
-later_made format shelf place body library alone before after old new (changes c state) read nine stands (renewed.Passed, (passes, makes)) sees m is =
-    passed_made format shelf place body library alone before old m is c state read stands after new passes.1 makes sees
-later_made format shelf place body library alone before after old new (changes c state) read nine stands (renewed.Misread, (outside, makes)) sees m is = absurd (let not : ⊥ = cc in not)
-later_made format shelf place body library alone before after old new (renews named) read nine stands redo sees m is = absurd (let not : ⊥ = cc in not)
-later_made format shelf place body library alone before after old new (draws number) read nine stands (x, (alike, makes)) sees m is =
+later_made format shelf place body library fed alone before after old new (changes c state) read nine stands (renewed.Passed, (passes, makes)) sees m is =
+    passed_made format shelf place body library fed alone before old m is c state read stands after new passes.1 makes sees
+later_made format shelf place body library fed alone before after old new (changes c state) read nine stands (renewed.Misread, (outside, makes)) sees m is = absurd (let not : ⊥ = cc in not)
+later_made format shelf place body library fed alone before after old new (renews named) read nine stands redo sees m is = absurd (let not : ⊥ = cc in not)
+later_made format shelf place body library fed alone before after old new follows read nine stands redo sees m is = absurd (let not : ⊥ = cc in not)
+later_made format shelf place body library fed alone before after old new promotes read nine stands redo sees m is = absurd (let not : ⊥ = cc in not)
+later_made format shelf place body library fed alone before after old new (draws number) read nine stands (x, (alike, makes)) sees m is =
     let redo = as_it_is library before old (Some new) (draws number) x alike makes in
-    let made_so = drawn_made format shelf place body library alone before old m is number new read nine stands redo.1 in
+    let made_so = drawn_made format shelf place body library fed alone before old m is number new read nine stands redo.1 in
     record {
       whole = made_so.whole;
       is = made_so.is;
@@ -433,18 +476,20 @@ later_made format shelf place body library alone before after old new (draws num
       first = made_so.first;
     }
 
-pub later_damaged : (format shelf place : ℕ) (body : List ℕ) (library : Library) (alone : Bool) (before : InOrder (Unit {0})) (old : kept.Book) (r : Record)
+pub later_damaged : (format shelf place : ℕ) (body : List ℕ) (library : Library) (fed alone : Bool) (before : InOrder (Unit {0})) (old : kept.Book) (r : Record)
     → read_record_in format body ≡ Some r → may_stand alone (length library.setup) r ≡ true → IsMadeIn format library before r old None
-    → (m : Making) → IsMadeAs shelf (place + 1) alone old library before m → with_body_at format setup_of_texts shelf place body m ≡ damaged place
-later_damaged format shelf place body library alone before old (begins s named) read stands redo m is = absurd (let not : ⊥ = cc in not)
-later_damaged format shelf place body library alone before old (changes c state) read stands (renewed.Told l, (alike, makes)) m is =
+    → (m : Making) → IsMadeAs shelf (place + 1) fed alone old library before m → with_body_at format setup_of_texts shelf place body m ≡ damaged place
+later_damaged format shelf place body library fed alone before old (begins s named) read stands redo m is = absurd (let not : ⊥ = cc in not)
+later_damaged format shelf place body library fed alone before old (changes c state) read stands (renewed.Told l, (alike, makes)) m is =
     let redo = subst (λ (q : Record). IsMadeOf library before q old None) alike.1.0 makes in
-    changed_damaged format shelf place body library alone before old m is c state alike.0 read stands alike.1.1 redo.0 redo.1
-later_damaged format shelf place body library alone before old (changes c state) read stands (renewed.Passed, (passes, makes)) m is = absurd makes
-later_damaged format shelf place body library alone before old (changes c state) read stands (renewed.Misread, (outside, makes)) m is =
-    outside_damaged format shelf place body library alone before old m is c state read stands outside
-later_damaged format shelf place body library alone before old (renews named) read stands redo m is = absurd (let not : ⊥ = cc in not)
-later_damaged format shelf place body library alone before old (draws number) read stands (x, (alike, makes)) m is =
+    changed_damaged format shelf place body library fed alone before old m is c state alike.0 read stands alike.1.1 redo.0 redo.1
+later_damaged format shelf place body library fed alone before old (changes c state) read stands (renewed.Passed, (passes, makes)) m is = absurd makes
+later_damaged format shelf place body library fed alone before old (changes c state) read stands (renewed.Misread, (outside, makes)) m is =
+    outside_damaged format shelf place body library fed alone before old m is c state read stands outside
+later_damaged format shelf place body library fed alone before old (renews named) read stands redo m is = absurd (let not : ⊥ = cc in not)
+later_damaged format shelf place body library fed alone before old follows read stands redo m is = absurd (let not : ⊥ = cc in not)
+later_damaged format shelf place body library fed alone before old promotes read stands redo m is = absurd (let not : ⊥ = cc in not)
+later_damaged format shelf place body library fed alone before old (draws number) read stands (x, (alike, makes)) m is =
     let redo = as_it_is library before old None (draws number) x alike makes in
     absurd (let yes : false ≡ true = redo.1.0 in let not : ⊥ = cc in not)
 
@@ -473,35 +518,39 @@ same_number n k e = grind (arith, nat_tests, e)
 other_number : (n k : ℕ) → (n ≡ k → ⊥) → (n == k) ≡ false
 other_number n k e = grind (arith, nat_tests, e)
 
-module _ (format shelf place : ℕ) (body : List ℕ) (number : ℕ) (named : List (List ℕ × List ℕ)) (read : read_record_in format body ≡ Some (begins number named)) (seen : InOrder (Unit {0}))
-    (m : Making) (is : IsNothing (place + 1) seen m) where
-  first_comes : (o : Option (List Named)) → setup_of_texts named ≡ o → with_body_at format setup_of_texts shelf place body m ≡ first_setup shelf place (length body) number o
-  first_comes o reads =
-      ap (with_body_at format setup_of_texts shelf place body) is.is ∙ (ap (first_by setup_of_texts shelf place (length body)) read ∙ ap (first_setup shelf place (length body) number) reads)
+module _ (format shelf place : ℕ) (body : List ℕ) (number : ℕ) (named : List (List ℕ × List ℕ)) (read : read_record_in format body ≡ Some (begins number named)) (fed : Bool) (seen : InOrder (Unit {0}))
+    (m : Making) (is : IsNothing shelf (place + 1) fed seen m) where
+  by_role : (t : Bool) → IsBefore t shelf (place + 1) m → with_body_at format setup_of_texts shelf place body m ≡ first_setup t shelf place (length body) number (setup_of_texts named)
+  by_role true (e, long) = ap (with_body_at format setup_of_texts shelf place body) e ∙ ap (fed_by setup_of_texts shelf place (length body)) read
+  by_role false (inl (e, long)) = ap (with_body_at format setup_of_texts shelf place body) e ∙ ap (start_by setup_of_texts shelf place (length body)) read
+  by_role false (inr (e, long)) = ap (with_body_at format setup_of_texts shelf place body) e ∙ ap (first_by setup_of_texts false shelf place (length body)) read
+
+  first_comes : (o : Option (List Named)) → setup_of_texts named ≡ o → with_body_at format setup_of_texts shelf place body m ≡ first_setup fed shelf place (length body) number o
+  first_comes o reads = by_role fed is.before ∙ ap (first_setup fed shelf place (length body) number) reads
+
+  pub begins_as : (scripts : List Named) → number ≡ shelf → setup_of_texts named ≡ Some scripts → with_body_at format setup_of_texts shelf place body m ≡ begun (began fed shelf place (length body) scripts)
+  begins_as scripts same reads =
+      first_comes (Some scripts) reads ∙ ap (λ (t : Bool). if t then begun (began fed shelf place (length body) scripts) else other place) (same_number number shelf same)
 
   pub first_made : (b : kept.Book) (library : Library) → number ≡ shelf → IsFirst shelf named b library
-      → IsMadeAs shelf (place + 5 + length body + 1) true b library seen (with_body_at format setup_of_texts shelf place body m)
+      → IsMadeAs shelf (place + 5 + length body + 1) fed true b library seen (with_body_at format setup_of_texts shelf place body m)
   first_made b library same first =
       let n = length body in
-      let nine = is.long in
-      let long : 14 + n ≡ place + 5 + n + 1 = omega (arith, nine) in
+      let long : place + 6 + n ≡ place + 5 + n + 1 = omega arith in
       let f = first_file (14 + n) library.setup in
-      let none : 14 + n + 0 ≡ 14 + n = omega arith in
       record {
-        whole = began shelf n library.setup;
-        is =
-            first_comes (Some library.setup) first.read
-            ∙ ap (λ (t : Bool). if t then begun (began shelf n library.setup) else other place) (same_number number shelf same);
+        whole = began fed shelf place n library.setup;
+        is = begins_as library.setup same first.read;
         book =
-            ap (λ (l : ℕ). record (first_of shelf f).book { length = l }) none
-            ∙ (sym (first.empty library (long_rules (14 + n))) ∙ ap (λ (l : ℕ). book_of library (beside_file l f) b) long);
+            ap (λ (y : Book). record y { length = place + 6 + n; follows = fed }) (sym (first.empty library (long_rules (14 + n))))
+            ∙ ap (λ (l : ℕ). book_of library (beside_file fed l f) b) long;
         tells = nothing_tells library b seen is.none (first.told (λ n. state_at n []) library.all);
-        first = λ _. (n, refl);
+        first = λ _. (place, n, refl);
       }
 
   pub first_other : (number ≡ shelf → ⊥) → (scripts : List Named) → setup_of_texts named ≡ Some scripts → with_body_at format setup_of_texts shelf place body m ≡ other place
   first_other differs scripts reads =
-      first_comes (Some scripts) reads ∙ ap (λ (t : Bool). if t then begun (began shelf (length body) scripts) else other place) (other_number number shelf differs)
+      first_comes (Some scripts) reads ∙ ap (λ (t : Bool). if t then begun (began fed shelf place (length body) scripts) else other place) (other_number number shelf differs)
 
   pub first_damaged : setup_of_texts named ≡ None → with_body_at format setup_of_texts shelf place body m ≡ damaged place
   first_damaged none = first_comes None none
@@ -509,3 +558,76 @@ module _ (format shelf place : ℕ) (body : List ℕ) (number : ℕ) (named : Li
 abbrev pub IsNoBegin : Record → Type 0
 IsNoBegin (begins s named) = ⊥
 IsNoBegin _ = Unit {0}
+
+at_eight : (place : ℕ) → (place == 8) ≡ true → place ≡ 8
+at_eight place e = grind (arith, nat_tests, e)
+
+not_eight : (place : ℕ) → place + 1 ≡ 9 → (place == 8) ≡ false → ⊥
+not_eight place e off = let here : place ≡ 8 = omega (arith, e) in let yes : (place == 8) ≡ true = grind (arith, nat_tests, here) in let no : ⊥ = cc (yes, off) in no
+
+module _ (format shelf place : ℕ) (body : List ℕ) (fed : Bool) (seen : InOrder (Unit {0})) (m : Making) (is : IsNothing shelf (place + 1) fed seen m) where
+  -- what a record makes there
+  front_by : (t : Bool) (o : Option Record) → read_record_in format body ≡ o → IsBefore t shelf (place + 1) m → ((fed_by setup_of_texts shelf place (length body) o ≡ damaged place) → t ≡ true → with_body_at format setup_of_texts shelf place body m ≡ damaged place)
+      × ((start_by setup_of_texts shelf place (length body) o ≡ damaged place) → (first_by setup_of_texts false shelf place (length body) o ≡ damaged place) → t ≡ false → with_body_at format setup_of_texts shelf place body m ≡ damaged place)
+  front_by true o read (e, long) = (
+    λ bad _. ap (with_body_at format setup_of_texts shelf place body) e ∙ (ap (fed_by setup_of_texts shelf place (length body)) read ∙ bad),
+    λ _ _ off. absurd (let no : ⊥ = cc off in no),
+  )
+  front_by false o read (inl (e, long)) = (
+    λ _ on. absurd (let no : ⊥ = cc on in no),
+    λ bad _ _. ap (with_body_at format setup_of_texts shelf place body) e ∙ (ap (start_by setup_of_texts shelf place (length body)) read ∙ bad),
+  )
+  front_by false o read (inr (e, long)) = (
+    λ _ on. absurd (let no : ⊥ = cc on in no),
+    λ _ bad _. ap (with_body_at format setup_of_texts shelf place body) e ∙ (ap (first_by setup_of_texts false shelf place (length body)) read ∙ bad),
+  )
+
+  front_damaged : (o : Option Record) → read_record_in format body ≡ o → fed_by setup_of_texts shelf place (length body) o ≡ damaged place → start_by setup_of_texts shelf place (length body) o ≡ damaged place
+      → first_by setup_of_texts false shelf place (length body) o ≡ damaged place → with_body_at format setup_of_texts shelf place body m ≡ damaged place
+  front_damaged o read one two three = by_fed fed is.before
+    where
+      by_fed : (t : Bool) → IsBefore t shelf (place + 1) m → with_body_at format setup_of_texts shelf place body m ≡ damaged place
+      by_fed true before = (front_by true o read before).0 one refl
+      by_fed false before = (front_by false o read before).1 two three refl
+
+  pub first_unread : read_record_in format body ≡ None → with_body_at format setup_of_texts shelf place body m ≡ damaged place
+  first_unread read = front_damaged None read refl refl refl
+
+  pub first_no_begin : (r : Record) → read_record_in format body ≡ Some r → IsNoBegin r → turns fed place r ≡ false → with_body_at format setup_of_texts shelf place body m ≡ damaged place
+  first_no_begin (begins s named) read h off = absurd h
+  first_no_begin (changes c state) read h off = front_damaged (Some (changes c state)) read refl refl refl
+  first_no_begin (renews named) read h off = front_damaged (Some (renews named)) read refl refl refl
+  first_no_begin (draws number) read h off = front_damaged (Some (draws number)) read refl refl refl
+  first_no_begin follows read h off = by_fed fed is.before off
+    where
+      by_fed : (t : Bool) → IsBefore t shelf (place + 1) m → turns t place follows ≡ false → with_body_at format setup_of_texts shelf place body m ≡ damaged place
+      by_fed true before away = (front_by true (Some follows) read before).0 refl refl
+      by_fed false (inl (e, long)) away = absurd (not_eight place long away)
+      by_fed false (inr (e, long)) away = ap (with_body_at format setup_of_texts shelf place body) e ∙ ap (first_by setup_of_texts false shelf place (length body)) read
+  first_no_begin promotes read h off = by_fed fed is.before off
+    where
+      by_fed : (t : Bool) → IsBefore t shelf (place + 1) m → turns t place promotes ≡ false → with_body_at format setup_of_texts shelf place body m ≡ damaged place
+      by_fed true before away = absurd (let never : ⊥ = cc away in never)
+      by_fed false before away = (front_by false (Some promotes) read before).1 refl refl refl
+
+  -- a record that tells that the shelf follows, or follows no longer
+  pub first_turned : (r : Record) → read_record_in format body ≡ Some r → IsNine body r → turns fed place r ≡ true → (t : Bool) → t ≡ not fed
+      → IsNothing shelf (place + 5 + length body + 1) t seen (with_body_at format setup_of_texts shelf place body m)
+  first_turned r read long on t turned = record { before = subst (λ (u : Bool). IsBefore u shelf (place + 5 + length body + 1) (with_body_at format setup_of_texts shelf place body m)) (sym turned) (by_record r read long fed is.before on); none = is.none }
+    where
+      by_record : (r : Record) → read_record_in format body ≡ Some r → IsNine body r → (u : Bool) → IsBefore u shelf (place + 1) m → turns u place r ≡ true → IsBefore (not u) shelf (place + 5 + length body + 1) (with_body_at format setup_of_texts shelf place body m)
+      by_record follows read long false (inl (e, n)) on =
+          (ap (with_body_at format setup_of_texts shelf place body) e ∙ ap (start_by setup_of_texts shelf place (length body)) read, omega (arith, n, long))
+      by_record follows read long false (inr (e, n)) on = absurd (let here = at_eight place on in let no : ⊥ = omega (arith, n, here) in no)
+      by_record follows read long true before on = absurd (let no : ⊥ = cc on in no)
+      by_record promotes read long true (e, n) on =
+          inr (ap (with_body_at format setup_of_texts shelf place body) e ∙ ap (fed_by setup_of_texts shelf place (length body)) read, omega (arith, n, long))
+      by_record promotes read long false before on = absurd (let no : ⊥ = cc on in no)
+      by_record (begins s named) read long true before on = absurd (let no : ⊥ = cc on in no)
+      by_record (begins s named) read long false before on = absurd (let no : ⊥ = cc on in no)
+      by_record (changes c state) read long true before on = absurd (let no : ⊥ = cc on in no)
+      by_record (changes c state) read long false before on = absurd (let no : ⊥ = cc on in no)
+      by_record (renews named) read long true before on = absurd (let no : ⊥ = cc on in no)
+      by_record (renews named) read long false before on = absurd (let no : ⊥ = cc on in no)
+      by_record (draws number) read long true before on = absurd (let no : ⊥ = cc on in no)
+      by_record (draws number) read long false before on = absurd (let no : ⊥ = cc on in no)

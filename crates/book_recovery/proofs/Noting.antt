@@ -1,9 +1,8 @@
 -- What is noted of a record that was read.
-use Rattle.std.proofs.Common.{◌≡◌, ◌∙◌, ap, sym, subst, ℕ, ◌+◌, ◌==◌, map, Bool, true, false, List, [], ◌∷◌, ◌++◌, length, Option, Some, None, is_some, is_err, Result, Ok, Err, if◌then◌else◌, refl, arith, length-append}
+use Rattle.std.proofs.Common.{◌≡◌, ◌∙◌, ap, sym, subst, ℕ, ◌+◌, ◌==◌, map, Bool, true, false, List, [], ◌∷◌, ◌++◌, length, Option, Some, None, is_some, is_err, Result, Ok, Err, if◌then◌else◌, refl, arith, length-append, inl, inr}
 use Rattle.std.specs.Prelude.{IfOk, OnOk}
 use Rattle.std.specs.Global.{Vec}
 use Rattle.std.proofs.lemmas.List.{append-nil}
-use Rattle.std.proofs.lemmas.Bool.Decides.{nat_tests}
 use Rattle.std.proofs.lemmas.Option.{same_Some}
 use Rattle.std.specs.declared.alloc.AllocError.{AllocError}
 use Rattle.script_value.specs.declared.outcome.TxName.{TxName}
@@ -20,7 +19,7 @@ use Rattle.book_redo.specs.InstanceBook.Standing.{book_under}
 use Rattle.book_redo.specs.Redo.{told_of as told_under, number_by, file_with, IsRedone}
 use Rattle.book_redo.specs.Lands.{TellsLanding}
 use Rattle.page_journal.specs.Records.{newest}
-use Rattle.journal_records.specs.Records.{Record, begins, changes, renews, draws, body_of}
+use Rattle.journal_records.specs.Records.{Record, begins, changes, renews, draws, follows, promotes, body_of}
 use Rattle.journal_records.specs.Old.{read_record_in}
 use Rattle.journal_records.specs.Views.{logged_of}
 use Rattle.journal_records.specs.declared.records.Logged.{Logged}
@@ -28,7 +27,7 @@ use Rattle.setup_reader.specs.Texts.{setup_of_texts}
 use Rattle.book_redo.specs.JournalSpec.Before.{Made, plain}
 use Rattle.book_redo.specs.JournalSpec.Retaking.{Told, unread, misread, told, told_in, held, landing, retaken}
 use Rattle.book_redo.specs.JournalSpec.Lengths.{own_told}
-use Rattle.book_redo.specs.JournalSpec.Making.{Making, nothing, first_by, first_setup, begun, made, began, beside, told_next, next_setup, with_drawn as with_drawn_number}
+use Rattle.book_redo.specs.JournalSpec.Making.{Making, begun, made, beside, told_next, next_setup, promoted, with_drawn as with_drawn_number}
 use Rattle.book_redo.specs.JournalSpec.Old.{told_at, told_of, landing_told, landing_of, change_next, second_at, next_at, with_body_at}
 use Rattle.book_redo.specs.JournalSpec.Copying.{state_now}
 use Rattle.book_redo.specs.declared.renew.Renewed.TheVariants as renewed
@@ -40,11 +39,13 @@ use Rattle.file_notes.specs.declared.note.Note.{Note}
 use Rattle.book_recovery.specs.declared.found.Found.{Found}
 use Rattle.book_recovery.specs.declared.found.Found.TheVariants as found
 use Rattle.book_recovery.specs.Found.{beside_file}
-use Rattle.book_recovery.specs.Reading.{seen_by, making_of, may_stand, Begins, Renews, IsMadeAgain, IsMadeAs}
+use Rattle.book_recovery.specs.Reading.{seen_by, making_of, may_stand, Begins, Renews, IsMadeAgain, IsBefore, IsNothing, IsMadeAs}
 use Rattle.book_recovery.specs.Noting.{mark_by, mark_in, IsFileOf, WhereMade, NotesWith}
 use Rattle.book_recovery.specs.Anew.{IsBodyAnew, IsOfLanding, IsAnewBy, IsAnewIn, HasAnew, KeepsAnew, KeepsTold, AnewWith}
-use Rattle.book_recovery.specs.Noted.{drawn_by, IsOfMade, TakesNote, TakesIfLands, NotesRecord, NotesMade, NotesSetup, NotesFirst, MakesAnew}
-use Rattle.book_recovery.proofs.Made.{comes_at, repeated_alike, told_beside, held_beside, good_is}
+use Rattle.book_recovery.specs.declared.to_note.Noting.{Noting}
+use Rattle.book_recovery.specs.declared.to_note.Noting.TheVariants.{Draws, Passes, Lands}
+use Rattle.book_recovery.specs.Noted.{drawn_by, IsOfMade, IsNotingOf, NotesBy, TakesNote, TakesIfLands, NotesRecord, NotesMade, NotesSetup, NotesFirst, MakesAnew}
+use Rattle.book_recovery.proofs.Made.{begins_as, turned_by, comes_at, repeated_alike, told_beside, held_beside, good_is}
 
 -- ---- a note of a record
 
@@ -58,15 +59,17 @@ read_same true c s z n f = refl
 read_same false c s z n f = refl
 
 -- the record tells a number
-pub takes_drawn : (library : Library) (b : kept.Book) (r : Record) (again : Bool) (n number : ℕ) (old new : FileNotes) → Some number ≡ drawn_by r → file_in new ≡ with_drawn number (file_in old) → marks_in new ≡ marks_in old
+takes_drawn : (library : Library) (b : kept.Book) (r : Record) (again : Bool) (n number : ℕ) (old new : FileNotes) → Some number ≡ drawn_by r → file_in new ≡ with_drawn number (file_in old) → marks_in new ≡ marks_in old
     → TakesIfLands library b r again n old new
 takes_drawn library b (begins shelf named) again n number old new is file marks = tt
 takes_drawn library b (changes c state) again n number old new is file marks = absurd (let no : ⊥ = cc is in no)
 takes_drawn library b (renews named) again n number old new is file marks = tt
+takes_drawn library b follows again n number old new is file marks = tt
+takes_drawn library b promotes again n number old new is file marks = tt
 takes_drawn library b (draws k) again n number old new is file marks = (file ∙ ap (λ (m : ℕ). with_drawn m (file_in old)) (same_Some number k is), marks)
 
 -- it tells none
-pub takes_read : (library : Library) (b : kept.Book) (r : Record) (again : Bool) (n : ℕ) (t : Bool) (old mid new : FileNotes) → None ≡ drawn_by r → TellsLanding library b r again t → StaysAsTold old mid
+takes_read : (library : Library) (b : kept.Book) (r : Record) (again : Bool) (n : ℕ) (t : Bool) (old mid new : FileNotes) → None ≡ drawn_by r → TellsLanding library b r again t → StaysAsTold old mid
     → file_in new ≡ with_read t r n (file_in mid) → marks_in new ≡ marks_in mid ++ with_mark t r ∷ [] → TakesIfLands library b r again n old new
 takes_read library b (begins shelf named) again n t old mid new is tells same file marks = tt
 takes_read library b (changes c state) again n t old mid new is tells same file marks = (
@@ -82,7 +85,20 @@ takes_read library b (changes c state) again n t old mid new is tells same file 
   ),
 )
 takes_read library b (renews named) again n t old mid new is tells same file marks = tt
+takes_read library b follows again n t old mid new is tells same file marks = tt
+takes_read library b promotes again n t old mid new is tells same file marks = tt
 takes_read library b (draws k) again n t old mid new is tells same file marks = absurd (let no : ⊥ = cc is in no)
+
+-- what is noted of a record behind a book is known of the file as soon as it is told
+pub takes_by : (library : Library) (b : kept.Book) (r : Record) (again : Bool) (n : ℕ) (x : Noting) (old mid new : FileNotes) → IsNotingOf library b r again n x → StaysAsTold old mid → NotesBy x mid new → TakesIfLands library b r again n old new
+takes_by library b r again n (Draws number) old mid new of same by =
+    takes_drawn library b r again n number old new (sym of) (by.0 ∙ ap (with_drawn number) same.file) (by.1 ∙ ap (λ (ns : List Note). map is_told ns) same.notes)
+takes_by library b r again n (Passes long) old mid new of same by = takes_read library b r again n false old mid new (sym of.0) of.1.0 same by.0 by.1
+takes_by library b r again n (Lands logged note long) old mid new of same by =
+    let its = of.1.1.0 in
+    takes_read library b r again n true old mid new (sym of.0) of.1.0 same
+    (by.0 ∙ (ap (λ (q : Record). with_read true q long (file_in mid)) its ∙ ap (λ (k : ℕ). with_read true r k (file_in mid)) of.1.1.1))
+    (by.1 ∙ ap (λ (q : Record). marks_in mid ++ with_mark true q ∷ []) its)
 
 -- a note of a record is one of what it tells
 noted_by : (t u : Bool) (c : Change) (now state : Option (List ℕ)) (n : ℕ) (old new : FileNotes) → t ≡ u → TakesNote t (changes c now) n old new → TakesNote u (changes c state) n old new
@@ -98,6 +114,8 @@ pub told_drawn : (format : ℕ) (r : Record) (number : ℕ) (old : Vec (List ℕ
 told_drawn format (begins shelf named) number old is = tt
 told_drawn format (changes c state) number old is = absurd (let no : ⊥ = cc is in no)
 told_drawn format (renews named) number old is = tt
+told_drawn format follows number old is = tt
+told_drawn format promotes number old is = tt
 told_drawn format (draws k) number old is = refl
 
 pub told_kept : {E : Type 0} (format : ℕ) (r : Record) (body : List ℕ) (old new : Vec (List ℕ)) (x : Result (Unit {0}) E) → None ≡ drawn_by r → IsBodyAnew r body → OnOk x (KeepsAnew format body old new)
@@ -106,6 +124,8 @@ told_kept format r body old new (Err e) none is keeps = tt
 told_kept format (begins shelf named) body old new (Ok x) none is keeps = tt
 told_kept format (changes c state) body old new (Ok x) none is keeps = subst (λ (y : List ℕ). HasAnew format (y ∷ []) old new) is keeps
 told_kept format (renews named) body old new (Ok x) none is keeps = tt
+told_kept format follows body old new (Ok x) none is keeps = tt
+told_kept format promotes body old new (Ok x) none is keeps = tt
 told_kept format (draws k) body old new (Ok x) none is keeps = absurd (let no : ⊥ = cc none in no)
 
 -- ---- whether the record of a change lands is seen in the file that it makes
@@ -195,6 +215,8 @@ module _ (format : ℕ) (library : Library) (seen : InOrder (Unit {0})) (b : kep
   noted_told r l again (Ok None) is so takes makes = tt
   noted_told (begins shelf named) l again (Ok (Some d)) is so takes makes = tt
   noted_told (renews named) l again (Ok (Some d)) is so takes makes = tt
+  noted_told follows l again (Ok (Some d)) is so takes makes = tt
+  noted_told promotes l again (Ok (Some d)) is so takes makes = tt
   noted_told (draws number) l again (Ok (Some d)) is so takes makes = subst (λ (q : Record). TakesIfLands library b q again n old new) is takes
   noted_told (changes c state) l again (Ok (Some d)) is so takes makes =
       let now = is.0 in
@@ -208,6 +230,8 @@ module _ (format : ℕ) (library : Library) (seen : InOrder (Unit {0})) (b : kep
       → NotesMade format library seen b r n old new (Some d)
   noted_passed (begins shelf named) mid d is same file marks = absurd is
   noted_passed (renews named) mid d is same file marks = absurd is
+  noted_passed follows mid d is same file marks = absurd is
+  noted_passed promotes mid d is same file marks = absurd is
   noted_passed (draws number) mid d is same file marks = absurd is
   noted_passed (changes c state) mid d is same file marks =
       let note : TakesNote false (changes c state) n old new = record {
@@ -230,7 +254,7 @@ file_then : (alone : Bool) (w : Made) (m : Making) (notes : FileNotes) → m ≡
 file_then true w m notes is file = subst (IsFileOf notes) is file
 file_then false w m notes is file = subst (IsFileOf notes) is file
 
-module _ (format shelf place : ℕ) (body : List ℕ) (library : Library) (alone : Bool) (before : InOrder (Unit {0})) (b : kept.Book) (m : Making) (is : IsMadeAs shelf (place + 1) alone b library before m) (old new : FileNotes) where
+module _ (format shelf place : ℕ) (body : List ℕ) (library : Library) (fed alone : Bool) (before : InOrder (Unit {0})) (b : kept.Book) (m : Making) (is : IsMadeAs shelf (place + 1) fed alone b library before m) (old new : FileNotes) where
   abbrev w : Made
   w = is.whole
 
@@ -239,7 +263,7 @@ module _ (format shelf place : ℕ) (body : List ℕ) (library : Library) (alone
   NotesOne = IsFileOf old m → IsFileOf new (with_body_at format setup_of_texts shelf place body m) × (marks_in new ≡ marks_in old ++ mark_in format m body)
 
   of_made : IsOfMade library before b w
-  of_made = (beside_file (place + 1) w.book.file, (is.book, is.tells))
+  of_made = (beside_file fed (place + 1) w.book.file, (is.book, is.tells))
 
   -- the record of a change, which makes a book
   pub change_noted : (c : Change) (state : Option (List ℕ)) (k : Made) → read_record_in format body ≡ Some (changes c state) → with_body_at format setup_of_texts shelf place body m ≡ change_next format place (length body) w c state
@@ -263,7 +287,7 @@ module _ (format shelf place : ℕ) (body : List ℕ) (library : Library) (alone
       ap (with_body_at format setup_of_texts shelf place body) second ∙ ap (second_at format setup_of_texts place (length body) w) read in
       let begins_so = is.first first in
       let bare : with_drawn number w.book.file ≡ (with_drawn_number number w).book.file =
-      subst (λ (y : Made). with_drawn number y.book.file ≡ (with_drawn_number number y).book.file) (sym begins_so.1) refl in
+      subst (λ (y : Made). with_drawn number y.book.file ≡ (with_drawn_number number y).book.file) (sym begins_so.2) refl in
       let file : file_in new ≡ (with_drawn_number number w).book.file = note.0 ∙ (ap (with_drawn number) (file_then alone w m old is.is here) ∙ bare) in (
         subst (IsFileOf new) (sym makes) file,
         note.1 ∙ (sym (append-nil (marks_in old)) ∙ ap (λ (ts : List Bool). marks_in old ++ ts) (sym (mark_of format alone w m body (draws number) is.is read))),
@@ -283,49 +307,89 @@ module _ (format shelf place : ℕ) (body : List ℕ) (library : Library) (alone
       by_alone true e = ap (with_body_at format setup_of_texts shelf place body) e ∙ ap (second_at format setup_of_texts place (length body) w) read
       by_alone false e = ap (with_body_at format setup_of_texts shelf place body) e ∙ ap (next_at format setup_of_texts place (length body) w) read
 
--- a later record that tells no setup, which makes a book
-pub later_noted : (format shelf place : ℕ) (body : List ℕ) (library : Library) (alone : Bool) (before after : InOrder (Unit {0})) (b d : kept.Book) (old new : FileNotes) (r : Record)
-    → read_record_in format body ≡ Some r → may_stand alone (length library.setup) r ≡ true → NotesMade format library before b r (length body) old new (Some d)
-    → (m : Making) → IsMadeAs shelf (place + 1) alone b library before m → IsMadeAs shelf (place + 5 + length body + 1) false d library after (with_body_at format setup_of_texts shelf place body m)
+-- one that tells that the shelf follows no longer
+pub promoted_noted : (format shelf place : ℕ) (body : List ℕ) (library : Library) (alone : Bool) (before : InOrder (Unit {0})) (b : kept.Book) (old new : FileNotes) → read_record_in format body ≡ Some promotes
+    → file_in new ≡ file_in old → marks_in new ≡ marks_in old ++ false ∷ []
+    → (m : Making) → IsMadeAs shelf (place + 1) true alone b library before m → IsMadeAs shelf (place + 5 + length body + 1) false false b library before (with_body_at format setup_of_texts shelf place body m)
     → IsFileOf old m → IsFileOf new (with_body_at format setup_of_texts shelf place body m) × (marks_in new ≡ marks_in old ++ mark_in format m body)
-later_noted format shelf place body library alone before after b d old new (begins s named) read stands note m is then_is = absurd (let no : ⊥ = cc stands in no)
-later_noted format shelf place body library alone before after b d old new (changes c state) read stands note m is then_is =
-    change_noted format shelf place body library alone before b m is old new c state then_is.whole read (comes_at format shelf place body library alone before b m is c state read stands) then_is.is note
-later_noted format shelf place body library alone before after b d old new (renews named) read stands note m is then_is = absurd (let no : ⊥ = cc stands in no)
-later_noted format shelf place body library alone before after b d old new (draws number) read stands note m is then_is = draw_noted format shelf place body library alone before b m is old new number stands read note
+promoted_noted format shelf place body library alone before b old new read file marks m is then_is here =
+    let w = is.whole in
+    let makes : with_body_at format setup_of_texts shelf place body m ≡ made (promoted (length body) w) =
+    turned_by format shelf place body library true alone before b m is read in (
+      subst (IsFileOf new) (sym makes) (file ∙ file_then alone w m old is.is here),
+      marks ∙ ap (λ (ts : List Bool). marks_in old ++ ts) (sym (mark_of format alone w m body promotes is.is read)),
+    )
+
+-- a later record that tells no setup, which makes a book
+pub later_noted : (format shelf place : ℕ) (body : List ℕ) (library : Library) (fed alone : Bool) (before after : InOrder (Unit {0})) (b d : kept.Book) (old new : FileNotes) (r : Record)
+    → read_record_in format body ≡ Some r → may_stand alone (length library.setup) r ≡ true → NotesMade format library before b r (length body) old new (Some d)
+    → (m : Making) → IsMadeAs shelf (place + 1) fed alone b library before m → IsMadeAs shelf (place + 5 + length body + 1) fed false d library after (with_body_at format setup_of_texts shelf place body m)
+    → IsFileOf old m → IsFileOf new (with_body_at format setup_of_texts shelf place body m) × (marks_in new ≡ marks_in old ++ mark_in format m body)
+later_noted format shelf place body library fed alone before after b d old new (begins s named) read stands note m is then_is = absurd (let no : ⊥ = cc stands in no)
+later_noted format shelf place body library fed alone before after b d old new (changes c state) read stands note m is then_is =
+    change_noted format shelf place body library fed alone before b m is old new c state then_is.whole read (comes_at format shelf place body library fed alone before b m is c state read stands) then_is.is note
+later_noted format shelf place body library fed alone before after b d old new (renews named) read stands note m is then_is = absurd (let no : ⊥ = cc stands in no)
+later_noted format shelf place body library fed alone before after b d old new follows read stands note m is then_is = absurd (let no : ⊥ = cc stands in no)
+later_noted format shelf place body library fed alone before after b d old new promotes read stands note m is then_is = absurd (let no : ⊥ = cc stands in no)
+later_noted format shelf place body library fed alone before after b d old new (draws number) read stands note m is then_is = draw_noted format shelf place body library fed alone before b m is old new number stands read note
 
 -- a record of another setup, where a book goes on
-pub renewed_noted : (format shelf place : ℕ) (body : List ℕ) (library : Library) (alone : Bool) (before : InOrder (Unit {0})) (b : kept.Book) (old new : FileNotes) (named : List (List ℕ × List ℕ)) (f : Found)
+pub renewed_noted : (format shelf place : ℕ) (body : List ℕ) (library : Library) (fed alone : Bool) (before : InOrder (Unit {0})) (b : kept.Book) (old new : FileNotes) (named : List (List ℕ × List ℕ)) (f : Found)
     → read_record_in format body ≡ Some (renews named) → Renews place b library named f → NotesSetup named (length body) old new f
-    → (m : Making) → IsMadeAs shelf (place + 1) alone b library before m → NotesWith format shelf place body old new f m
-renewed_noted format shelf place body library alone before b old new named (found.Made d next) read renewal note m is =
+    → (m : Making) → IsMadeAs shelf (place + 1) fed alone b library before m → NotesWith format shelf place body old new f m
+renewed_noted format shelf place body library fed alone before b old new named (found.Made d next) read renewal note m is =
     let scripts = (library_of next).setup in
     let here = note scripts renewal.1.read in
-    setup_noted format shelf place body library alone before b m is old new named scripts read renewal.1.read here.0 here.1
-renewed_noted format shelf place body library alone before b old new named found.Nothing read renewal note m is = absurd renewal
-renewed_noted format shelf place body library alone before b old new named (found.Damaged p) read renewal note m is = tt
-renewed_noted format shelf place body library alone before b old new named (found.Other p) read renewal note m is = absurd renewal
-renewed_noted format shelf place body library alone before b old new named found.Memory read renewal note m is = tt
+    setup_noted format shelf place body library fed alone before b m is old new named scripts read renewal.1.read here.0 here.1
+renewed_noted format shelf place body library fed alone before b old new named found.Nothing read renewal note m is = absurd renewal
+renewed_noted format shelf place body library fed alone before b old new named (found.Damaged p) read renewal note m is = tt
+renewed_noted format shelf place body library fed alone before b old new named (found.Other p) read renewal note m is = absurd renewal
+renewed_noted format shelf place body library fed alone before b old new named found.Memory read renewal note m is = tt
 
--- the first record, where it begins a book of this shelf
-pub first_noted : (format shelf place : ℕ) (body : List ℕ) (number : ℕ) (named : List (List ℕ × List ℕ)) (old new : FileNotes) (f : Found) → read_record_in format body ≡ Some (begins number named)
-    → Begins shelf place number named f → NotesFirst named (length body) new f → (m : Making) → m ≡ nothing → NotesWith format shelf place body old new f m
-first_noted format shelf place body number named old new (found.Made b library) read starts note m none = λ here.
+-- before the record of a setup nothing is known of the file, and no record has a mark
+unmarked : (fed : Bool) (shelf n : ℕ) (notes : FileNotes) (m : Making) → IsBefore fed shelf n m → IsFileOf notes m → marks_in notes ≡ []
+unmarked true shelf n notes m (e, long) here = subst (IsFileOf notes) e here
+unmarked false shelf n notes m (inl (e, long)) here = subst (IsFileOf notes) e here
+unmarked false shelf n notes m (inr (e, long)) here = subst (IsFileOf notes) e here
+
+none_in : (fed : Bool) (shelf n : ℕ) (format : ℕ) (body : List ℕ) (m : Making) → IsBefore fed shelf n m → mark_in format m body ≡ []
+none_in true shelf n format body m (e, long) = ap (λ (x : Making). mark_in format x body) e
+none_in false shelf n format body m (inl (e, long)) = ap (λ (x : Making). mark_in format x body) e
+none_in false shelf n format body m (inr (e, long)) = ap (λ (x : Making). mark_in format x body) e
+
+still : (fed : Bool) (shelf n : ℕ) (notes : FileNotes) (m : Making) → IsBefore fed shelf n m → marks_in notes ≡ [] → IsFileOf notes m
+still true shelf n notes m (e, long) none = subst (IsFileOf notes) (sym e) none
+still false shelf n notes m (inl (e, long)) none = subst (IsFileOf notes) (sym e) none
+still false shelf n notes m (inr (e, long)) none = subst (IsFileOf notes) (sym e) none
+
+-- the record of the first setup, where it begins a book of this shelf
+pub first_noted : (format shelf place : ℕ) (body : List ℕ) (number : ℕ) (named : List (List ℕ × List ℕ)) (fed : Bool) (seen : InOrder (Unit {0})) (old new : FileNotes) (f : Found) → read_record_in format body ≡ Some (begins number named)
+    → Begins shelf place number named f → NotesFirst named (length body) new f → (m : Making) → IsNothing shelf (place + 1) fed seen m → NotesWith format shelf place body old new f m
+first_noted format shelf place body number named fed seen old new (found.Made b library) read starts note m none = λ here.
     let scripts = (library_of library).setup in
     let its = note scripts starts.1.read in
-    let makes : with_body_at format setup_of_texts shelf place body m ≡ begun (began shelf (length body) scripts) =
-    ap (with_body_at format setup_of_texts shelf place body) none
-    ∙ (ap (first_by setup_of_texts shelf place (length body)) read ∙ first_so number starts.0 (setup_of_texts named) starts.1.read) in (
+    let makes = begins_as format shelf place body number named read fed seen m none scripts starts.0 starts.1.read in
+    let bare : marks_in old ++ mark_in format m body ≡ [] =
+    ap (λ (ts : List Bool). marks_in old ++ ts) (none_in fed shelf (place + 1) format body m none.before)
+    ∙ (append-nil (marks_in old) ∙ unmarked fed shelf (place + 1) old m none.before here) in (
       subst (IsFileOf new) (sym makes) its.0,
-      its.1 ∙ (sym (subst (IsFileOf old) none here) ∙ (sym (append-nil (marks_in old)) ∙ ap (λ (ts : List Bool). marks_in old ++ ts) (sym (ap (λ (x : Making). mark_in format x body) none)))),
+      its.1 ∙ sym bare,
     )
-  where
-    first_so : (k : ℕ) → k ≡ shelf → (o : Option (List Named)) → o ≡ Some (library_of library).setup → first_setup shelf place (length body) k o ≡ begun (began shelf (length body) (library_of library).setup)
-    first_so k same o reads = grind (arith, nat_tests, same, reads)
-first_noted format shelf place body number named old new found.Nothing read starts note m none = absurd starts
-first_noted format shelf place body number named old new (found.Damaged p) read starts note m none = tt
-first_noted format shelf place body number named old new (found.Other p) read starts note m none = tt
-first_noted format shelf place body number named old new found.Memory read starts note m none = tt
+first_noted format shelf place body number named fed seen old new found.Nothing read starts note m none = absurd starts
+first_noted format shelf place body number named fed seen old new (found.Damaged p) read starts note m none = tt
+first_noted format shelf place body number named fed seen old new (found.Other p) read starts note m none = tt
+first_noted format shelf place body number named fed seen old new found.Memory read starts note m none = tt
+
+-- a record that tells before that whether the shelf follows
+pub turned_noted : (format shelf place : ℕ) (body : List ℕ) (fed then_fed : Bool) (seen : InOrder (Unit {0})) (old new : FileNotes) (m : Making) → new ≡ old → IsNothing shelf (place + 1) fed seen m
+    → IsNothing shelf (place + 5 + length body + 1) then_fed seen (with_body_at format setup_of_texts shelf place body m)
+    → NotesWith format shelf place body old new found.Nothing m
+turned_noted format shelf place body fed then_fed seen old new m same none then_none = λ here.
+    let bare = unmarked fed shelf (place + 1) old m none.before here in
+    let as_before : marks_in new ≡ marks_in old = ap marks_in same in (
+      still then_fed shelf (place + 5 + length body + 1) new (with_body_at format setup_of_texts shelf place body m) then_none.before (as_before ∙ bare),
+      as_before ∙ (sym (append-nil (marks_in old)) ∙ ap (λ (ts : List Bool). marks_in old ++ ts) (sym (none_in fed shelf (place + 1) format body m none.before))),
+    )
 
 -- ---- the bodies that are kept behind a record
 
@@ -334,7 +398,7 @@ copied_on (Ok u) P whole h = h
 copied_on (Err e) P whole h = absurd (let no : ⊥ = cc whole in no)
 
 where_made : (f : Found) (P : Type 0) → P → WhereMade f P
-where_made found.Nothing P h = tt
+where_made found.Nothing P h = h
 where_made (found.Made b library) P h = h
 where_made (found.Damaged p) P h = tt
 where_made (found.Other p) P h = tt
@@ -346,17 +410,29 @@ anew_in format true w m body r bodies is read h = subst (λ (x : Making). IsAnew
 anew_in format false w m body r bodies is read h = subst (λ (x : Making). IsAnewIn format x body bodies) (sym is) (subst (λ (o : Option Record). IsAnewBy format w body o bodies) (sym read) h)
 
 -- that of another setup is copied
-pub renewed_anew : (format shelf place : ℕ) (body : List ℕ) (library : Library) (alone : Bool) (before : InOrder (Unit {0})) (b : kept.Book) (old new : Vec (List ℕ)) (named : List (List ℕ × List ℕ)) (f : Found)
-    → read_record_in format body ≡ Some (renews named) → KeepsAnew format body old new → (m : Making) → IsMadeAs shelf (place + 1) alone b library before m → AnewWith format body old new f m
-renewed_anew format shelf place body library alone before b old new named f read keeps m is =
+pub renewed_anew : (format shelf place : ℕ) (body : List ℕ) (library : Library) (fed alone : Bool) (before : InOrder (Unit {0})) (b : kept.Book) (old new : Vec (List ℕ)) (named : List (List ℕ × List ℕ)) (f : Found)
+    → read_record_in format body ≡ Some (renews named) → KeepsAnew format body old new → (m : Making) → IsMadeAs shelf (place + 1) fed alone b library before m → AnewWith format body old new f m
+renewed_anew format shelf place body library fed alone before b old new named f read keeps m is =
     where_made f ((bodies : List (List ℕ)) × (IsAnewIn format m body bodies × HasAnew format bodies old new))
     (body ∷ [], (anew_in format alone is.whole m body (renews named) (body ∷ []) is.is read refl, keeps))
 
--- and so is the first one
-pub first_anew : (format : ℕ) (body : List ℕ) (old new : Vec (List ℕ)) (f : Found) → KeepsAnew format body old new → (m : Making) → m ≡ nothing → AnewWith format body old new f m
-first_anew format body old new f keeps m none =
+-- and so is what stands before that
+pub first_anew : (format shelf n : ℕ) (body : List ℕ) (fed : Bool) (old new : Vec (List ℕ)) (f : Found) → KeepsAnew format body old new → (m : Making) → IsBefore fed shelf n m → AnewWith format body old new f m
+first_anew format shelf n body fed old new f keeps m none =
     where_made f ((bodies : List (List ℕ)) × (IsAnewIn format m body bodies × HasAnew format bodies old new))
-    (body ∷ [], (subst (λ (x : Making). IsAnewIn format x body (body ∷ [])) (sym none) refl, keeps))
+    (body ∷ [], (by_role fed none, keeps))
+  where
+    by_role : (t : Bool) → IsBefore t shelf n m → IsAnewIn format m body (body ∷ [])
+    by_role true (e, long) = subst (λ (x : Making). IsAnewIn format x body (body ∷ [])) (sym e) refl
+    by_role false (inl (e, long)) = subst (λ (x : Making). IsAnewIn format x body (body ∷ [])) (sym e) refl
+    by_role false (inr (e, long)) = subst (λ (x : Making). IsAnewIn format x body (body ∷ [])) (sym e) refl
+
+-- that of a record which tells that the shelf follows no longer too
+pub promoted_anew : (format shelf place : ℕ) (body : List ℕ) (library : Library) (fed alone : Bool) (before : InOrder (Unit {0})) (b : kept.Book) (old new : Vec (List ℕ)) (f : Found)
+    → read_record_in format body ≡ Some promotes → KeepsAnew format body old new → (m : Making) → IsMadeAs shelf (place + 1) fed alone b library before m → AnewWith format body old new f m
+promoted_anew format shelf place body library fed alone before b old new f read keeps m is =
+    where_made f ((bodies : List (List ℕ)) × (IsAnewIn format m body bodies × HasAnew format bodies old new))
+    (body ∷ [], (anew_in format alone is.whole m body promotes (body ∷ []) is.is read refl, keeps))
 
 -- what is told is kept as the newest format has it, but where it tells a number
 pub anew_told : (format : ℕ) (library : Library) (seen : InOrder (Unit {0})) (b : kept.Book) (r : Record) (l : Logged) (old new : Vec (List ℕ)) (x : Result (Option kept.Book) AllocError)
@@ -364,6 +440,8 @@ pub anew_told : (format : ℕ) (library : Library) (seen : InOrder (Unit {0})) (
 anew_told format library seen b r l old new (Err e) is keeps = tt
 anew_told format library seen b (begins shelf named) l old new (Ok o) is keeps = tt
 anew_told format library seen b (renews named) l old new (Ok o) is keeps = tt
+anew_told format library seen b follows l old new (Ok o) is keeps = tt
+anew_told format library seen b promotes l old new (Ok o) is keeps = tt
 anew_told format library seen b (draws number) l old new (Ok None) is keeps = tt
 anew_told format library seen b (draws number) l old new (Ok (Some d)) is keeps =
     let same : new.items ≡ old.items = subst (λ (q : Record). KeepsTold format q old new) is keeps in
@@ -390,6 +468,8 @@ pub anew_passed : (format : ℕ) (library : Library) (seen : InOrder (Unit {0}))
     → MakesAnew format library seen b r old new (Some d)
 anew_passed format library seen b d (begins shelf named) bytes old new is has = tt
 anew_passed format library seen b d (renews named) bytes old new is has = tt
+anew_passed format library seen b d follows bytes old new is has = tt
+anew_passed format library seen b d promotes bytes old new is has = tt
 anew_passed format library seen b d (draws number) bytes old new is has = absurd is
 anew_passed format library seen b d (changes c state) bytes old new is has = λ m of body. (bytes ∷ [], ((bytes, (refl, of_none m (passed_lands format library seen b c state is.1 m of))), has))
   where
@@ -398,14 +478,16 @@ anew_passed format library seen b d (changes c state) bytes old new is has = λ 
     of_none m none = subst (λ (t : Bool). IsOfLanding t (body_of (changes c (state_now format m c state))) bytes) none tt
 
 -- a later record that tells no setup, which makes a book
-pub later_anew : (format shelf place : ℕ) (body : List ℕ) (library : Library) (alone : Bool) (before : InOrder (Unit {0})) (b d : kept.Book) (old new : Vec (List ℕ)) (r : Record) → read_record_in format body ≡ Some r
-    → may_stand alone (length library.setup) r ≡ true → MakesAnew format library before b r old new (Some d) → (m : Making) → IsMadeAs shelf (place + 1) alone b library before m
+pub later_anew : (format shelf place : ℕ) (body : List ℕ) (library : Library) (fed alone : Bool) (before : InOrder (Unit {0})) (b d : kept.Book) (old new : Vec (List ℕ)) (r : Record) → read_record_in format body ≡ Some r
+    → may_stand alone (length library.setup) r ≡ true → MakesAnew format library before b r old new (Some d) → (m : Making) → IsMadeAs shelf (place + 1) fed alone b library before m
     → (bodies : List (List ℕ)) × (IsAnewIn format m body bodies × HasAnew format bodies old new)
-later_anew format shelf place body library alone before b d old new (begins s named) read stands anew m is = absurd (let no : ⊥ = cc stands in no)
-later_anew format shelf place body library alone before b d old new (changes c state) read stands anew m is =
-    let h = anew is.whole (beside_file (place + 1) is.whole.book.file, (is.book, is.tells)) body in
+later_anew format shelf place body library fed alone before b d old new (begins s named) read stands anew m is = absurd (let no : ⊥ = cc stands in no)
+later_anew format shelf place body library fed alone before b d old new (changes c state) read stands anew m is =
+    let h = anew is.whole (beside_file fed (place + 1) is.whole.book.file, (is.book, is.tells)) body in
     (h.0, (anew_in format alone is.whole m body (changes c state) h.0 is.is read h.1.0, h.1.1))
-later_anew format shelf place body library alone before b d old new (renews named) read stands anew m is = absurd (let no : ⊥ = cc stands in no)
-later_anew format shelf place body library alone before b d old new (draws number) read stands anew m is =
-    let h = anew is.whole (beside_file (place + 1) is.whole.book.file, (is.book, is.tells)) body in
+later_anew format shelf place body library fed alone before b d old new (renews named) read stands anew m is = absurd (let no : ⊥ = cc stands in no)
+later_anew format shelf place body library fed alone before b d old new follows read stands anew m is = absurd (let no : ⊥ = cc stands in no)
+later_anew format shelf place body library fed alone before b d old new promotes read stands anew m is = absurd (let no : ⊥ = cc stands in no)
+later_anew format shelf place body library fed alone before b d old new (draws number) read stands anew m is =
+    let h = anew is.whole (beside_file fed (place + 1) is.whole.book.file, (is.book, is.tells)) body in
     (h.0, (anew_in format alone is.whole m body (draws number) h.0 is.is read h.1.0, h.1.1))

@@ -8,13 +8,12 @@ use Rattle.book_redo.specs.InstanceBook.declared.in_order.InOrder.{InOrder}
 use Rattle.book_redo.specs.InstanceBook.declared.book.Book.{Book}
 use Rattle.book_redo.specs.InstanceBook.Makes.{Reopens}
 use Rattle.book_redo.specs.Redo.{counted_to, number_by}
-use Rattle.journal_records.specs.Records.{Record, begins, changes, renews, draws}
+use Rattle.journal_records.specs.Records.{Record, begins, changes, renews, draws, follows, promotes}
 use Rattle.journal_records.specs.Views.{logged_of}
 use Rattle.journal_records.specs.declared.records.Logged.{Logged}
 use Rattle.book_redo.specs.declared.renew.Renewed.TheVariants as renewed
 use Rattle.book_redo.specs.Renewing.{IsRenewed}
-use Rattle.book_recovery.specs.Reading.{seen_by, IsUnderWay, CountsOneMore, IsMadeAgain, IsMadeIn}
-use Rattle.book_recovery.proofs.Counted.{told_few}
+use Rattle.book_recovery.specs.Reading.{seen_by, IsMadeAgain, IsMadeIn}
 
 -- what is told has the number of the record
 pub number_told : (format : ℕ) (library : Library) (b : Book) (r : Record) (l : Logged) → IsRenewed format library b r (renewed.Told l) → number_by (logged_of l) ≡ number_by r
@@ -22,6 +21,8 @@ number_told format library b (begins shelf named) l told = ap (λ (q : Record). 
 number_told format library b (changes c state) l told = ap (λ (q : Record). number_by q) told.1.0
 number_told format library b (renews named) l told = ap (λ (q : Record). number_by q) told
 number_told format library b (draws number) l told = ap (λ (q : Record). number_by q) told
+number_told format library b follows l told = ap (λ (q : Record). number_by q) told
+number_told format library b promotes l told = ap (λ (q : Record). number_by q) told
 
 -- it was seen where that of the record was
 pub again_told : (format : ℕ) (library : Library) (b : Book) (seen : InOrder (Unit {0})) (r : Record) (l : Logged) (number : Option ℕ) (again : Bool)
@@ -45,9 +46,5 @@ passed_makes format library seen (changes c state) number old new told is reopen
     (renewed.Passed, (told, (told.0.0, (told.0.1, subst (λ (o : Option ℕ). IfSome o (λ n. Reopens (counted_to n) old new)) (is ∙ told.0.1) reopens))))
 passed_makes format library seen (renews named) number old new told is reopens = absurd told
 passed_makes format library seen (draws drawn) number old new told is reopens = absurd told
-
--- it opens one instance at most
-pub few_if : (format shelf : ℕ) (alone : Bool) (library : Library) (seen : InOrder (Unit {0})) (r : Record) (old : Book) (x : Result (Option Book) AllocError) → IsUnderWay shelf alone seen old library
-    → IfOk x (IsMadeIn format library seen r old) → IfOk x (CountsOneMore old)
-few_if format shelf alone library seen r old (Ok o) way made = told_few format shelf alone library seen r old o way made
-few_if format shelf alone library seen r old (Err e) way made = tt
+passed_makes format library seen follows number old new told is reopens = absurd told
+passed_makes format library seen promotes number old new told is reopens = absurd told

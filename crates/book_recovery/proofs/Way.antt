@@ -2,6 +2,7 @@ use Rattle.std.proofs.Common.{◌≡◌, ◌∙◌, ap, sym, subst, ℕ, ◌+◌
 use Rattle.script_value.specs.declared.outcome.TxName.{TxName}
 use Rattle.script_nodes.specs.Setup.{Named, Library}
 use Rattle.script_nodes.specs.Views.{library_of}
+use Rattle.script_nodes.specs.declared.library.Library as program
 use Rattle.replay_spec.specs.Book.{Change, Instance, Book, reopened}
 use Rattle.replay_spec.specs.Rules.{first_file}
 use Rattle.replay_spec.specs.Change.{logged_by}
@@ -10,7 +11,7 @@ use Rattle.replay_spec.specs.Recovery.{number_in, is_repeated, redone, of_length
 use Rattle.replay_spec.specs.Invariant.{Among, AreOrderly}
 use Rattle.replay_spec.specs.Remade.{IsOrderlyMade}
 use Rattle.replay_spec.proofs.Recovered.{made_orderly}
-use Rattle.book_redo.specs.MachineStates.Machine.{inside_of}
+use Rattle.book_redo.specs.MachineStates.Machine.{Suspended, inside_of}
 use Rattle.book_redo.specs.InstanceBook.declared.in_order.InOrder.{InOrder}
 use Rattle.book_redo.specs.InstanceBook.declared.book.Book as kept
 use Rattle.book_redo.specs.InstanceBook.Places.{given, own}
@@ -20,9 +21,15 @@ use Rattle.book_redo.specs.InstanceBook.Standing.{book_under}
 use Rattle.book_redo.specs.InstanceBook.Swept.{begun as begun_beside}
 use Rattle.book_redo.specs.Redo.{no_rules, told_of, HasToldStates, names_told, beside_with, IsRedone}
 use Rattle.book_redo.specs.InstanceBook.Makes.{Reopens}
-use Rattle.journal_records.specs.Records.{Record, begins, changes, renews, draws, body_of}
+use Rattle.journal_records.specs.Records.{Record, begins, changes, renews, draws, follows, promotes, body_of}
 use Rattle.value_bytes.specs.Laws.{AreBytes}
+use Rattle.std.specs.Global.{Vec}
+use Rattle.script_nodes.specs.declared.library.ScriptText.{ScriptText}
 use Rattle.journal_records.specs.Old.{read_record_in}
+use Rattle.journal_records.specs.Roles.{is_role}
+use Rattle.journal_records.specs.Views.{logged_of}
+use Rattle.journal_records.specs.declared.records.Logged.{Logged}
+use Rattle.journal_records.specs.declared.records.Logged.TheVariants as logged
 use Rattle.journal_records.specs.Laws.{AreRecordsExact}
 use Rattle.setup_reader.specs.Texts.{setup_of_texts}
 use Rattle.book_redo.specs.JournalSpec.Before.{state_at, Earlier, nothing_told, Made, plain}
@@ -32,14 +39,15 @@ use Rattle.book_redo.specs.JournalSpec.Whole.{AreWhole}
 use Rattle.book_redo.proofs.JournalSpec.Retaken.{retaken_orderly, passed_orderly}
 use Rattle.book_redo.specs.JournalSpec.Making.{Making, damaged, other}
 use Rattle.book_redo.specs.JournalSpec.Old.{with_body_at}
-use Rattle.book_redo.specs.JournalSpec.Owning.{IsOwnState}
+use Rattle.book_redo.specs.JournalSpec.Lengths.{state_by, told_own}
+use Rattle.book_redo.specs.JournalSpec.Owning.{IsOwnState, IsOwnRecordIn}
 use Rattle.book_redo.specs.declared.renew.Renewed.TheVariants as renewed
 use Rattle.book_recovery.specs.declared.found.Found.{Found}
 use Rattle.book_recovery.specs.declared.found.Found.TheVariants as found
 use Rattle.book_recovery.specs.Found.{HasStates}
-use Rattle.book_recovery.specs.Reading.{seen_by, made_under, IsUnderWay, SeesNumber, Sees, may_stand, IsMadeOf, IsPassed, IsMadeIn, IsOwnBehind, IsRenewed, IsFirst, IsMadeAs, IsNothing, Gives, IsKept, Renews, Begins}
+use Rattle.book_recovery.specs.Reading.{seen_by, made_under, IsUnderWay, SeesNumber, Sees, may_stand, turns, IsMadeOf, IsPassed, IsMadeIn, IsOwnBehind, IsOwnFor, IsRenewed, IsFirst, IsMadeAs, IsNothing, Gives, IsKept, Renews, Begins}
 use Rattle.book_recovery.proofs.Longer.{instances_longer, places_longer, states_longer, whole_longer}
-use Rattle.book_recovery.proofs.Made.{orderly_alike, untold, good_is, logged_is, as_it_is, tells_then, nothing_tells, renewed_made, renewed_damaged, first_made, first_other, first_damaged, IsNine}
+use Rattle.book_recovery.proofs.Made.{orderly_alike, untold, good_is, logged_is, as_it_is, tells_then, nothing_tells, renewed_made, renewed_damaged, first_made, first_other, first_damaged, IsNoBegin, IsNine}
 
 -- A book that is made goes on to be under way.
 
@@ -49,7 +57,7 @@ beside_alike : (library : Library) (x : Beside) (b : kept.Book) (seen : List ℕ
 beside_alike library x b seen none h = record {
   instances = h.instances;
   counted = h.counted;
-  again = ap (λ (y : Book). record y { length = 0; file = first_file 0 []; down = None }) h.again;
+  again = ap (λ (y : Book). record y { length = 0; file = first_file 0 []; down = None; follows = false }) h.again;
 }
 
 -- the names with which a record lands
@@ -147,6 +155,8 @@ later_way format shelf library alone before after old new (changes c state) way 
     passed_way shelf library alone before after old new c state way made sees placed
 later_way format shelf library alone before after old new (changes c state) way stands (renewed.Misread, (outside, made)) sees placed = absurd (let not : ⊥ = cc in not)
 later_way format shelf library alone before after old new (renews named) way stands redo sees placed = absurd (let not : ⊥ = cc in not)
+later_way format shelf library alone before after old new follows way stands redo sees placed = absurd (let not : ⊥ = cc in not)
+later_way format shelf library alone before after old new promotes way stands redo sees placed = absurd (let not : ⊥ = cc in not)
 later_way format shelf library alone before after old new (draws number) way stands (x, (alike, made)) sees placed =
     drawn_way shelf library alone before after old new number way stands (as_it_is library before old (Some new) (draws number) x alike made).1 sees placed
 
@@ -164,8 +174,43 @@ later_owns format library before old new (changes c state) (renewed.Passed, (pas
 later_owns format library before old new (changes c state) (renewed.Misread, (outside, made)) left states = absurd (let not : ⊥ = cc in not)
 later_owns format library before old new (renews named) (x, (alike, made)) left states =
     (as_it_is library before old (Some new) (renews named) x alike made).1.states (own tt) library.all states
+later_owns format library before old new follows (x, (alike, made)) left states =
+    (as_it_is library before old (Some new) follows x alike made).1.states (own tt) library.all states
+later_owns format library before old new promotes (x, (alike, made)) left states =
+    (as_it_is library before old (Some new) promotes x alike made).1.states (own tt) library.all states
 later_owns format library before old new (draws number) (x, (alike, made)) left states =
     (as_it_is library before old (Some new) (draws number) x alike made).1.states (own tt) library.all states
+
+-- in format 1 the state that is told of a page is the one that its script leaves
+own_by : (b : Book) (c : Change) (o : Option Suspended) → state_by b c ≡ o → IsOwnState b c (told_own o)
+own_by b c None is = tt
+own_by b c (Some d) is = is
+
+own_record : (m : Made) (o : Option Record) → IsOwnRecordIn 1 m o
+own_record m None = tt
+own_record m (Some (begins s named)) = tt
+own_record m (Some (changes c state)) = own_by m.book c (state_by m.book c) refl
+own_record m (Some (renews named)) = tt
+own_record m (Some (draws number)) = tt
+own_record m (Some follows) = tt
+own_record m (Some promotes) = tt
+
+pub own_in_first : (format shelf : ℕ) (alone : Bool) (seen : InOrder (Unit {0})) (b : kept.Book) (rust : program.Library) (body : List ℕ) → format ≡ 1 → IsUnderWay shelf alone seen b (library_of rust)
+    → IsOwnFor format seen (found.Made b rust) body
+own_in_first format shelf alone seen b rust body one way =
+    let m : Made = record { book = book_under (library_of rust) b; earlier = way.tells.0 } in
+    subst (λ (f : ℕ). IsOwnFor f seen (found.Made b rust) body) (sym one) (way.tells.0, (way.tells.1, own_record m (read_record_in 1 body)))
+
+-- behind a record that changes nothing of it
+pub way_behind : (shelf : ℕ) (alone : Bool) (seen : InOrder (Unit {0})) (b : kept.Book) (library : Library) → IsUnderWay shelf alone seen b library → IsUnderWay shelf false seen b library
+way_behind shelf alone seen b library way = record {
+  placed = way.placed;
+  shelf_is = way.shelf_is;
+  orderly = way.orderly;
+  tells = way.tells;
+  scripts = way.scripts;
+  fresh = λ yes. absurd (let no : ⊥ = cc in no);
+}
 
 -- with another setup
 texts_again : (named : List (List ℕ × List ℕ)) (scripts : List Named) → ReadsAsTold setup_of_texts → setup_of_texts named ≡ Some scripts → IsRead setup_of_texts scripts
@@ -229,17 +274,17 @@ first_way shelf library seen b named law first none =
 
 -- ---- what was found
 
-pub renewed_gives : (format : ℕ) (shelf place : ℕ) (body : List ℕ) (library : Library) (alone : Bool) (seen : InOrder (Unit {0})) (b : kept.Book) (named : List (List ℕ × List ℕ)) (f : Found)
+pub renewed_gives : (format : ℕ) (shelf place : ℕ) (body : List ℕ) (library : Library) (fed alone : Bool) (seen : InOrder (Unit {0})) (b : kept.Book) (named : List (List ℕ × List ℕ)) (f : Found)
     → read_record_in format body ≡ Some (renews named) → HasPlaces library.all b → Renews place b library named f
-    → (m : Making) → IsMadeAs shelf (place + 1) alone b library seen m → Gives shelf (place + 5 + length body + 1) false f seen (with_body_at format setup_of_texts shelf place body m)
-renewed_gives format shelf place body library alone seen b named found.Nothing reads placed h m is = absurd h
-renewed_gives format shelf place body library alone seen b named (found.Made c next) reads placed h m is =
-    subst (λ (x : kept.Book). IsMadeAs shelf (place + 5 + length body + 1) false x (library_of next) seen (with_body_at format setup_of_texts shelf place body m)) (sym h.0)
-    (renewed_made format shelf place body library alone seen b m is named (library_of next) reads placed h.1)
-renewed_gives format shelf place body library alone seen b named (found.Damaged p) reads placed h m is =
-    renewed_damaged format shelf place body library alone seen b m is named reads h.1 ∙ ap damaged (sym h.0)
-renewed_gives format shelf place body library alone seen b named (found.Other p) reads placed h m is = absurd h
-renewed_gives format shelf place body library alone seen b named found.Memory reads placed h m is = tt
+    → (m : Making) → IsMadeAs shelf (place + 1) fed alone b library seen m → Gives shelf (place + 5 + length body + 1) fed false f seen (with_body_at format setup_of_texts shelf place body m)
+renewed_gives format shelf place body library fed alone seen b named found.Nothing reads placed h m is = absurd h
+renewed_gives format shelf place body library fed alone seen b named (found.Made c next) reads placed h m is =
+    subst (λ (x : kept.Book). IsMadeAs shelf (place + 5 + length body + 1) fed false x (library_of next) seen (with_body_at format setup_of_texts shelf place body m)) (sym h.0)
+    (renewed_made format shelf place body library fed alone seen b m is named (library_of next) reads placed h.1)
+renewed_gives format shelf place body library fed alone seen b named (found.Damaged p) reads placed h m is =
+    renewed_damaged format shelf place body library fed alone seen b m is named reads h.1 ∙ ap damaged (sym h.0)
+renewed_gives format shelf place body library fed alone seen b named (found.Other p) reads placed h m is = absurd h
+renewed_gives format shelf place body library fed alone seen b named found.Memory reads placed h m is = tt
 
 pub renewed_kept : (shelf place : ℕ) (library : Library) (alone : Bool) (seen : InOrder (Unit {0})) (b : kept.Book) (named : List (List ℕ × List ℕ)) (f : Found) → ReadsAsTold setup_of_texts
     → IsUnderWay shelf alone seen b library → Renews place b library named f → IsKept shelf false seen f
@@ -258,14 +303,14 @@ renewed_states place library b named (found.Damaged p) h states = tt
 renewed_states place library b named (found.Other p) h states = tt
 renewed_states place library b named found.Memory h states = tt
 
-pub first_gives : (format : ℕ) (shelf place : ℕ) (body : List ℕ) (number : ℕ) (named : List (List ℕ × List ℕ)) (seen : InOrder (Unit {0})) (f : Found) → read_record_in format body ≡ Some (begins number named)
+pub first_gives : (format : ℕ) (shelf place : ℕ) (body : List ℕ) (number : ℕ) (named : List (List ℕ × List ℕ)) (fed : Bool) (seen : InOrder (Unit {0})) (f : Found) → read_record_in format body ≡ Some (begins number named)
     → Begins shelf place number named f
-    → (m : Making) → IsNothing (place + 1) seen m → Gives shelf (place + 5 + length body + 1) true f seen (with_body_at format setup_of_texts shelf place body m)
-first_gives format shelf place body number named seen found.Nothing reads h m is = absurd h
-first_gives format shelf place body number named seen (found.Made b library) reads h m is = first_made format shelf place body number named reads seen m is b (library_of library) h.0 h.1
-first_gives format shelf place body number named seen (found.Damaged p) reads h m is = first_damaged format shelf place body number named reads seen m is h.1 ∙ ap damaged (sym h.0)
-first_gives format shelf place body number named seen (found.Other p) reads h m is = first_other format shelf place body number named reads seen m is h.1.0 h.1.1.0 h.1.1.1 ∙ ap other (sym h.0)
-first_gives format shelf place body number named seen found.Memory reads h m is = tt
+    → (m : Making) → IsNothing shelf (place + 1) fed seen m → Gives shelf (place + 5 + length body + 1) fed true f seen (with_body_at format setup_of_texts shelf place body m)
+first_gives format shelf place body number named fed seen found.Nothing reads h m is = absurd h
+first_gives format shelf place body number named fed seen (found.Made b library) reads h m is = first_made format shelf place body number named reads fed seen m is b (library_of library) h.0 h.1
+first_gives format shelf place body number named fed seen (found.Damaged p) reads h m is = first_damaged format shelf place body number named reads fed seen m is h.1 ∙ ap damaged (sym h.0)
+first_gives format shelf place body number named fed seen (found.Other p) reads h m is = first_other format shelf place body number named reads fed seen m is h.1.0 h.1.1.0 h.1.1.1 ∙ ap other (sym h.0)
+first_gives format shelf place body number named fed seen found.Memory reads h m is = tt
 
 pub first_kept : (shelf place number : ℕ) (named : List (List ℕ × List ℕ)) (seen : InOrder (Unit {0})) (f : Found) → ReadsAsTold setup_of_texts → Begins shelf place number named f → seen_by seen ≡ []
     → IsKept shelf true seen f
@@ -282,11 +327,13 @@ first_states shelf place number named (found.Damaged p) h = tt
 first_states shelf place number named (found.Other p) h = tt
 first_states shelf place number named found.Memory h = tt
 
--- the body of a record that tells a number is 9 bytes long
+-- the body of a record that tells a number is 9 bytes long, and one that tells whether the shelf follows has one
 is_nine : (body : List ℕ) (r : Record) → body ≡ body_of r → IsNine body r
 is_nine body (begins s named) is = tt
 is_nine body (changes c state) is = tt
 is_nine body (renews named) is = tt
+is_nine body follows is = ap (λ (bs : List ℕ). length bs) is
+is_nine body promotes is = ap (λ (bs : List ℕ). length bs) is
 is_nine body (draws number) is = ap (λ (bs : List ℕ). length bs) is ∙ nine number
   where
     nine : (n : ℕ) → length (body_of (draws n)) ≡ 9
@@ -297,4 +344,34 @@ pub is_nine_in : AreRecordsExact → (format : ℕ) (body : List ℕ) (r : Recor
 is_nine_in x format body (begins s named) small read = tt
 is_nine_in x format body (changes c state) small read = tt
 is_nine_in x format body (renews named) small read = tt
+is_nine_in x format body follows small read = is_nine body follows (x.alike format body follows small read tt).spelled
+is_nine_in x format body promotes small read = is_nine body promotes (x.alike format body promotes small read tt).spelled
 is_nine_in x format body (draws number) small read = is_nine body (draws number) (x.alike format body (draws number) small read tt).spelled
+
+-- a record that tells whether the shelf follows has a body of its kind
+pub turned_role : AreRecordsExact → (format : ℕ) (body : List ℕ) (fed : Bool) (place : ℕ) (r : Record) → AreBytes body → read_record_in format body ≡ Some r → turns fed place r ≡ true → is_role body ≡ true
+turned_role x format body fed place follows small read on = ap is_role (x.alike format body follows small read tt).spelled
+turned_role x format body fed place promotes small read on = ap is_role (x.alike format body promotes small read tt).spelled
+turned_role x format body true place (begins s named) small read on = absurd (let never : ⊥ = cc on in never)
+turned_role x format body false place (begins s named) small read on = absurd (let never : ⊥ = cc on in never)
+turned_role x format body true place (changes c state) small read on = absurd (let never : ⊥ = cc on in never)
+turned_role x format body false place (changes c state) small read on = absurd (let never : ⊥ = cc on in never)
+turned_role x format body true place (renews named) small read on = absurd (let never : ⊥ = cc on in never)
+turned_role x format body false place (renews named) small read on = absurd (let never : ⊥ = cc on in never)
+turned_role x format body true place (draws number) small read on = absurd (let never : ⊥ = cc on in never)
+turned_role x format body false place (draws number) small read on = absurd (let never : ⊥ = cc on in never)
+
+pub promoted_role : AreRecordsExact → (format : ℕ) (body : List ℕ) → AreBytes body → read_record_in format body ≡ Some promotes → is_role body ≡ true
+promoted_role x format body small read = ap is_role (x.alike format body promotes small read tt).spelled
+
+-- what is no first setup
+pub not_begin : (l : Logged) → ((s : ℕ) (scripts : Vec ScriptText) → l ≡ logged.Begin s scripts → ⊥) → IsNoBegin (logged_of l)
+not_begin (logged.Begin s scripts) apart = absurd (apart s scripts refl)
+not_begin (logged.Page p state) apart = tt
+not_begin (logged.Ended e) apart = tt
+not_begin (logged.Finish f) apart = tt
+not_begin (logged.Sweep clock) apart = tt
+not_begin (logged.Texts scripts) apart = tt
+not_begin (logged.Drawn number) apart = tt
+not_begin logged.Follow apart = tt
+not_begin logged.Promoted apart = tt

@@ -3,10 +3,10 @@ use Rattle.std.specs.Prelude.{◌≡◌, ℕ, ◌+◌, ◌==◌, Bool, true, fal
 use Rattle.std.specs.Global.{Vec}
 use Rattle.setup_reader.specs.Texts.{setup_of_texts}
 use Rattle.page_journal.specs.Records.{newest}
-use Rattle.journal_records.specs.Records.{Record, begins, changes, renews, draws, body_of}
+use Rattle.journal_records.specs.Records.{Record, begins, changes, renews, draws, follows, promotes, body_of}
 use Rattle.journal_records.specs.Old.{read_record_in}
 use Rattle.book_redo.specs.JournalSpec.Before.{Made}
-use Rattle.book_redo.specs.JournalSpec.Making.{Texts, Making, nothing, begun, made}
+use Rattle.book_redo.specs.JournalSpec.Making.{Texts, Making, nothing, waits, waited, begun, made}
 use Rattle.book_redo.specs.JournalSpec.Old.{told_of, landing_of, with_body_at}
 use Rattle.book_redo.specs.JournalSpec.Copying.{state_now}
 use Rattle.book_recovery.specs.declared.found.Found.{Found}
@@ -17,6 +17,8 @@ use Rattle.book_recovery.specs.Noting.{WhereMade}
 abbrev pub IsBodyAnew : Record → List ℕ → Type 0
 IsBodyAnew (begins shelf named) body = ⊤
 IsBodyAnew (renews named) body = ⊤
+IsBodyAnew follows body = ⊤
+IsBodyAnew promotes body = ⊤
 IsBodyAnew r body = body ≡ body_of r
 
 -- where the file that is read is of an older format, these bodies stand after those that were kept before, and else none is kept
@@ -43,11 +45,15 @@ abbrev pub IsAnewBy : (format : ℕ) → Made → (body : List ℕ) → Option R
 IsAnewBy format m body (Some (changes c state)) anew =
     (now : List ℕ) × ((anew ≡ now ∷ []) × IsOfLanding (is_some (landing_of format m c (told_of format m c state))) (body_of (changes c (state_now format m c state))) now)
 IsAnewBy format m body (Some (renews named)) anew = anew ≡ body ∷ []
+IsAnewBy format m body (Some promotes) anew = anew ≡ body ∷ []
 IsAnewBy format m body _ anew = anew ≡ []
 
--- so they are of a body, of which the first one is copied
+-- These are the bodies that the newest format has of one more body of a file. That of the first setup is copied, and so is what
+-- stands before it.
 abbrev pub IsAnewIn : (format : ℕ) → Making → (body : List ℕ) → List (List ℕ) → Type 0
 IsAnewIn format nothing body anew = anew ≡ body ∷ []
+IsAnewIn format waited body anew = anew ≡ body ∷ []
+IsAnewIn format (waits shelf) body anew = anew ≡ body ∷ []
 IsAnewIn format (begun m) body anew = IsAnewBy format m body (read_record_in format body) anew
 IsAnewIn format (made m) body anew = IsAnewBy format m body (read_record_in format body) anew
 IsAnewIn format _ body anew = ⊤

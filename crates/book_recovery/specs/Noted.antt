@@ -1,5 +1,5 @@
 -- What one record more that was read adds to what is known of a file.
-use Rattle.std.specs.Prelude.{◌≡◌, ℕ, ◌+◌, Bool, true, List, [], ◌∷◌, ◌++◌, Option, Some, None, is_some, ⊤}
+use Rattle.std.specs.Prelude.{◌≡◌, ℕ, ◌+◌, Bool, true, false, List, [], ◌∷◌, ◌++◌, Option, Some, None, is_some, ⊤}
 use Rattle.script_nodes.specs.Setup.{Named, Library}
 use Rattle.book_redo.specs.InstanceBook.declared.in_order.InOrder.{InOrder}
 use Rattle.book_redo.specs.InstanceBook.declared.book.Book.{Book}
@@ -9,11 +9,13 @@ use Rattle.replay_spec.specs.Book.{renewed}
 use Rattle.replay_spec.specs.Change.{with_line}
 use Rattle.journal_records.specs.Records.{Record, changes, draws}
 use Rattle.journal_records.specs.Views.{logged_of}
-use Rattle.journal_records.specs.declared.records.Logged.{Logged}
 use Rattle.book_redo.specs.JournalSpec.Before.{Made}
 use Rattle.book_redo.specs.JournalSpec.Old.{told_of, landing_of}
 use Rattle.file_notes.specs.declared.notes.FileNotes.{FileNotes}
-use Rattle.file_notes.specs.Files.{file_in, marks_in, with_read, with_drawn}
+use Rattle.file_notes.specs.Files.{file_in, marks_in, with_read, with_mark, with_drawn}
+use Rattle.file_notes.specs.Notes.{note_read}
+use Rattle.book_recovery.specs.declared.to_note.Noting.{Noting}
+use Rattle.book_recovery.specs.declared.to_note.Noting.TheVariants.{Draws, Passes, Lands}
 use Rattle.setup_reader.specs.Texts.{setup_of_texts}
 use Rattle.book_recovery.specs.Reading.{TellsOf}
 use Rattle.book_recovery.specs.declared.found.Found.{Found}
@@ -45,9 +47,26 @@ TakesIfLands library b (changes c state) again n old new =
 TakesIfLands library b (draws number) again n old new = (file_in new ≡ with_drawn number (file_in old)) × (marks_in new ≡ marks_in old)
 TakesIfLands library b r again n old new = ⊤
 
--- so a reader notes what is told
-abbrev pub NotesLanding : Library → Book → Logged → (again : Bool) → (length : ℕ) → (old new : Reader) → Type 0
-NotesLanding library b l again n old new = TakesIfLands library b (logged_of l) again n old.notes new.notes
+-- This is noted of a record behind this book as soon as it is taken, of a number that was seen or was not, whose body is so long: that it
+-- tells a number, that it is passed over, or that it lands.
+abbrev pub IsNotingOf : Library → Book → Record → (again : Bool) → (length : ℕ) → Noting → Type 0
+IsNotingOf library b r again n (Draws number) = drawn_by r ≡ Some number
+IsNotingOf library b r again n (Passes long) = (drawn_by r ≡ None) × (TellsLanding library b r again false × (long ≡ n))
+IsNotingOf library b r again n (Lands logged note long) =
+    (drawn_by r ≡ None) × (TellsLanding library b r again true × ((logged_of logged.value ≡ r) × (long ≡ n)))
+
+-- the note of a record that lands is its own
+abbrev pub HasItsNote : Noting → Type 0
+HasItsNote (Draws number) = ⊤
+HasItsNote (Passes long) = ⊤
+HasItsNote (Lands logged note long) = note ≡ note_read (logged_of logged.value) long
+
+-- so much more is known of the file with it
+abbrev pub NotesBy : Noting → (old new : FileNotes) → Type 0
+NotesBy (Draws number) old new = (file_in new ≡ with_drawn number (file_in old)) × (marks_in new ≡ marks_in old)
+NotesBy (Passes long) old new = (file_in new ≡ file_in old) × (marks_in new ≡ marks_in old ++ false ∷ [])
+NotesBy (Lands logged note long) old new =
+    let r = logged_of logged.value in (file_in new ≡ with_read true r long (file_in old)) × (marks_in new ≡ marks_in old ++ with_mark true r ∷ [])
 
 -- a record of this format that was read is noted behind this book: one of a change lands in it as recovery decides, or not
 abbrev pub NotesRecord : (format : ℕ) → Library → InOrder (Unit {0}) → Book → Record → (length : ℕ) → (old new : FileNotes) → Type 0

@@ -1,9 +1,9 @@
 -- What is known of a file whose records were read.
-use Rattle.std.specs.Prelude.{◌≡◌, ℕ, ◌+◌, Bool, true, List, [], ◌∷◌, ◌++◌, length, Option, Some, is_some, ⊤}
-use Rattle.journal_records.specs.Records.{Record, changes, renews}
+use Rattle.std.specs.Prelude.{◌≡◌, ℕ, ◌+◌, Bool, true, false, List, [], ◌∷◌, ◌++◌, length, Option, Some, is_some, ⊤}
+use Rattle.journal_records.specs.Records.{Record, changes, renews, promotes}
 use Rattle.journal_records.specs.Old.{read_record_in}
 use Rattle.book_redo.specs.JournalSpec.Before.{Made}
-use Rattle.book_redo.specs.JournalSpec.Making.{Texts, Making, nothing, begun, made}
+use Rattle.book_redo.specs.JournalSpec.Making.{Texts, Making, nothing, waits, waited, begun, made}
 use Rattle.book_redo.specs.JournalSpec.Old.{book_of_format, told_of, landing_of, with_body_at}
 use Rattle.file_notes.specs.declared.notes.FileNotes.{FileNotes}
 use Rattle.file_notes.specs.Files.{file_in, marks_in}
@@ -17,6 +17,7 @@ use Rattle.book_recovery.specs.declared.found.Found.TheVariants as found
 abbrev pub mark_by : (format : ℕ) → Made → Option Record → List Bool
 mark_by format m (Some (changes c state)) = is_some (landing_of format m c (told_of format m c state)) ∷ []
 mark_by format m (Some (renews named)) = true ∷ []
+mark_by format m (Some promotes) = false ∷ []
 mark_by format m _ = []
 
 -- whether recovery takes the record of one more body of a file in this format, if it is one that has a note
@@ -31,16 +32,19 @@ marks_of format texts shelf place [] x = []
 marks_of format texts shelf place (body ∷ bodies) x =
     mark_in format x body ++ marks_of format texts shelf (place + 5 + length body) bodies (with_body_at format texts shelf place body x)
 
--- the file that is known of is that of the book which records make, if they make one; before the first record nothing is known
+-- the file that is known of is that of the book which records make, if they make one; before the record of a setup nothing is known
 abbrev pub IsFileOf : FileNotes → Making → Type 0
 IsFileOf notes nothing = marks_in notes ≡ []
+IsFileOf notes waited = marks_in notes ≡ []
+IsFileOf notes (waits shelf) = marks_in notes ≡ []
 IsFileOf notes (begun m) = file_in notes ≡ m.book.file
 IsFileOf notes (made m) = file_in notes ≡ m.book.file
 IsFileOf notes _ = ⊤
 
--- whatever was found, this holds where it is a book
+-- whatever was found, this holds where it is a book, or where there is no record of a setup yet
 abbrev pub WhereMade : Found → Type 0 → Type 0
 WhereMade (found.Made b library) holds = holds
+WhereMade found.Nothing holds = holds
 WhereMade _ holds = ⊤
 
 -- where the file that was known of is that of the book which records make, so it is with one body more, and its mark is behind the others

@@ -1,4 +1,4 @@
-use book_redo::Book;
+use book_redo::{Book, InOrder};
 use file_notes::FileNotes;
 use script_nodes::Library;
 use script_value::Bytes;
@@ -6,7 +6,7 @@ use script_value::Bytes;
 /// What the records of a journal make of a shelf.
 #[derive(Drop)]
 pub enum Found {
-    /// There is no record.
+    /// There is no record of a setup: none at all, or those alone that tell whether the shelf follows another one's journal.
     Nothing,
     /// They make this book, as after a crash, under these scripts.
     Made { book: Book, library: Library },
@@ -26,4 +26,10 @@ pub struct ReadBook {
     /// Where the file is of an older format, the bodies that the newest has of its records: of the first one, and of those that have a
     /// note. One that is passed over has none.
     pub anew: Vec<Bytes>,
+    /// Whether the shelf follows another one's journal.
+    pub follows: bool,
+    /// The numbers that records told of.
+    pub seen: InOrder<()>,
+    /// Whether no record stands behind that of the first setup.
+    pub alone: bool,
 }

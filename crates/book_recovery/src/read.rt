@@ -1,13 +1,15 @@
-ghost use Rattle.std.specs.Prelude.{◌≡◌, ◌<◌, IsTrue, IfOk, OnErr};
+ghost use Rattle.std.specs.Prelude.{◌≡◌, ◌<◌, IsTrue, IfOk, OnOk, OnErr};
 ghost use Rattle.page_journal.specs.Scanned.{IsQuiet};
 ghost use Rattle.page_journal.specs.Settled.{HasFailed, IsSettled, IsSound, view_of, bodies_in, length_of, is_broken};
 ghost use Rattle.setup_reader.specs.Texts.{setup_of_texts};
 ghost use Rattle.book_redo.specs.JournalSpec.Old.{book_of_format};
 ghost use Rattle.book_redo.specs.JournalSpec.Owning.{AreOwnIn};
+ghost use Rattle.book_redo.specs.JournalSpec.Reading.{AreAllBytes};
 ghost use Rattle.file_notes.specs.Files.{IsNoted};
 ghost use Rattle.book_recovery.specs.Found.{Finds, IsFoundInOrder, HasStates};
 ghost use Rattle.book_recovery.specs.Anew.{KeepsFileOf};
 ghost use Rattle.book_recovery.specs.Noting.{KnowsFileOf};
+ghost use Rattle.book_recovery.specs.Reading.{Gives, IsKept, ReadsSome};
 
 use crate::found::ReadBook;
 use crate::sound::SoundReader;
@@ -17,7 +19,8 @@ use page_journal::{DiskFault, Journal};
 use std::alloc::Global;
 use web_disk::Disk;
 
-/// Makes the book that the records of a journal tell of, for a shelf of this number, and the library of the scripts that they told.
+/// Makes the book that the records of a journal tell of, for a shelf of this number, and the library of the scripts that they told; and tells
+/// whether the shelf follows another one's journal.
 ///
 /// It reads each record once. From format 2 on it runs no script: the record of a page tells the page's state, by itself or as what
 /// differs from the state of the page before. In format 1 each page's script is run again. Nothing is written.
@@ -31,8 +34,15 @@ pub fn read_book<D: Disk>(
     requires known { 0 < journal.old.format }
     requires settled { IsTrue D.tells → IsSettled D.view journal.old }
     ensures found { IsTrue D.tells → IfOk result (λ read.
-        Finds shelf (length_of journal.old) read.found
+        Finds shelf (length_of journal.old) read.follows read.found
         (book_of_format journal.old.format setup_of_texts shelf (bodies_in D.view journal.old))) }
+    // One record more can be taken.
+    ensures gives { IsTrue D.tells → IfOk result (λ read.
+        Gives shelf (length_of journal.old) read.follows read.alone read.found read.seen
+        (book_of_format journal.old.format setup_of_texts shelf (bodies_in D.view journal.old))) }
+    ensures kept { IfOk result (λ read. IsKept shelf read.alone read.seen read.found) }
+    ensures handed { IfOk result (ReadsSome journal.old.format shelf) }
+    ensures bytes { IsTrue D.tells → OnOk result (AreAllBytes (bodies_in D.view journal.old)) }
     // Also of a disk that does not tell its bytes.
     ensures in_order { IfOk result (λ read. IsFoundInOrder shelf read.found) }
     ensures noted { IfOk result (λ read. IsNoted read.notes) }

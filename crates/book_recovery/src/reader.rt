@@ -1,20 +1,25 @@
-ghost use Rattle.std.specs.Prelude.{◌≡◌, ◌<◌, ◌≤◌, ◌+◌, ◌*◌, ◌^◌, [], length, false, true, map, None, IfOk, IfSome, OnOk};
+ghost use Rattle.std.specs.Prelude.{ℕ, ◌≡◌, ◌<◌, ◌≤◌, ◌+◌, ◌*◌, ◌^◌, [], length, not, false, true, map, None, IfOk, IfSome, OnOk};
 ghost use Rattle.script_nodes.specs.Views.{library_of};
 ghost use Rattle.replay_spec.specs.Recovery.{is_repeated};
-ghost use Rattle.book_redo.specs.InstanceBook.Makes.{count_of, HasPlaces, KeepsPlaces, HasItsStates, HasSomeStates, Reopens};
-ghost use Rattle.book_redo.specs.Redo.{counted_to, IsFree, number_by};
+ghost use Rattle.book_redo.specs.InstanceBook.Makes.{count_of, HasPlaces, KeepsPlaces, HasItsStates, Reopens};
+ghost use Rattle.book_redo.specs.InstanceBook.Lists.{HasRoom as HasRoomToSee};
+ghost use Rattle.book_redo.specs.InstanceBook.declared.book.Book.{Book as KeptBook};
+ghost use Rattle.book_redo.specs.Redo.{counted_to, number_by, IsUnchanged, UnlessTaken};
 ghost use Rattle.journal_records.specs.Records.{IsInGrammar};
+ghost use Rattle.journal_records.specs.Roles.{is_role};
 ghost use Rattle.journal_records.specs.Views.{logged_of, script_of};
-ghost use Rattle.file_notes.specs.Files.{IsNoted};
+ghost use Rattle.file_notes.specs.Files.{IsNoted, HasRoom as HasRoomToNote};
 ghost use Rattle.book_recovery.specs.Found.{HasStates};
 ghost use Rattle.book_recovery.specs.Anew.{IsBodyAnew, KeepsAnew, KeepsTold};
-ghost use Rattle.book_recovery.specs.Noted.{drawn_by, NotesLanding, NotesRedone, NotesSetup, NotesFirst, KeepsRedone};
-ghost use Rattle.book_recovery.specs.Reading.{may_stand, HasFew, CountsOneMore, SeesNumber, Sees, IsUnderWay, IsMadeAgain, IsMadeIn, GivesWith, KeepsOwnWith, IsKept, IsSoundReader, IsSameReader, IsTaken, NotesTaken, AnewTaken, seen_by, with_found, Renews, Begins};
+ghost use Rattle.book_recovery.specs.declared.to_note.Noting.TheVariants as noting;
+ghost use Rattle.book_recovery.specs.Noted.{NotesBy, NotesRedone, NotesSetup, NotesFirst, KeepsRedone};
+ghost use Rattle.book_recovery.specs.Reading.{may_stand, turns, HasFew, CountsOneMore, SeesNumber, Sees, IsUnderWay, IsMadeIn, book_as, found_as, WhereTaken, UnlessMade, IsBegun, TakesNothing, GivesWith, KeepsOwnWith, IsKept, IsSoundReader, IsSameFile, IsSameReader, IsTaken, NotesTaken, AnewTaken, seen_by, with_found, Renews, Begins};
 ghost use Rattle.book_recovery.specs.declared.found.Found.TheVariants as found;
 
 use crate::found::Found;
 use crate::setup_scripts::told_setup;
-use book_redo::{Book, InOrder, Numbered, Renewed, as_newest, lands, pass, redo};
+use crate::to_note::{drawn_of, to_note};
+use book_redo::{Book, InOrder, Numbered, Renewed, as_newest, pass, redo};
 use file_notes::FileNotes;
 use journal_records::{Logged, Origin, Recorded, decode, encode, records_are_exact};
 use page_journal::NEWEST_FORMAT;
@@ -22,6 +27,10 @@ use script_nodes::{Library, ScriptText};
 use script_value::Bytes;
 use std::alloc::{AllocError, Global};
 use std::mem;
+use std::snapshot::Snapshot;
+
+// Where the gate of the first record is.
+const FIRST: u64 = 8;
 
 /// Makes the book of a shelf from the records of its journal, one by one.
 #[derive(Drop)]
@@ -32,7 +41,9 @@ pub struct Reader {
     pub format: u8,
     /// The numbers that records told of.
     pub seen: InOrder<()>,
-    /// Whether no record was read behind the first one.
+    /// Whether the shelf follows another one's journal.
+    pub follows: bool,
+    /// Whether no record was read behind that of the first setup.
     pub alone: bool,
     /// What was made so far.
     pub found: Found,
@@ -57,21 +68,8 @@ fn number_of(logged: &Logged) -> Option<u64>
         Logged::Sweep { .. } => None,
         Logged::Texts { .. } => None,
         Logged::Drawn { .. } => None,
-    }
-}
-
-// The number that a record tells, if it is one of a number.
-fn drawn_of(logged: &Logged) -> Option<u64>
-    ensures { result ≡ drawn_by (logged_of logged.now) }
-{
-    match logged {
-        Logged::Begin { .. } => None,
-        Logged::Page { .. } => None,
-        Logged::Ended(_) => None,
-        Logged::Finish(_) => None,
-        Logged::Sweep { .. } => None,
-        Logged::Texts { .. } => None,
-        Logged::Drawn { number } => Some(*number),
+        Logged::Follow => None,
+        Logged::Promoted => None,
     }
 }
 
@@ -91,13 +89,15 @@ fn body_anew(alloc: Global, logged: &Logged) -> Result<Bytes, AllocError>
         Logged::Drawn { number } => Recorded::Drawn { number: *number },
         Logged::Begin { .. } => return Ok(Bytes::new(Vec::new(alloc))),
         Logged::Texts { .. } => return Ok(Bytes::new(Vec::new(alloc))),
+        Logged::Follow => return Ok(Bytes::new(Vec::new(alloc))),
+        Logged::Promoted => return Ok(Bytes::new(Vec::new(alloc))),
     };
     encode(alloc, &line)
 }
 
-// Whether a record that tells no setup may stand behind others: a start is of a script of the present setup, and a number stands
-// directly behind the first record.
-fn may_stand(alone: bool, present: usize, logged: &Logged) -> bool
+/// Whether a record that tells no setup may stand behind others: a start is of a script of the present setup, and a number stands
+/// directly behind that of the first setup.
+pub fn may_stand(alone: bool, present: usize, logged: &Logged) -> bool
     ensures { result ≡ may_stand alone present (logged_of logged.now) }
 {
     match logged {
@@ -111,71 +111,70 @@ fn may_stand(alone: bool, present: usize, logged: &Logged) -> bool
         Logged::Sweep { .. } => true,
         Logged::Texts { .. } => false,
         Logged::Drawn { .. } => alone,
+        Logged::Follow => false,
+        Logged::Promoted => false,
     }
 }
 
-// The book with one record more of the newest format, of a number that was seen or was not; none where its state can't be read.
-fn made_of(
-    alloc: Global,
-    book: Book,
-    library: &Library,
-    logged: Logged,
-    again: bool,
-) -> Result<Option<Book>, AllocError>
-    requires fits { IsInGrammar (logged_of logged) }
-    requires unnumbered { number_by (logged_of logged) ≡ None → again ≡ false }
-    requires low { book.logged ≤ 2 ^ 62 }
-    requires few { count_of book + 1 < 2 ^ 32 }
-    requires placed { HasPlaces (library_of library.now).all book }
-    requires kept { HasSomeStates (library_of library.now).all book }
-    requires free { again ≡ false
-        → IsFree (library_of library.now).all (number_by (logged_of logged)) book }
-    ensures made { IfOk result
-        (IsMadeAgain (library_of library.now) (logged_of logged) again book) }
-    ensures placed { IfOk result
-        (λ found. IfSome found (HasPlaces (library_of library.now).all)) }
-{
-    let mut book = book;
-    if redo(alloc, &mut book, library, logged, again)? {
-        Ok(Some(book))
-    } else {
-        Ok(None)
-    }
-}
-
-// The book with the number of a record counted that is passed over.
-fn passed(book: Book, number: Option<u64>) -> Book
+// The number of a record that is passed over counts in the book.
+fn count(book: &mut Book, number: Option<u64>)
     requires number { IfSome number (λ n. n < 2 ^ 62) }
-    requires low { book.logged ≤ 2 ^ 62 }
-    ensures book { IfSome number (λ n. Reopens (counted_to n) book result) }
-    ensures placed { KeepsPlaces book result }
+    requires low { book.old.logged ≤ 2 ^ 62 }
+    ensures book { IfSome number (λ n. Reopens (counted_to n) book.old book.new) }
+    ensures placed { KeepsPlaces book.old book.new }
 {
-    let mut book = book;
     if let Some(number) = number {
-        pass(&mut book, number);
+        pass(book, number);
     }
-    book
+}
+
+// What is found of a book and its library with one record more, whose gate is at this place: whether it was taken.
+fn found_as(place: u64, taken: Result<bool, AllocError>, book: Book, library: Library) -> Found
+    ensures { result ≡ found_as place taken book library }
+{
+    match taken {
+        Ok(true) => Found::Made { book, library },
+        Ok(false) => Found::Damaged { place },
+        Err(_) => Found::Memory,
+    }
 }
 
 impl Reader {
-    // Whether the number of a record was seen, and it is from now on. What has no number was not.
-    fn sees(&mut self, number: Option<u64>) -> Result<bool, AllocError>
-        requires { IfSome number (λ n. n < 2 ^ 62) }
-        ensures seen { IfOk result (λ s. s ≡ is_repeated number (seen_by self.old.seen)) }
-        ensures sees { OnOk result (SeesNumber number self.old.seen self.new.seen) }
+    // Whether the number of a record was seen. What has no number was not.
+    fn has_seen(&self, number: Option<u64>) -> bool
+        ensures { result ≡ is_repeated number (seen_by self.now.seen) }
+    {
+        match number {
+            Some(number) => self.seen.has(number),
+            None => false,
+        }
+    }
+
+    // Room for one record more.
+    fn room(&mut self) -> Result<(), AllocError>
+        requires noted { IsNoted self.old.notes }
+        ensures numbers { OnOk result (HasRoomToSee self.new.seen) }
+        ensures notes { OnOk result (HasRoomToNote self.new.notes.notes) }
+        ensures noted { IsNoted self.new.notes }
+        ensures nothing { TakesNothing self.old self.new }
+        ensures anew { self.new.anew ≡ self.old.anew }
+        ensures same { IsSameReader self.old self.new }
+    {
+        self.seen.make_room()?;
+        self.notes.room()
+    }
+
+    // The number of a record is seen from now on, for which there is room. It takes no memory.
+    fn see(&mut self, number: Option<u64>)
+        requires room { HasRoomToSee self.old.seen }
+        ensures sees { SeesNumber number self.old.seen self.new.seen }
         ensures notes { self.new.notes ≡ self.old.notes }
         ensures anew { self.new.anew ≡ self.old.anew }
         ensures same { IsSameReader self.old self.new }
     {
-        let Some(number) = number else {
-            return Ok(false);
-        };
-        if self.seen.has(number) {
-            return Ok(true);
+        if let Some(number) = number {
+            self.seen.put(Numbered { number, item: () });
         }
-        self.seen.make_room()?;
-        self.seen.put(Numbered { number, item: () });
-        Ok(false)
     }
 
     // Keeps the body that the newest format has of a record, where the file is of an older one.
@@ -219,161 +218,175 @@ impl Reader {
         }
     }
 
-    // A record is noted that is told behind this book, of a number that was seen or was not.
-    fn note(
-        &mut self,
-        book: &Book,
-        library: &Library,
-        logged: &Logged,
-        again: bool,
-        length: u32,
-    ) -> Result<(), AllocError>
-        requires placed { HasPlaces (library_of library.now).all book.now }
-        requires noted { IsNoted self.old.notes }
-        ensures noted { IsNoted self.new.notes }
-        ensures note { OnOk result (NotesLanding (library_of library.now) book.now logged.now
-            again length self.old self.new) }
-        ensures seen { self.new.seen ≡ self.old.seen }
-        ensures anew { self.new.anew ≡ self.old.anew }
-        ensures same { IsSameReader self.old self.new }
-    {
-        match drawn_of(logged) {
-            Some(number) => self.notes.draw(number),
-            None => {
-                let lands = lands(self.alloc, book, library, logged, again)?;
-                self.notes.room()?;
-                self.notes.read(logged, lands, length);
-            }
-        }
-        Ok(())
-    }
-
-    // The book with one record more, whose body is so long and which is passed over where its number was seen; none where its state can't be
-    // read.
+    // What a record that tells no setup makes of the book: whether its state can be read. Where it can't be, or memory runs out, nothing
+    // is changed.
     fn redo(
         &mut self,
-        book: Book,
+        book: &mut Book,
         library: &Library,
         logged: Logged,
         length: u32,
-    ) -> Result<Option<Book>, AllocError>
+    ) -> Result<bool, AllocError>
         requires fits { IsInGrammar (logged_of logged) }
         requires kept { IsUnderWay
-            self.old.shelf self.old.alone self.old.seen book (library_of library.now) }
+            self.old.shelf self.old.alone self.old.seen book.old (library_of library.now) }
         requires known { 0 < self.old.format }
-        requires own { self.old.format ≡ 1 → HasItsStates (library_of library.now).all book }
-        requires few { count_of book + 1 < 2 ^ 32 }
+        requires own { self.old.format ≡ 1 → HasItsStates (library_of library.now).all book.old }
+        requires few { count_of book.old + 1 < 2 ^ 32 }
         requires noted { IsNoted self.old.notes }
-        ensures made { IfOk result
-            (IsMadeIn self.old.format (library_of library.now) self.old.seen (logged_of logged) book) }
-        ensures placed { IfOk result
+        ensures made { IfOk (book_as result book.new) (IsMadeIn self.old.format
+            (library_of library.now) self.old.seen (logged_of logged) book.old) }
+        ensures placed { IfOk (book_as result book.new)
             (λ found. IfSome found (HasPlaces (library_of library.now).all)) }
-        ensures count { IfOk result (CountsOneMore book) }
-        ensures sees { OnOk result (Sees (logged_of logged) self.old.seen self.new.seen) }
-        ensures notes { IfOk result (NotesRedone (library_of library.now) book (logged_of logged)
-            length self.old self.new) }
-        ensures anew { IfOk result (KeepsRedone (library_of library.now) book (logged_of logged)
-            self.old self.new) }
+        ensures count { IfOk (book_as result book.new) (CountsOneMore book.old) }
+        ensures sees { WhereTaken result (Sees (logged_of logged) self.old.seen self.new.seen) }
+        ensures notes { IfOk (book_as result book.new) (NotesRedone (library_of library.now)
+            book.old (logged_of logged) length self.old self.new) }
+        ensures anew { IfOk (book_as result book.new) (KeepsRedone (library_of library.now)
+            book.old (logged_of logged) self.old self.new) }
+        ensures book { UnlessTaken result (IsUnchanged book.old book.new) }
+        ensures nothing { UnlessTaken result (TakesNothing self.old self.new) }
         ensures noted { IsNoted self.new.notes }
         ensures same { IsSameReader self.old self.new }
     {
         let format = self.format;
         let number = number_of(&logged);
-        let seen = self.sees(number)?;
-        match as_newest(self.alloc, format, &book, library, logged)? {
+        let again = self.has_seen(number);
+        match as_newest(self.alloc, format, book, library, logged)? {
             Renewed::Told(told) => {
-                self.note(&book, library, &told, seen, length)?;
+                let noting = to_note(self.alloc, book, library, &told, again, length)?;
                 self.keep_told(&told)?;
-                made_of(self.alloc, book, library, told, seen)
+                self.room()?;
+                if !redo(self.alloc, book, library, told, again)? {
+                    return Ok(false);
+                }
+                self.see(number);
+                noting.tell(&mut self.notes);
+                Ok(true)
             }
             Renewed::Passed => {
-                self.notes.room()?;
-                self.notes.pass(length);
                 self.keep(Bytes::new(Vec::new(self.alloc)))?;
-                Ok(Some(passed(book, number)))
+                self.room()?;
+                self.see(number);
+                self.notes.pass(length);
+                count(book, number);
+                Ok(true)
             }
-            Renewed::Misread => Ok(None),
+            Renewed::Misread => Ok(false),
         }
     }
 
-    // What a record of another setup makes, whose body is so long.
+    // A record of another setup makes the library so, whose body is so long: whether its names and texts are a setup. Where they are not,
+    // or memory runs out, nothing is changed.
     fn renewed(
         &mut self,
-        place: u64,
-        book: Book,
-        library: Library,
+        library: &mut Library,
         texts: &[ScriptText],
         length: u32,
-    ) -> Found
+    ) -> Result<bool, AllocError>
         requires noted { IsNoted self.old.notes }
-        ensures renews { Renews place book (library_of library) (map script_of texts.now) result }
+        ensures renews { (place : ℕ) (book : KeptBook) → Renews place book (library_of library.old)
+            (map script_of texts.now) (found_as place result book library.new) }
+        ensures notes { (place : ℕ) (book : KeptBook) → NotesSetup (map script_of texts.now) length
+            self.old.notes self.new.notes (found_as place result book library.new) }
+        ensures library { UnlessTaken result
+            (library_of library.new ≡ library_of library.old) }
+        ensures nothing { UnlessTaken result (TakesNothing self.old self.new) }
         ensures anew { self.new.anew ≡ self.old.anew }
-        ensures notes { NotesSetup (map script_of texts.now) length
-            self.old.notes self.new.notes result }
         ensures noted { IsNoted self.new.notes }
         ensures seen { self.new.seen ≡ self.old.seen }
         ensures same { IsSameReader self.old self.new }
     {
-        let setup = match told_setup(self.alloc, texts) {
-            Ok(Some(setup)) => setup,
-            Ok(None) => return Found::Damaged { place },
-            Err(_) => return Found::Memory,
+        let Some(setup) = told_setup(self.alloc, texts)? else {
+            return Ok(false);
         };
-        if self.notes.room().is_err() {
-            return Found::Memory;
-        }
-        self.notes.renew(&setup, length);
-        let mut library = library;
-        match library.renew(setup) {
-            Ok(()) => Found::Made { book, library },
-            Err(_) => Found::Memory,
-        }
+        self.notes.room()?;
+        let told = Snapshot::of(&setup);
+        library.renew(setup)?;
+        self.notes.renew(told, length);
+        Ok(true)
     }
 
-    // What a later record makes.
-    fn later(&mut self, place: u64, book: Book, library: Library, body: &[u8]) -> Found
-        requires kept { IsUnderWay
-            self.old.shelf self.old.alone self.old.seen book (library_of library) }
-        requires room { place + 6 + length body.now ≤ 2 ^ 30 }
-        requires few { 5 * count_of book ≤ place }
-        requires known { 0 < self.old.format }
-        requires own { self.old.format ≡ 1 → HasItsStates (library_of library).all book }
+    // That the shelf follows another one's journal no longer, as a record of this body tells: whether it did. Where it did not, or memory
+    // runs out, nothing is changed.
+    fn promoted(&mut self, body: &[u8], length: u32) -> Result<bool, AllocError>
         requires noted { IsNoted self.old.notes }
-        ensures few { HasFew (place + 5 + length body.now) result }
-        ensures gives { GivesWith self.old.format self.old.shelf place body.now self.old.alone
-            (found.Made book library) false result self.old.seen self.new.seen }
-        ensures owns { KeepsOwnWith self.old.format self.old.seen
-            (found.Made book library) body.now result }
-        ensures kept { IsKept self.old.shelf false self.new.seen result }
-        ensures notes { NotesTaken (with_found self.old (found.Made book library))
-            place body.now (with_found self.new result) }
-        ensures anew { AnewTaken (with_found self.old (found.Made book library))
-            place body.now (with_found self.new result) }
+        ensures followed { IfOk result (λ taken. taken ≡ self.old.follows) }
+        ensures follows { WhereTaken result (self.new.follows ≡ false) }
+        ensures notes { WhereTaken result
+            (NotesBy (noting.Passes length) self.old.notes self.new.notes) }
+        ensures anew { WhereTaken result
+            (KeepsAnew self.old.format body.now self.old.anew self.new.anew) }
+        ensures nothing { UnlessTaken result (TakesNothing self.old self.new) }
         ensures noted { IsNoted self.new.notes }
-        ensures same { IsSameReader self.old self.new }
+        ensures seen { self.new.seen ≡ self.old.seen }
+        ensures same { IsSameFile self.old self.new }
+    {
+        if !self.follows {
+            return Ok(false);
+        }
+        self.copy(body)?;
+        self.notes.room()?;
+        self.notes.pass(length);
+        self.follows = false;
+        Ok(true)
+    }
+
+    // What a later record makes of the book and the library: whether it stands there. Where it does not, or memory runs out, nothing is
+    // changed.
+    pub fn later(
+        &mut self,
+        book: &mut Book,
+        library: &mut Library,
+        body: &[u8],
+    ) -> Result<bool, AllocError>
+        requires kept { IsUnderWay
+            self.old.shelf self.old.alone self.old.seen book.old (library_of library.old) }
+        requires short { length body.now < 2 ^ 32 }
+        requires few { count_of book.old + 1 < 2 ^ 32 }
+        requires known { 0 < self.old.format }
+        requires own { self.old.format ≡ 1 → HasItsStates (library_of library.old).all book.old }
+        requires noted { IsNoted self.old.notes }
+        ensures count { count_of book.new ≤ count_of book.old + 1 }
+        ensures gives { (place : ℕ) → GivesWith self.old.format self.old.shelf place body.now
+            self.old.follows self.old.alone (found.Made book.old library.old)
+            self.new.follows false (found_as place result book.new library.new)
+            self.old.seen self.new.seen }
+        ensures owns { (place : ℕ) → KeepsOwnWith self.old.format self.old.seen
+            (found.Made book.old library.old) body.now
+            (found_as place result book.new library.new) }
+        ensures kept { (place : ℕ) → IsKept self.old.shelf false self.new.seen
+            (found_as place result book.new library.new) }
+        ensures notes { (place : ℕ) → NotesTaken
+            (with_found self.old (found.Made book.old library.old)) place body.now
+            (with_found self.new (found_as place result book.new library.new)) }
+        ensures anew { (place : ℕ) → AnewTaken
+            (with_found self.old (found.Made book.old library.old)) place body.now
+            (with_found self.new (found_as place result book.new library.new)) }
+        ensures book { UnlessTaken result (IsUnchanged book.old book.new) }
+        ensures library { UnlessTaken result
+            (library_of library.new ≡ library_of library.old) }
+        ensures nothing { UnlessTaken result (TakesNothing self.old self.new) }
+        ensures follows { is_role body.now ≡ false → self.new.follows ≡ self.old.follows }
+        ensures noted { IsNoted self.new.notes }
+        ensures same { IsSameFile self.old self.new }
     {
         records_are_exact();
         let length = body.len() as u32;
-        let logged = match decode(self.alloc, self.format, body) {
-            Ok(Some(logged)) => logged,
-            Ok(None) => return Found::Damaged { place },
-            Err(_) => return Found::Memory,
+        let Some(logged) = decode(self.alloc, self.format, body)? else {
+            return Ok(false);
         };
         if let Logged::Texts { scripts } = &logged {
-            let renewed = self.renewed(place, book, library, scripts, length);
-            if self.copy(body).is_err() {
-                return Found::Memory;
-            }
-            return renewed;
+            self.copy(body)?;
+            return self.renewed(library, scripts, length);
+        }
+        if let Logged::Promoted = &logged {
+            return self.promoted(body, length);
         }
         if !may_stand(self.alone, library.present(), &logged) {
-            return Found::Damaged { place };
+            return Ok(false);
         }
-        match self.redo(book, &library, logged, length) {
-            Ok(Some(book)) => Found::Made { book, library },
-            Ok(None) => Found::Damaged { place },
-            Err(_) => Found::Memory,
-        }
+        self.redo(book, library, logged, length)
     }
 
     // The first setup of a journal of this shelf number, whose record's body is so long.
@@ -382,6 +395,7 @@ impl Reader {
         ensures begins { Begins self.old.shelf place shelf (map script_of texts.now) result }
         ensures anew { self.new.anew ≡ self.old.anew }
         ensures notes { NotesFirst (map script_of texts.now) length self.new.notes result }
+        ensures unmade { UnlessMade result (self.new.notes ≡ self.old.notes) }
         ensures noted { IsNoted self.new.notes }
         ensures seen { self.new.seen ≡ self.old.seen }
         ensures same { IsSameReader self.old self.new }
@@ -401,13 +415,36 @@ impl Reader {
         }
     }
 
-    // What the first record makes.
-    fn first(&mut self, place: u64, body: &[u8]) -> Found
+    // Whether a record tells there, before that of the first setup, that the shelf follows another one's journal, or that it follows no longer.
+    // It then does so.
+    fn turns(&mut self, place: u64, logged: &Logged) -> bool
+        ensures turns { result ≡ turns self.old.follows place (logged_of logged.now) }
+        ensures turned { result ≡ true → self.new.follows ≡ not self.old.follows }
+        ensures stays { result ≡ false → self.new.follows ≡ self.old.follows }
+        ensures notes { self.new.notes ≡ self.old.notes }
+        ensures anew { self.new.anew ≡ self.old.anew }
+        ensures seen { self.new.seen ≡ self.old.seen }
+        ensures same { IsSameFile self.old self.new }
+    {
+        let turns = match logged {
+            Logged::Follow => !self.follows && place == FIRST,
+            Logged::Promoted => self.follows,
+            _ => false,
+        };
+        if turns {
+            self.follows = !self.follows;
+        }
+        turns
+    }
+
+    // What a record makes where there is none of a setup yet.
+    pub fn first(&mut self, place: u64, body: &[u8]) -> Found
         requires room { place + 6 + length body.now ≤ 2 ^ 30 }
         requires noted { IsNoted self.old.notes }
         ensures few { HasFew (place + 5 + length body.now) result }
-        ensures gives { GivesWith self.old.format self.old.shelf place body.now self.old.alone
-            found.Nothing true result self.old.seen self.old.seen }
+        ensures gives { GivesWith self.old.format self.old.shelf place body.now self.old.follows
+            self.old.alone found.Nothing self.new.follows true result
+            self.old.seen self.old.seen }
         ensures owns { HasStates result }
         ensures kept { seen_by self.old.seen ≡ []
             → IsKept self.old.shelf true self.old.seen result }
@@ -415,23 +452,30 @@ impl Reader {
             place body.now (with_found self.new result) }
         ensures anew { AnewTaken (with_found self.old found.Nothing)
             place body.now (with_found self.new result) }
+        ensures unmade { UnlessMade result (self.new.notes ≡ self.old.notes) }
+        ensures begun { is_role body.now ≡ false
+            → IsBegun result × (self.new.follows ≡ self.old.follows) }
         ensures noted { IsNoted self.new.notes }
         ensures seen { self.new.seen ≡ self.old.seen }
-        ensures same { IsSameReader self.old self.new }
+        ensures same { IsSameFile self.old self.new }
     {
+        records_are_exact();
         let logged = match decode(self.alloc, self.format, body) {
             Ok(Some(logged)) => logged,
             Ok(None) => return Found::Damaged { place },
             Err(_) => return Found::Memory,
         };
-        if let Logged::Begin { shelf, scripts } = &logged {
-            let begun = self.begun(place, *shelf, scripts, body.len() as u32);
-            if self.copy(body).is_err() {
-                return Found::Memory;
-            }
-            return begun;
+        if self.copy(body).is_err() {
+            return Found::Memory;
         }
-        Found::Damaged { place }
+        if let Logged::Begin { shelf, scripts } = &logged {
+            return self.begun(place, *shelf, scripts, body.len() as u32);
+        }
+        if self.turns(place, &logged) {
+            Found::Nothing
+        } else {
+            Found::Damaged { place }
+        }
     }
 
     /// Takes the body of the record whose gate is at this place. The book so far has at most one instance for each five bytes up to
@@ -450,7 +494,10 @@ impl Reader {
                 self.alone = true;
             }
             Found::Made { book, library } => {
-                self.found = self.later(place, book, library, body);
+                let mut book = book;
+                let mut library = library;
+                let taken = self.later(&mut book, &mut library, body);
+                self.found = found_as(place, taken, book, library);
                 self.alone = false;
             }
             Found::Damaged { place } => self.found = Found::Damaged { place },

@@ -30,9 +30,9 @@ impl Model for SoundReader {
 }
 
 impl SoundReader {
-    ghost use Rattle.std.specs.Prelude.{◌≡◌, ◌<◌, []};
+    ghost use Rattle.std.specs.Prelude.{◌≡◌, ◌<◌, false, []};
     ghost use Rattle.file_notes.specs.Files.{marks_in};
-    ghost use Rattle.book_recovery.specs.Reading.{seen_by, IsSoundReader};
+    ghost use Rattle.book_recovery.specs.Reading.{seen_by, with_shelf, IsSoundReader};
     ghost use Rattle.book_recovery.specs.declared.found.Found.TheVariants as found;
 
     /// No record was read.
@@ -41,6 +41,7 @@ impl SoundReader {
         ensures shelf { result.shelf ≡ shelf }
         ensures format { result.format ≡ format }
         ensures found { result.found ≡ found.Nothing }
+        ensures follows { result.follows ≡ false }
         ensures seen { seen_by result.seen ≡ [] }
         ensures marks { marks_in result.notes ≡ [] }
         ensures anew { result.anew.items ≡ [] }
@@ -51,12 +52,21 @@ impl SoundReader {
                 shelf,
                 format,
                 seen: InOrder::new(alloc),
+                follows: false,
                 alone: true,
                 found: Found::Nothing,
                 notes: FileNotes::none(alloc),
                 anew: Vec::new(alloc),
             },
         }
+    }
+
+    /// From here on the reader is for the shelf of this number. No record of a setup was read.
+    pub fn name(&mut self, shelf: u32)
+        requires nothing { self.old.found ≡ found.Nothing }
+        ensures named { self.new ≡ with_shelf shelf self.old }
+    {
+        self.reader.shelf = shelf;
     }
 
     /// What was made of the records so far.
@@ -74,11 +84,14 @@ impl SoundReader {
         &self.reader.seen
     }
 
-    /// What was made of the records, what is known of their file, and the bodies that the newest format has of them.
+    /// What was made of the records, and what is known of their file.
     pub fn finish(self) -> ReadBook
         ensures found { result.found ≡ self.found }
         ensures notes { result.notes ≡ self.notes }
         ensures anew { result.anew ≡ self.anew }
+        ensures follows { result.follows ≡ self.follows }
+        ensures seen { result.seen ≡ self.seen }
+        ensures alone { result.alone ≡ self.alone }
         ensures sound { IsSoundReader self }
     {
         let SoundReader { reader } = self;
@@ -86,13 +99,21 @@ impl SoundReader {
             alloc: _,
             shelf: _,
             format: _,
-            seen: _,
-            alone: _,
+            seen,
+            follows,
+            alone,
             found,
             notes,
             anew,
         } = reader;
-        ReadBook { found, notes, anew }
+        ReadBook {
+            found,
+            notes,
+            anew,
+            follows,
+            seen,
+            alone,
+        }
     }
 }
 
