@@ -8,14 +8,14 @@ use Rattle.replay_spec.specs.Book.{Page, Instance, instance_at, page_at, parent_
 use Rattle.replay_spec.specs.Invariant.{Apart, AreAncestors}
 use Rattle.replay_spec.proofs.Numbered.{number_of}
 use Rattle.machine_states.specs.Machine.{Suspended}
-use Rattle.instance_book.specs.KeptStates.Kept.{Kept}
-use Rattle.instance_book.specs.declared.numbered.Numbered.{Numbered}
-use Rattle.instance_book.specs.declared.page.KeptPage.{KeptPage}
-use Rattle.instance_book.specs.declared.instance.KeptInstance.{KeptInstance}
-use Rattle.instance_book.specs.declared.book.Book.{Book}
-use Rattle.instance_book.specs.Views.{page_of, pages_of, instance_of, instances_of, script_in}
-use Rattle.instance_book.specs.Places.{given, shown_of, IsKeptBehind, HaveStates, IsKept}
-use Rattle.instance_book.specs.Makes.{HasStatesFrom}
+use Rattle.book_recovery.specs.InstanceBook.KeptStates.Kept.{Kept}
+use Rattle.book_recovery.specs.InstanceBook.declared.numbered.Numbered.{Numbered}
+use Rattle.book_recovery.specs.InstanceBook.declared.page.KeptPage.{KeptPage}
+use Rattle.book_recovery.specs.InstanceBook.declared.instance.KeptInstance.{KeptInstance}
+use Rattle.book_recovery.specs.InstanceBook.declared.book.Book.{Book}
+use Rattle.book_recovery.specs.InstanceBook.Views.{page_of, pages_of, instance_of, instances_of, script_in}
+use Rattle.book_recovery.specs.InstanceBook.Places.{given, shown_of, IsKeptBehind, HaveStates, IsKept}
+use Rattle.book_recovery.specs.InstanceBook.Makes.{HasStatesFrom}
 
 module _ (f g : ℕ → Option Suspended) where
   -- these pages are given the same

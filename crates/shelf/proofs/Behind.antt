@@ -1,27 +1,27 @@
 -- What the records told and tell then, where a change lands whose ticket goes on from the book.
 use Rattle.std.proofs.Common.{◌≡◌, ap, sym, subst, ℕ, Bool, IsTrue, List, Option, Some, None, option_map, Contains}
 use Rattle.script_nodes.specs.Setup.{Named}
-use Rattle.setup_reader.specs.Texts.{setup_of_texts as texts}
+use Rattle.book_recovery.specs.SetupReader.Texts.{setup_of_texts as texts}
 use Rattle.page_names.specs.Views.{target_of}
 use Rattle.web_disk.specs.View.{View}
 use Rattle.page_journal.specs.Settled.{bodies_in}
 use Rattle.replay_spec.specs.Book as spec
 use Rattle.machine_states.specs.Machine.{Suspended}
-use Rattle.journal_spec.specs.Before.{state_at, Earlier, made_of}
-use Rattle.journal_spec.specs.Retaking as books
-use Rattle.journal_spec.specs.Retaking.{with_state}
-use Rattle.journal_spec.specs.Lengths.{told_own}
-use Rattle.journal_spec.specs.Keeping.{Keeps}
-use Rattle.instance_book.specs.declared.book.Book.{Book}
-use Rattle.instance_book.specs.declared.in_order.InOrder.{InOrder}
-use Rattle.instance_book.specs.declared.instance.KeptInstance.{KeptInstance}
-use Rattle.instance_book.specs.declared.change.Change.{Change}
+use Rattle.book_recovery.specs.JournalSpec.Before.{state_at, Earlier, made_of}
+use Rattle.book_recovery.specs.JournalSpec.Retaking as books
+use Rattle.book_recovery.specs.JournalSpec.Retaking.{with_state}
+use Rattle.book_recovery.specs.JournalSpec.Lengths.{told_own}
+use Rattle.book_recovery.specs.JournalSpec.Keeping.{Keeps}
+use Rattle.book_recovery.specs.InstanceBook.declared.book.Book.{Book}
+use Rattle.book_recovery.specs.InstanceBook.declared.in_order.InOrder.{InOrder}
+use Rattle.book_recovery.specs.InstanceBook.declared.instance.KeptInstance.{KeptInstance}
+use Rattle.book_recovery.specs.InstanceBook.declared.change.Change.{Change}
 use Rattle.book_visits.specs.declared.prepared.Prepared.{Prepared}
 use Rattle.book_visits.specs.declared.ticket.Ticket.{Ticket}
-use Rattle.instance_book.specs.Views.{instances_of}
-use Rattle.instance_book.specs.Places.{given}
-use Rattle.instance_book.specs.Makes.{KeepsStates}
-use Rattle.instance_book.specs.Changes.{change_of, HasStateIn, HasStateFrom, HasRoomFor, KeepsStatesBy}
+use Rattle.book_recovery.specs.InstanceBook.Views.{instances_of}
+use Rattle.book_recovery.specs.InstanceBook.Places.{given}
+use Rattle.book_recovery.specs.InstanceBook.Makes.{KeepsStates}
+use Rattle.book_recovery.specs.InstanceBook.Changes.{change_of, HasStateIn, HasStateFrom, HasRoomFor, KeepsStatesBy}
 use Rattle.book_visits.specs.Changes.{IsSpelledIn}
 use Rattle.book_visits.specs.Prepares.{HasItsScript}
 use Rattle.shelf.specs.declared.doubt.Doubt as doubt_type

@@ -12,12 +12,12 @@ use Rattle.replay_spec.specs.Next as next
 use Rattle.replay_spec.specs.Step.{Decision, settles, gone_for, decide}
 use Rattle.replay_spec.specs.Admission.{Admission, begins, resumes, refused, admit}
 use Rattle.replay_spec.specs.Invariant.{IsOrderly}
-use Rattle.instance_book.specs.declared.book.Book.{Book}
+use Rattle.book_recovery.specs.InstanceBook.declared.book.Book.{Book}
 use Rattle.book_visits.specs.declared.ticket.Ticket.{Ticket}
 use Rattle.book_visits.specs.declared.prepared.Prepared.{Prepared}
-use Rattle.instance_book.specs.Views.{Beside, book_of}
+use Rattle.book_recovery.specs.InstanceBook.Views.{Beside, book_of}
 use Rattle.book_visits.specs.Views.{ticket_of}
-use Rattle.instance_book.specs.Makes.{rules_with}
+use Rattle.book_recovery.specs.InstanceBook.Makes.{rules_with}
 use Rattle.book_visits.specs.Prepares.{Prepares, settled}
 use Rattle.book_visits.specs.Fits.{FitsAs}
 use Rattle.shelf.specs.Views.{HoldIn, IsSegmentOf}

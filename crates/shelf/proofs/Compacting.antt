@@ -1,8 +1,8 @@
 -- What a compaction leaves of a shelf, by its way out: nothing was done, the new file took the place of the old one, or it is in doubt whether it
 -- did.
-use Rattle.std.proofs.Common.{◌≡◌, ◌∙◌, ap, sym, subst, refl, ℕ, ◌≤◌, ◌^◌, [], ◌∷◌, arith, Bool, IsTrue, List, length, Option, None, Some, option_map}
+use Rattle.std.proofs.Common.{◌≡◌, ◌∙◌, ap, sym, subst, refl, ℕ, ◌≤◌, ◌^◌, arith, Bool, false, IsTrue, List, length, Option, None, Some, option_map, IfSome}
 use Rattle.std.proofs.lemmas.Option.{same_Some}
-use Rattle.setup_reader.specs.Texts.{setup_of_texts as texts}
+use Rattle.book_recovery.specs.SetupReader.Texts.{setup_of_texts as texts}
 use Rattle.web_disk.specs.View.{View, LeavesOnly}
 use Rattle.web_disk.proofs.Moments.{started}
 use Rattle.page_journal.specs.Records.{newest, at_rest, stored}
@@ -20,27 +20,25 @@ use Rattle.replay_spec.specs.Rules.{Rules}
 use Rattle.replay_spec.specs.Step as step
 use Rattle.replay_spec.proofs.Stand.{Later}
 use Rattle.replay_spec.proofs.Orderly.{same}
-use Rattle.journal_records.specs.Records.{draws, body_of}
-use Rattle.journal_spec.specs.Before.{Made, made_of, state_at}
-use Rattle.journal_spec.specs.Making.{nothing, made_in, book_of}
-use Rattle.journal_spec.specs.Old.{book_of_format, format_of_now}
-use Rattle.journal_spec.specs.Copying.{copies, CopiesMakeTheBook, IsCompacted}
-use Rattle.journal_spec.specs.OwnCopies.{CopiesAreOwn, CopiesKeep}
-use Rattle.journal_spec.proofs.Rewriting.{newest_copied}
-use Rattle.journal_spec.specs.Owning.{AreOwn, AreOwnIn}
-use Rattle.journal_spec.specs.Reading.{AreAllBytes}
-use Rattle.journal_spec.specs.Keeping.{Keeps}
-use Rattle.journal_spec.specs.Retaking.{unread}
-use Rattle.journal_spec.specs.Standing.{puts, Between, Carries, Held, Hold, if_kept, Stands, Throughout}
-use Rattle.journal_spec.specs.Whole.{HasWholeScripts}
-use Rattle.journal_spec.specs.Disks.{IsFit}
-use Rattle.journal_spec.specs.Laws.{MeasuresDoubt, CompactionsStandBetween, compacted_book}
-use Rattle.journal_spec.proofs.Between.{stand_alike}
-use Rattle.journal_spec.proofs.Fitting.{no_doubt}
-use Rattle.journal_spec.proofs.Standings.{any_less, carried, stands_then, settled_stands, left_standing}
+use Rattle.book_recovery.specs.JournalSpec.Before.{Made, made_of, state_at}
+use Rattle.book_recovery.specs.JournalSpec.Making.{nothing, made_in, book_of}
+use Rattle.book_recovery.specs.JournalSpec.Old.{book_of_format, format_of_now}
+use Rattle.book_recovery.specs.JournalSpec.Copying.{copies, CopiesMakeTheBook, IsCompacted}
+use Rattle.book_recovery.specs.JournalSpec.OwnCopies.{CopiesAreOwn, CopiesKeep}
+use Rattle.book_recovery.proofs.JournalSpec.Rewriting.{newest_copied}
+use Rattle.book_recovery.specs.JournalSpec.Owning.{AreOwn, AreOwnIn}
+use Rattle.book_recovery.specs.JournalSpec.Reading.{AreAllBytes}
+use Rattle.book_recovery.specs.JournalSpec.Keeping.{Keeps}
+use Rattle.book_recovery.specs.JournalSpec.Retaking.{unread}
+use Rattle.book_recovery.specs.JournalSpec.Standing.{puts, Between, Carries, Held, Hold, if_kept, Stands, Throughout}
+use Rattle.book_recovery.specs.JournalSpec.Whole.{HasWholeScripts}
+use Rattle.book_recovery.specs.JournalSpec.Disks.{IsFit}
+use Rattle.book_recovery.specs.JournalSpec.Laws.{MeasuresDoubt, CompactionsStandBetween, compacted_book}
+use Rattle.book_recovery.proofs.JournalSpec.Between.{stand_alike}
+use Rattle.book_recovery.proofs.JournalSpec.Fitting.{no_doubt}
+use Rattle.book_recovery.proofs.JournalSpec.Standings.{any_less, carried, stands_then, settled_stands, left_standing}
 use Rattle.file_copies.specs.OfFileNotes.declared.notes.FileNotes.{FileNotes}
 use Rattle.file_copies.specs.OfFileNotes.Files.{file_in, marks_in, IsPlanned, IsPicked}
-use Rattle.file_copies.specs.Copies.{copied}
 use Rattle.book_recovery.specs.Found.{HasToldStates}
 use Rattle.book_recovery.specs.Noting.{marks_of}
 use Rattle.shelf.specs.declared.doubt.Doubt as doubt_type
@@ -49,10 +47,11 @@ use Rattle.shelf.specs.declared.shelf.Shelf.{Shelf}
 use Rattle.shelf.specs.Compacting.{copies_for, IsRoomMade, HasCompacted}
 use Rattle.shelf.specs.Files.{KnowsFile, LeavesNewest}
 use Rattle.shelf.specs.Owning.{OwnRecords, HasOwnImages, StaysOwnThroughout, StandsOwn}
-use Rattle.shelf.specs.Views.{rules_of, doubt_of, library_in, book_in, fate_by, TellsStates, IsInOrder, IsOwnShelf, IsEvent}
+use Rattle.shelf.specs.Views.{rules_of, doubt_of, library_in, book_in, fate_by, TellsStates, IsFree, IsFed, IsInOrder, IsOwnShelf, IsEvent}
 use Rattle.shelf.specs.Events.{HasMoments, HasOwnMoments}
 use Rattle.shelf.specs.Tickets.{KeepsTickets}
 use Rattle.shelf.proofs.Standing.{OnlyNow, CountsNow, own_alike}
+use Rattle.shelf.proofs.Leads.{leads_in, unfed, bars_none}
 use Rattle.shelf.proofs.Order.{quiet_event, order_of, order_behind}
 use Rattle.shelf.proofs.Steps.{Comes, rewritten_compact, doubted_compact}
 use Rattle.shelf.proofs.Recorded.{own_bodies, measured_up}
@@ -73,9 +72,9 @@ pub record Compacts {D N : Type 0} (view : D → View) (tells : Bool) (coming : 
   pub tickets : KeepsTickets view s u
 
 -- nothing was done
-pub uncompacted : {D N : Type 0} (view : D → View) (tells : Bool) (coming : N → ℕ → ℕ) (s : Shelf D N) → IsInOrder view tells s → (j : Journal D) → journal.IsSound j → IsRoomMade view tells s.journal j → (x : step.Reply)
+pub uncompacted : {D N : Type 0} (view : D → View) (tells : Bool) (coming : N → ℕ → ℕ) (s : Shelf D N) → IsInOrder view tells s → (j : Journal D) → journal.IsSound j → IsRoomMade view tells s.journal j → IfSome s.follower (IsFed view tells (record s { journal = j })) → (x : step.Reply)
     → ((given : ℕ) → drawn_by x given ≡ given) → Comes (rules_of s.rules) (book_in view s) step.compact (fate_by x) x (book_in view s) None → Compacts view tells coming s (record s { journal = j }) x
-uncompacted {D} {N} view tells coming s order j sound room x none comes =
+uncompacted {D} {N} view tells coming s order j sound room fed x none comes =
     let b = book_in view s in
     let shelf = s.rules.number in
     let rules = rules_of s.rules in
@@ -86,7 +85,7 @@ uncompacted {D} {N} view tells coming s order j sound room x none comes =
     let these : bodies_in view s.journal ≡ bodies_in view j = ap stored (sym room.seen) in
     record {
       event = quiet_event view coming s u step.compact x b refl refl is none comes.step;
-      in_order = order_of view tells s u b order order.kept order.orderly order.scripts_are order.range refl is refl refl (record {
+      in_order = order_of view tells s u b order order.kept order.orderly order.scripts_are order.range refl is refl refl refl (record {
         sound = sound;
         whole = λ up. room.whole ∙ order.whole up;
         fit = λ told.
@@ -105,6 +104,7 @@ uncompacted {D} {N} view tells coming s order j sound room x none comes =
               let r = order.knows.records told up in
               record { marks = r.marks ∙ ap (λ (bs : List (List ℕ)). marks_of newest texts shelf 8 bs nothing) these; bytes = subst AreAllBytes these r.bytes };
         };
+        fed = fed;
       });
       own = λ own. record {
         states = own.states;
@@ -137,17 +137,6 @@ no_room view tells j only_now = record {
   format = refl;
 }
 
--- ---- the bodies of a file that makes a book begin with one
-
-record Starts (bodies : List (List ℕ)) : Type 0 where
-  first : List ℕ
-  rest : List (List ℕ)
-  is : bodies ≡ first ∷ rest
-
-starts_with : (shelf : ℕ) (m : Made) (bodies : List (List ℕ)) → made_in (book_of texts shelf bodies) ≡ Some m → Starts bodies
-starts_with shelf m [] makes = absurd (let no : ⊥ = cc makes in no)
-starts_with shelf m (first ∷ rest) makes = record { first = first; rest = rest; is = refl }
-
 -- what is written between two books is written between those that are alike as after a crash
 both_alike : (shelf : ℕ) (a b c d : Book) (old new : View) → reopened a ≡ reopened c → reopened b ≡ reopened d → Throughout texts shelf a b old new → Throughout texts shelf c d old new
 both_alike shelf a b c d old new first second (k, run) =
@@ -162,7 +151,7 @@ pub record Laws : Type 0 where
 
 -- ---- the file of a shelf that is up, and of which its records are planned to stay
 
-module _ {D N : Type 0} (view : D → View) (tells : Bool) (coming : N → ℕ → ℕ) (s : Shelf D N) (order : IsInOrder view tells s) (up : s.down ≡ None) (laws : Laws) (plan : List Bool) (planned : IsPlanned s.book s.notes.notes.items plan) where
+module _ {D N : Type 0} (view : D → View) (tells : Bool) (coming : N → ℕ → ℕ) (s : Shelf D N) (order : IsInOrder view tells s) (free : IsFree s) (laws : Laws) (plan : List Bool) (planned : IsPlanned s.book s.notes.notes.items plan) where
   abbrev b : Book
   b = book_in view s
 
@@ -173,7 +162,13 @@ module _ {D N : Type 0} (view : D → View) (tells : Bool) (coming : N → ℕ �
   rules = rules_of s.rules
 
   none_doubted : b.down ≡ None
-  none_doubted = ap (λ (o : Option doubt_type.Doubt). option_map doubt_of o) up
+  none_doubted = ap (λ (o : Option doubt_type.Doubt). option_map doubt_of o) free.up
+
+  none_bars : step.barred b ≡ None
+  none_bars = bars_none view s free
+
+  unfed_here : b.follows ≡ false
+  unfed_here = leads_in s free.leads
 
   abbrev bodies : List (List ℕ)
   bodies = bodies_in view s.journal
@@ -182,18 +177,15 @@ module _ {D N : Type 0} (view : D → View) (tells : Bool) (coming : N → ℕ �
   others = copies_for plan s.notes s.book bodies
 
   abbrev then_ : Book
-  then_ = record b { length = file_length (compaction b); file = compaction b }
+  then_ = record b { length = file_length (compaction b); file = compaction b; follows = false }
 
   -- what the copies make
   record Copied (keeps : Keeps texts shelf bodies b) : Type 0 where
-    first : List ℕ
-    rest : List (List ℕ)
-    is : bodies ≡ first ∷ rest
-    same : others ≡ copies newest texts shelf first rest (made_of b keeps.earlier)
+    same : others ≡ copies newest texts shelf bodies (made_of b keeps.earlier)
     k : Made
     makes : made_in (book_of texts shelf others) ≡ Some k
     compacts : IsCompacted (made_of b keeps.earlier) k
-    keep : CopiesKeep newest texts shelf first rest (made_of b keeps.earlier) k
+    keep : CopiesKeep newest texts shelf bodies (made_of b keeps.earlier) k
     marks : (after : FileNotes) → IsPicked plan s.notes after → marks_in after ≡ marks_of newest texts shelf 8 others nothing
     long : length (at_rest others) ≡ file_length (compaction b)
     bytes_are : AreAllBytes others
@@ -210,39 +202,30 @@ module _ {D N : Type 0} (view : D → View) (tells : Bool) (coming : N → ℕ �
 
     copied_here : Copied keeps
     copied_here =
-        let records = order.knows.records told up in
-        let start = starts_with shelf m bodies keeps.makes in
-        let first = start.first in
-        let rest = start.rest in
-        let P : List (List ℕ) → Type 0 = λ bs. made_in (book_of texts shelf bs) ≡ Some m in
-        let makes : P (first ∷ rest) = subst P start.is keeps.makes in
-        let makes_now : made_in (book_of_format newest texts shelf (first ∷ rest)) ≡ Some m = ap made_in (format_of_now texts shelf (first ∷ rest)) ∙ makes in
-        let bytes : AreAllBytes (first ∷ rest) = subst AreAllBytes start.is records.bytes in
-        let known : KnowsMade newest shelf (first ∷ rest) m s.notes plan = record {
+        let records = order.knows.records told free.up in
+        let makes = keeps.makes in
+        let makes_now : made_in (book_of_format newest texts shelf bodies) ≡ Some m = ap made_in (format_of_now texts shelf bodies) ∙ makes in
+        let bytes : AreAllBytes bodies = records.bytes in
+        let known : KnowsMade newest shelf bodies m s.notes plan = record {
           noted = order.knows.noted;
           file = refl;
-          marks = records.marks ∙ ap (λ (bs : List (List ℕ)). marks_of newest texts shelf 8 bs nothing) start.is;
+          marks = records.marks;
           planned = planned (library_in s).all;
         } in
-        let alike : others ≡ copies newest texts shelf first rest m =
-        ap (λ (bs : List (List ℕ)). copied plan s.notes.drawn (body_of (draws b.logged)) bs) start.is ∙ copied_so newest shelf first rest m makes_now s.notes plan known refl in
-        let made_again = laws.books texts shelf first rest m bytes makes in
+        let alike : others ≡ copies newest texts shelf bodies m = copied_so newest shelf bodies m unfed_here bytes makes_now s.notes plan known refl in
+        let made_again = laws.books texts shelf bodies m bytes makes unfed_here in
         let k = made_again.0 in
-        let again : made_in (book_of_format newest texts shelf (copies newest texts shelf first rest m)) ≡ Some k =
-        ap made_in (format_of_now texts shelf (copies newest texts shelf first rest m)) ∙ made_again.1 in
-        let keep = laws.own newest texts shelf first rest m k (newest_copied texts shelf first rest m) bytes makes_now made_again.1 in
+        let again : made_in (book_of_format newest texts shelf (copies newest texts shelf bodies m)) ≡ Some k = ap made_in (format_of_now texts shelf (copies newest texts shelf bodies m)) ∙ made_again.1 in
+        let keep = laws.own newest texts shelf bodies m k (newest_copied texts shelf bodies m) bytes makes_now unfed_here made_again.1 in
         record {
-          first = first;
-          rest = rest;
-          is = start.is;
           same = alike;
           k = k;
           makes = ap (λ (bs : List (List ℕ)). made_in (book_of texts shelf bs)) alike ∙ made_again.1;
           compacts = made_again.2;
           keep = keep;
-          marks = λ after chosen. marks_so shelf first rest m k makes_now s.notes after plan known again (ap (λ (y : Book). y.file) made_again.2.book) chosen
+          marks = λ after chosen. marks_so shelf bodies m k unfed_here bytes makes_now s.notes after plan known (ap (λ (y : Book). y.follows) made_again.2.book) (keep.bytes refl) again (ap (λ (y : Book). y.file) made_again.2.book) chosen
               ∙ ap (λ (bs : List (List ℕ)). marks_of newest texts shelf 8 bs nothing) (sym alike);
-          long = ap (λ (bs : List (List ℕ)). length (at_rest bs)) alike ∙ long_so shelf first rest m makes_now;
+          long = ap (λ (bs : List (List ℕ)). length (at_rest bs)) alike ∙ long_so shelf bodies m unfed_here bytes makes_now;
           bytes_are = subst AreAllBytes (sym alike) (keep.bytes refl);
         }
 
@@ -264,7 +247,7 @@ module _ {D N : Type 0} (view : D → View) (tells : Bool) (coming : N → ℕ �
         doubt = no_doubt then_ b.down none_doubted;
         used = λ n among unused. keeps.recoverable.used n (c.keep.seen n among) unused;
       };
-      read = keeps.read;
+      read = λ leads. keeps.read unfed_here;
     }
 
     here_fits : length (at_rest bodies) ≤ 2 ^ 30
@@ -280,13 +263,9 @@ module _ {D N : Type 0} (view : D → View) (tells : Bool) (coming : N → ℕ �
 
       between_these : (l : Between texts shelf m.book (compacted_book m.book)) × Carries newest bodies (puts newest others) l
       between_these =
-          let P : List (List ℕ) → List (List ℕ) → Type 0 = λ xs ys. (l : Between texts shelf m.book (compacted_book m.book)) × Carries newest xs (puts newest ys) l in
-          let bytes : AreAllBytes (c.first ∷ c.rest) = subst AreAllBytes c.is (order.knows.records told up).bytes in
-          let makes = ap (λ (bs : List (List ℕ)). made_in (book_of texts shelf bs)) (sym c.is) ∙ keeps.makes in
-          let old_fits : length (at_rest (c.first ∷ c.rest)) ≤ 2 ^ 30 = subst (λ (bs : List (List ℕ)). length (at_rest bs) ≤ 2 ^ 30) c.is here_fits in
-          let new_fits : length (at_rest (copies newest texts shelf c.first c.rest m)) ≤ 2 ^ 30 = subst (λ (bs : List (List ℕ)). length (at_rest bs) ≤ 2 ^ 30) c.same others_fit in
-          let l = laws.between texts shelf c.first c.rest m bytes makes old_fits new_fits in
-          subst (λ (xs : List (List ℕ)). P xs others) (sym c.is) (subst (λ (ys : List (List ℕ)). P (c.first ∷ c.rest) ys) (sym c.same) l)
+          let new_fits : length (at_rest (copies newest texts shelf bodies m)) ≤ 2 ^ 30 = subst (λ (bs : List (List ℕ)). length (at_rest bs) ≤ 2 ^ 30) c.same others_fit in
+          let l = laws.between texts shelf bodies m (order.knows.records told free.up).bytes keeps.makes unfed_here here_fits new_fits in
+          subst (λ (ys : List (List ℕ)). (l : Between texts shelf m.book (compacted_book m.book)) × Carries newest bodies (puts newest ys) l) (sym c.same) l
 
       throughout : Throughout texts shelf m.book (compacted_book m.book) (view_of view s.journal) (view_of view j)
       throughout =
@@ -300,7 +279,7 @@ module _ {D N : Type 0} (view : D → View) (tells : Bool) (coming : N → ℕ �
       abbrev own_others : OnlyNow (view_of view s.journal) → (view s.journal.disk).images (view s.journal.disk).seen → HasOwnImages shelf (view s.journal.disk) → OwnRecords shelf
       own_others only_now reads own =
           let these : AreOwn texts shelf bodies = own_bodies view shelf s.journal order.knows.newest_is (fit.settled none_doubted) reads own in
-          let copies_own : AreOwn texts shelf others = subst (AreOwn texts shelf) (sym c.same) (c.keep.own (own_now shelf (c.first ∷ c.rest) (subst (AreOwn texts shelf) c.is these))) in
+          let copies_own : AreOwn texts shelf others = subst (AreOwn texts shelf) (sym c.same) (c.keep.own (own_now shelf bodies these)) in
           with_others newest shelf bodies others refl (here_fits, others_fit, refl) (own_now shelf bodies these) copies_own
 
       own_throughout : OnlyNow (view_of view s.journal) → (view s.journal.disk).images (view s.journal.disk).seen → HasOwnImages shelf (view s.journal.disk) → StaysOwnThroughout shelf (view_of view s.journal) (view_of view j)
@@ -317,10 +296,13 @@ module _ {D N : Type 0} (view : D → View) (tells : Bool) (coming : N → ℕ �
     x = step.compacted (length_of j)
 
     u_is : book_in view u ≡ then_
-    u_is = ap (λ (n : ℕ). record b { length = n; file = file_in kept }) done.len ∙ ap (λ (f : File). record b { length = file_length (compaction b); file = f }) done.file
+    u_is =
+        ap (λ (n : ℕ). record b { length = n; file = file_in kept }) done.len
+        ∙ (ap (λ (f : File). record b { length = file_length (compaction b); file = f }) done.file
+        ∙ ap (λ (t : Bool). record b { length = file_length (compaction b); file = compaction b; follows = t }) unfed_here)
 
     comes : Comes rules b step.compact step.plain x then_ None
-    comes = subst (λ (n : ℕ). Comes rules b step.compact step.plain (step.compacted n) then_ None) (sym done.len) (rewritten_compact s.rules b none_doubted short)
+    comes = subst (λ (n : ℕ). Comes rules b step.compact step.plain (step.compacted n) then_ None) (sym done.len) (rewritten_compact s.rules b none_bars short)
 
     later : Later b then_
     later = later_step view s step.compact step.plain x then_ order.orderly tt (comes.step 0)
@@ -345,7 +327,7 @@ module _ {D N : Type 0} (view : D → View) (tells : Bool) (coming : N → ℕ �
         let c = copied_here told in
         let same : c.k ≡ made_there = same_Some c.k made_there (sym c.makes ∙ (ap (λ (bs : List (List ℕ)). made_in (book_of texts shelf bs)) (sym (these told)) ∙ is)) in
         let e = (keeps told).earlier in
-        let before : HasToldStates (library_in s).all e.states s.book = order.told told up (made_of b e) (keeps told).makes in
+        let before : HasToldStates (library_in s).all e.states s.book = order.told told free.up (made_of b e) (keeps told).makes in
         let after : HasToldStates (library_in s).all c.k.earlier.states s.book =
         alike_given (λ n. state_at n e.states) (λ n. state_at n c.k.earlier.states) (library_in s).all s.book order.orderly.instances.apart (λ k n i p found shown. c.compacts.states k n i p found shown) before in
         subst (λ (y : Made). HasToldStates (library_in s).all y.earlier.states s.book) same after
@@ -373,8 +355,8 @@ module _ {D N : Type 0} (view : D → View) (tells : Bool) (coming : N → ℕ �
     pub landed_compacts : Compacts view tells coming s u x
     landed_compacts = record {
       event = quiet_event view coming s u step.compact x then_ refl refl u_is (λ given. refl) comes.step;
-      in_order = order_behind view tells s u step.compact step.plain x then_ order tt tt (λ some. some) whole_then u_is refl refl (comes.step 0)
-          (record { sound = sound; whole = λ _. done.whole; fit = fit_now; told = λ told _. told_now told; knows = knows });
+      in_order = order_behind view tells s u step.compact step.plain x then_ order tt tt (λ some. some) whole_then u_is refl refl refl (comes.step 0)
+          (record { sound = sound; whole = λ _. done.whole; fit = fit_now; told = λ told _. told_now told; knows = knows; fed = unfed view tells u free.leads });
       own = λ own. record {
         states = own.states;
         own = λ told.
@@ -383,7 +365,7 @@ module _ {D N : Type 0} (view : D → View) (tells : Bool) (coming : N → ℕ �
             let settled = (done.settled told).0 in
             let c = copied_here told in
             let old_own : AreOwn texts shelf bodies = own_bodies view shelf s.journal order.knows.newest_is ((fit told).settled none_doubted) (reads told) its.images in
-            let own_then : AreOwn texts shelf others = subst (AreOwn texts shelf) (sym c.same) (c.keep.own (own_now shelf (c.first ∷ c.rest) (subst (AreOwn texts shelf) c.is old_own))) in
+            let own_then : AreOwn texts shelf others = subst (AreOwn texts shelf) (sym c.same) (c.keep.own (own_now shelf bodies old_own)) in
             let own_there = subst (λ (f : ℕ). AreOwnIn f texts shelf (bodies_in view j)) (sym done.format) (own_now shelf (bodies_in view j) (subst (AreOwn texts shelf) (sym (these told)) own_then)) in
             subst (λ (y : Book). StandsOwn rules shelf (view j.disk) y) (sym u_is)
             (record { images = settled_own view shelf j settled own_there; stands = (t.0, (t.1.0, (t.1.1, measured t.0))) });
@@ -411,7 +393,7 @@ module _ {D N : Type 0} (view : D → View) (tells : Bool) (coming : N → ℕ �
     unsure_is = ap (λ (n : ℕ). record unsure { length = n }) same_length
 
     may_compact : Comes rules b step.compact (step.disk_fault count) (step.disk_failed count) unsure None
-    may_compact = doubted_compact s.rules b none_doubted short count
+    may_compact = doubted_compact s.rules b none_bars short count
 
     not_up : unsure.down ≡ None → ⊥
     not_up e = cc e
@@ -435,8 +417,9 @@ module _ {D N : Type 0} (view : D → View) (tells : Bool) (coming : N → ℕ �
     doubted_compacts = record {
       event = quiet_event view coming s in_doubt step.compact (step.disk_failed count) unsure refl refl unsure_is (λ given. refl) may_compact.step;
       in_order = order_behind view tells s in_doubt step.compact (step.disk_fault count) (step.disk_failed count) unsure order tt tt (λ some. some)
-          (record { setup = order.scripts_are.setup; instances = order.scripts_are.instances }) unsure_is refl refl (may_compact.step 0)
+          (record { setup = order.scripts_are.setup; instances = order.scripts_are.instances }) unsure_is refl refl refl (may_compact.step 0)
           (record {
+            fed = unfed view tells in_doubt free.leads;
             sound = sound;
             whole = λ none. absurd (down_there none);
             fit = λ told. record { settled = λ none. absurd (not_up none); holds = λ none. absurd (not_up none); stands = (stands_so told).0 };

@@ -4,30 +4,36 @@ use Rattle.std.specs.Prelude.{⊤}
 use Rattle.std.proofs.lemmas.List.{append-nil}
 use Rattle.std.specs.List.{AllByRecursion}
 use Rattle.std.proofs.lemmas.Bool.Decides.{nat_tests}
+use Rattle.std.proofs.lemmas.Option.{none-some}
+use Rattle.value_bytes.specs.Laws.{AreBytes}
 use Rattle.script_value.specs.declared.outcome.TxName.{TxName}
 use Rattle.script_nodes.specs.Setup.{Named}
-use Rattle.setup_reader.specs.Texts.{setup_of_texts as texts}
+use Rattle.book_recovery.specs.SetupReader.Texts.{setup_of_texts as texts}
 use Rattle.page_journal.specs.Records.{newest, framed, frames, at_rest}
 use Rattle.page_journal.proofs.Frames.{length-framed, length-at_rest}
 use Rattle.replay_spec.specs.Book.{Instance, Change, opens, extends, ends, finishes, sweeps, Line, changed, renewed, File}
 use Rattle.replay_spec.specs.Compaction.{stays, is_sweep, last_sweeps, lines_length, compaction, file_length}
-use Rattle.journal_records.specs.Records.{Record, begins, changes, renews, draws, body_of}
+use Rattle.journal_records.specs.Records.{Record, begins, changes, renews, draws, follows, promotes, body_of}
+use Rattle.journal_records.specs.Roles.{is_role, behind_front}
+use Rattle.journal_records.proofs.Roles.{role_is}
 use Rattle.journal_records.specs.Old.{read_record_in}
-use Rattle.journal_spec.specs.Before.{Made}
-use Rattle.journal_spec.specs.Making.{Making, nothing, begun, made, began, with_drawn, made_in}
-use Rattle.journal_spec.specs.Old.{next_at, second_at, with_bodies_at, book_of_format}
-use Rattle.journal_spec.specs.Copying.{Entry, tells, settles, body_in, line_of, state_now, body_now, entry_by, entries, entry_ahead, entries_joined, copies}
-use Rattle.journal_spec.proofs.Walking.{Step, turns, lands, passes, moved}
-use Rattle.journal_spec.proofs.Copying.{first_is}
-use Rattle.journal_spec.proofs.Joining.{lines_joined}
+use Rattle.book_recovery.specs.JournalSpec.Before.{Made}
+use Rattle.book_recovery.specs.JournalSpec.Making.{Making, nothing, waits, waited, begun, made, waiting, began, first_by, start_by, fed_by, with_drawn, made_in}
+use Rattle.book_recovery.specs.JournalSpec.Old.{next_at, second_at, with_body_at, with_bodies_at, book_of_format}
+use Rattle.book_recovery.specs.JournalSpec.Reading.{AreAllBytes}
+use Rattle.book_recovery.specs.JournalSpec.Copying.{Entry, tells, settles, body_in, line_of, state_now, body_now, entry_by, entry_in, entries, entry_ahead, entries_joined, first_body_of, copies}
+use Rattle.book_recovery.proofs.JournalSpec.Walking.{Step, turns, lands, passes, frees, moved}
+use Rattle.book_recovery.proofs.JournalSpec.Copying.{First, first_is}
+use Rattle.book_recovery.proofs.JournalSpec.Joining.{lines_joined}
 use Rattle.file_copies.specs.OfFileNotes.declared.note.Note.{Note}
 use Rattle.file_copies.specs.OfFileNotes.declared.notes.FileNotes.{FileNotes}
 use Rattle.file_copies.specs.OfFileNotes.Files.{file_in, marks_in, IsNoted, IsPicked}
 use Rattle.file_copies.specs.OfFileNotes.Notes.{note_of, is_told, is_time, stays_note, time_next, plan_in, picked}
 use Rattle.file_copies.proofs.OfFileNotes.Plans.{note_stays, note_time, untold_goes, plan_picks}
 use Rattle.file_copies.specs.Copies.{others_of, copied}
-use Rattle.book_recovery.specs.Anew.{IsOfLanding, IsAnewBy, AreAnew}
-use Rattle.book_recovery.specs.Noting.{mark_by, marks_of}
+use Rattle.book_recovery.specs.Anew.{IsOfLanding, IsAnewBy, IsAnewIn, AreAnew}
+use Rattle.book_recovery.specs.Noting.{mark_by, mark_in, marks_of}
+use Rattle.shelf.proofs.Roles.{IsOlder, tells_none}
 
 -- ---- records that have a note, each with its entry, if recovery takes it
 
@@ -222,7 +228,7 @@ module _ (f : ℕ) where
     body_is : f ≡ newest → IsBodyOf body its
     same_line : f ≡ newest → lines_in (its ∷ []) ≡ map line_of (entries_in (its ∷ []))
     -- of an older one this is written
-    anew : (f ≡ newest → ⊥) → (xs : List (List ℕ)) → IsAnewBy f m body (read_record_in f body) xs → (x : List ℕ) × ((xs ≡ x ∷ []) × IsBodyOf x its)
+    anew : IsOlder f → (xs : List (List ℕ)) → IsAnewBy f m body (read_record_in f body) xs → (x : List ℕ) × ((xs ≡ x ∷ []) × IsBodyOf x its)
 
   copied_body : (m : Made) (body : List ℕ) (c : Change) (state : Option (List ℕ)) → f ≡ newest → body_now f m body c state ≡ body
   copied_body m body c state is = ap (λ (k : ℕ). if k == 6 then body else body_of (changes c (state_now f m c state))) is
@@ -234,8 +240,8 @@ module _ (f : ℕ) where
       by_test true is = absurd (old (grind (arith, nat_tests, is)))
       by_test false is = refl
 
-  one : (ls : List Instance) (body : List ℕ) (m : Made) (es : List Entry) (n : Made) → Step f ls texts body m es n → One ls body m es n
-  one ls body m es n (turns named scripts read is) =
+  one : (ls : List Instance) (body : List ℕ) (m : Made) (es : List Entry) (n : Made) → AreBytes body → Step f ls texts body m es n → One ls body m es n
+  one ls body m es n small (turns named scripts read is) =
       let k : Kept = record { entry = settles scripts body; line = renewed scripts (length body); stays_alike = λ ls. refl; time_alike = refl } in
       record {
         its = Some k;
@@ -248,7 +254,7 @@ module _ (f : ℕ) where
         same_line = λ now. refl;
         anew = λ old xs h. (body, (subst (λ (r : Option Record). IsAnewBy f m body r xs) read h, refl));
       }
-  one ls body m es n (lands c state names read sure is b stay) =
+  one ls body m es n small (lands c state names read sure is b stay) =
       let its : Entry = tells c (state_now f m c state) (body_now f m body c state) in
       let k : Kept = record { entry = its; line = changed c (length body); stays_alike = λ ls. change_stays ls c (length body) (length (body_now f m body c state)); time_alike = change_time c (length body) (length (body_now f m body c state)) } in
       record {
@@ -262,9 +268,20 @@ module _ (f : ℕ) where
         same_line = λ now. ap (λ (x : List ℕ). changed c (length x) ∷ []) (sym (copied_body m body c state now));
         anew = λ old xs h.
             let w = subst (λ (r : Option Record). IsAnewBy f m body r xs) read h in
-            (w.0, (w.1.0, written_body m body c state old ∙ sym (subst (λ (o : Option (List TxName)). IsOfLanding (is_some o) (body_of (changes c (state_now f m c state))) w.0) is w.1.1)));
+            (w.0, (w.1.0, written_body m body c state old.old ∙ sym (subst (λ (o : Option (List TxName)). IsOfLanding (is_some o) (body_of (changes c (state_now f m c state))) w.0) is w.1.1)));
       }
-  one ls body m es n (passes c state read sure is) = record {
+  one ls body m es n small (frees read fed) = record {
+    its = None;
+    mark = ap (mark_by f m) read;
+    entry = refl;
+    lines = sym (append-nil m.book.file.lines);
+    drawn = refl;
+    head = refl;
+    body_is = λ now. tt;
+    same_line = λ now. refl;
+    anew = λ older xs h. absurd (let no : true ≡ false = tells_none f body promotes older small read in cc no);
+  }
+  one ls body m es n small (passes c state read sure is) = record {
     its = None;
     mark = ap (mark_by f m) read ∙ ap (λ (o : Option (List TxName)). is_some o ∷ []) is;
     entry = refl;
@@ -310,22 +327,22 @@ module _ (f : ℕ) where
     head : e.book.file.head ≡ m.book.file.head
     bodies_are : f ≡ newest → AreBodiesOf bodies all
     same_lines : f ≡ newest → lines_in all ≡ map line_of (entries_in all)
-    anew_are : (f ≡ newest → ⊥) → (anew : List (List ℕ)) → AreAnew f texts shelf place bodies (made m) anew → AreBodiesOf anew all
+    anew_are : IsOlder f → (anew : List (List ℕ)) → AreAnew f texts shelf place bodies (made m) anew → AreBodiesOf anew all
 
   none_anew : (anew : List (List ℕ)) → anew ≡ [] → AreBodiesOf anew []
   none_anew anew is = subst (λ (xs : List (List ℕ)). AreBodiesOf xs []) (sym is) tt
 
-  walk : (ls : List Instance) (shelf place : ℕ) (bodies : List (List ℕ)) (m e : Made) → made_in (with_bodies_at f texts shelf place bodies (made m)) ≡ Some e → Walk ls shelf place bodies m e
-  walk ls shelf place [] m e is =
+  walk : (ls : List Instance) (shelf place : ℕ) (bodies : List (List ℕ)) (m e : Made) → AreAllBytes bodies → made_in (with_bodies_at f texts shelf place bodies (made m)) ≡ Some e → Walk ls shelf place bodies m e
+  walk ls shelf place [] m e small is =
       subst (λ (x : Made). Walk ls shelf place [] m x) (let alike : m ≡ e = cc is in alike)
       (record { all = []; marks = refl; stay = refl; lines = sym (append-nil m.book.file.lines); drawn = refl; head = refl; bodies_are = λ now. tt; same_lines = λ now. refl; anew_are = λ old anew none. none_anew anew none })
-  walk ls shelf place (body ∷ bodies) m e is =
+  walk ls shelf place (body ∷ bodies) m e small is =
       let later = place + 5 + length body in
       let r = read_record_in f body in
       let go = moved f ls texts shelf place later body bodies m e r refl is in
       let n = go.then_ in
-      let w = walk ls shelf later bodies n e (subst (λ (x : Making). made_in (with_bodies_at f texts shelf later bodies x) ≡ Some e) go.is is) in
-      let o = one f ls body m go.its n go.step in
+      let w = walk ls shelf later bodies n e small.1 (subst (λ (x : Making). made_in (with_bodies_at f texts shelf later bodies x) ≡ Some e) go.is is) in
+      let o = one f ls body m go.its n small.0 go.step in
       let its = o.its in
       record {
         all = its ∷ w.all;
@@ -352,7 +369,7 @@ module _ (f : ℕ) where
             subst (λ (xs : List (List ℕ)). AreBodiesOf xs (its ∷ w.all)) (sym (one_in_front x.0 front rest anew h.2.0 x.1.0)) (x.1.1, w.anew_are old rest behind);
       }
 
-  -- ---- behind the first record, and behind one that tells a number
+  -- ---- behind the record that a journal begins with, and behind one that tells a number
 
   -- what stands behind them
   record Second (ls : List Instance) (shelf place : ℕ) (bodies : List (List ℕ)) (first e : Made) : Type 0 where
@@ -365,15 +382,16 @@ module _ (f : ℕ) where
     lines : from.book.file.lines ≡ first.book.file.lines
     head : from.book.file.head ≡ first.book.file.head
     others : rest ≡ others_of (is_some from.book.file.drawn) bodies
+    bytes : AreAllBytes rest
     anew : (xs : List (List ℕ)) → AreAnew f texts shelf place bodies (begun first) xs → AreAnew f texts shelf later rest (made from) xs
 
-  module _ (ls : List Instance) (shelf n : ℕ) (scripts : List Named) (e : Made) where
+  module _ (ls : List Instance) (fed : Bool) (shelf gate n : ℕ) (scripts : List Named) (e : Made) where
     abbrev start : Made
-    start = began shelf n scripts
+    start = began fed shelf gate n scripts
 
-    second : (place : ℕ) (bodies : List (List ℕ)) → made_in (with_bodies_at f texts shelf place bodies (begun start)) ≡ Some e → Second ls shelf place bodies start e
-    second place [] is = record { from = start; later = place; rest = []; is = is; stay = refl; marks = refl; lines = refl; head = refl; others = refl; anew = λ xs h. h }
-    second place (body ∷ bodies) is = by_record (read_record_in f body) refl
+    second : (place : ℕ) (bodies : List (List ℕ)) → AreAllBytes bodies → made_in (with_bodies_at f texts shelf place bodies (begun start)) ≡ Some e → Second ls shelf place bodies start e
+    second place [] small is = record { from = start; later = place; rest = []; is = is; stay = refl; marks = refl; lines = refl; head = refl; others = refl; bytes = tt; anew = λ xs h. h }
+    second place (body ∷ bodies) small is = by_record (read_record_in f body) refl
       where
         later_place : ℕ
         later_place = place + 5 + length body
@@ -392,6 +410,7 @@ module _ (f : ℕ) where
               lines = refl;
               head = refl;
               others = refl;
+              bytes = small;
               anew = λ xs h. (h.0, h.1, (h.2.0, (h.2.1.0, subst (λ (x : Making). AreAnew f texts shelf later_place bodies x h.1) here h.2.1.1)));
             }
 
@@ -406,6 +425,7 @@ module _ (f : ℕ) where
           lines = refl;
           head = refl;
           others = refl;
+          bytes = small.1;
           anew = λ xs h.
               let none : h.0 ≡ [] = subst (λ (r : Option Record). IsAnewBy f start body r h.0) read h.2.1.0 in
               let all : xs ≡ h.1 = h.2.0 ∙ ap (λ (ys : List (List ℕ)). ys ++ h.1) none in
@@ -416,41 +436,169 @@ module _ (f : ℕ) where
         by_record (Some (begins s named)) read = plainly (Some (begins s named)) read refl
         by_record (Some (changes c state)) read = plainly (Some (changes c state)) read refl
         by_record (Some (renews named)) read = plainly (Some (renews named)) read refl
+        by_record (Some follows) read = plainly (Some follows) read refl
+        by_record (Some promotes) read = plainly (Some promotes) read refl
 
-  -- these bodies, walked through
-  record Read (ls : List Instance) (shelf : ℕ) (first : List ℕ) (bodies : List (List ℕ)) (m : Made) : Type 0 where
+  -- ---- the record that a journal begins with, and those in front of it
+
+  -- what bodies tell behind what was made of those before them, of which together a book is made of a shelf that does not follow: the record
+  -- that its journal begins with, and what stands behind that
+  record Start (shelf gate : ℕ) (bodies : List (List ℕ)) (x : Making) : Type 0 where
+    fed : Bool
+    place : ℕ
+    first : List ℕ
+    rest : List (List ℕ)
+    bytes : AreAllBytes rest
+    one : First texts shelf (length first) (read_record_in f first)
+    plain : is_role first ≡ false
+    front : behind_front bodies ≡ first ∷ rest
+    stay : (ls : List Instance) → entries f ls texts shelf gate bodies x ≡ entries f ls texts shelf (place + 5 + length first) rest (begun (began fed shelf place (length first) one.scripts))
+    marks : marks_of f texts shelf gate bodies x ≡ marks_of f texts shelf (place + 5 + length first) rest (begun (began fed shelf place (length first) one.scripts))
+    makes : with_bodies_at f texts shelf gate bodies x ≡ with_bodies_at f texts shelf (place + 5 + length first) rest (begun (began fed shelf place (length first) one.scripts))
+    anew : IsOlder f → (xs : List (List ℕ)) → AreAnew f texts shelf gate bodies x xs
+        → (more : List (List ℕ)) × ((xs ≡ first ∷ more) × AreAnew f texts shelf (place + 5 + length first) rest (begun (began fed shelf place (length first) one.scripts)) more)
+
+  module _ (shelf : ℕ) (m : Made) (unfed : m.book.follows ≡ false) where
+    -- it stands here
+    start_here : (fed : Bool) (gate : ℕ) (body : List ℕ) (bodies : List (List ℕ)) (x : Making) → AreAllBytes (body ∷ bodies) → ((ls : List Instance) → entry_in f ls texts x body ≡ []) → mark_in f x body ≡ []
+        → (IsOlder f → (xs : List (List ℕ)) → IsAnewIn f x body xs → xs ≡ body ∷ []) → with_body_at f texts shelf gate body x ≡ first_by texts fed shelf gate (length body) (read_record_in f body)
+        → made_in (with_bodies_at f texts shelf gate (body ∷ bodies) x) ≡ Some m → Start shelf gate (body ∷ bodies) x
+    start_here fed gate body bodies x small none no_mark alone is makes =
+        let later = gate + 5 + length body in
+        let one = first_is f texts fed shelf gate (length body) later bodies m (read_record_in f body) (ap (λ (y : Making). made_in (with_bodies_at f texts shelf later bodies y)) (sym is) ∙ makes) in
+        let so : with_body_at f texts shelf gate body x ≡ begun (began fed shelf gate (length body) one.scripts) = is ∙ one.is fed gate in
+        let plain : is_role body ≡ false = role_is f body (begins one.on one.named) small.0 one.read in
+        record {
+          fed = fed;
+          place = gate;
+          first = body;
+          rest = bodies;
+          bytes = small.1;
+          one = one;
+          plain = plain;
+          front = ap (λ (t : Bool). if t then behind_front bodies else body ∷ bodies) plain;
+          stay = λ ls. ap (λ (es : List Entry). es ++ entries f ls texts shelf later bodies (with_body_at f texts shelf gate body x)) (none ls) ∙ ap (λ (y : Making). entries f ls texts shelf later bodies y) so;
+          marks = ap (λ (ts : List Bool). ts ++ marks_of f texts shelf later bodies (with_body_at f texts shelf gate body x)) no_mark ∙ ap (λ (y : Making). marks_of f texts shelf later bodies y) so;
+          makes = ap (λ (y : Making). with_bodies_at f texts shelf later bodies y) so;
+          anew = λ older xs h. (
+            h.1,
+            (one_in_front body h.0 h.1 xs h.2.0 (alone older h.0 h.2.1.0), subst (λ (y : Making). AreAnew f texts shelf later bodies y h.1) so h.2.1.1),
+          );
+        }
+
+    -- it stands behind this one, which tells whether the shelf follows
+    start_later : (gate : ℕ) (body : List ℕ) (bodies : List (List ℕ)) (x y : Making) → ((ls : List Instance) → entry_in f ls texts x body ≡ []) → mark_in f x body ≡ [] → (IsOlder f → ⊥) → is_role body ≡ true
+        → with_body_at f texts shelf gate body x ≡ y → Start shelf (gate + 5 + length body) bodies y → Start shelf gate (body ∷ bodies) x
+    start_later gate body bodies x y none no_mark never role is s =
+        let later = gate + 5 + length body in
+        record {
+          fed = s.fed;
+          place = s.place;
+          first = s.first;
+          rest = s.rest;
+          bytes = s.bytes;
+          one = s.one;
+          plain = s.plain;
+          front = ap (λ (t : Bool). if t then behind_front bodies else body ∷ bodies) role ∙ s.front;
+          stay = λ ls. ap (λ (es : List Entry). es ++ entries f ls texts shelf later bodies (with_body_at f texts shelf gate body x)) (none ls)
+              ∙ (ap (λ (z : Making). entries f ls texts shelf later bodies z) is ∙ s.stay ls);
+          marks = ap (λ (ts : List Bool). ts ++ marks_of f texts shelf later bodies (with_body_at f texts shelf gate body x)) no_mark
+              ∙ (ap (λ (z : Making). marks_of f texts shelf later bodies z) is ∙ s.marks);
+          makes = ap (λ (z : Making). with_bodies_at f texts shelf later bodies z) is ∙ s.makes;
+          anew = λ older xs h. absurd (never older);
+        }
+
+    start_waited : (IsOlder f → ⊥) → (gate : ℕ) (bodies : List (List ℕ)) → AreAllBytes bodies → made_in (with_bodies_at f texts shelf gate bodies waited) ≡ Some m → Start shelf gate bodies waited
+    start_waited never gate [] small makes = absurd (none-some m makes)
+    start_waited never gate (body ∷ bodies) small makes = start_here false gate body bodies waited small (λ ls. refl) refl (λ older xs h. absurd (never older)) refl makes
+
+    start_waits : (IsOlder f → ⊥) → (s gate : ℕ) (bodies : List (List ℕ)) → AreAllBytes bodies → made_in (with_bodies_at f texts shelf gate bodies (waits s)) ≡ Some m → Start shelf gate bodies (waits s)
+    start_waits never s gate [] small makes =
+        let at : waiting s ≡ m = cc makes in
+        let no : true ≡ false = ap (λ (y : Made). y.book.follows) at ∙ unfed in
+        absurd (cc no)
+    start_waits never s gate (body ∷ bodies) small makes = by_record (read_record_in f body) refl
+      where
+        plainly : (r : Option Record) → read_record_in f body ≡ r → fed_by texts shelf gate (length body) r ≡ first_by texts true shelf gate (length body) r → Start shelf gate (body ∷ bodies) (waits s)
+        plainly r read alike =
+            start_here true gate body bodies (waits s) small (λ ls. refl) refl (λ older xs h. absurd (never older))
+            (ap (fed_by texts shelf gate (length body)) read ∙ (alike ∙ sym (ap (first_by texts true shelf gate (length body)) read))) makes
+
+        by_record : (r : Option Record) → read_record_in f body ≡ r → Start shelf gate (body ∷ bodies) (waits s)
+        by_record (Some promotes) read =
+            let is : with_body_at f texts shelf gate body (waits s) ≡ waited = ap (fed_by texts shelf gate (length body)) read in
+            start_later gate body bodies (waits s) waited (λ ls. refl) refl never (role_is f body promotes small.0 read) is
+            (start_waited never (gate + 5 + length body) bodies small.1 (ap (λ (y : Making). made_in (with_bodies_at f texts shelf (gate + 5 + length body) bodies y)) (sym is) ∙ makes))
+        by_record None read = plainly None read refl
+        by_record (Some (begins t named)) read = plainly (Some (begins t named)) read refl
+        by_record (Some (changes c state)) read = plainly (Some (changes c state)) read refl
+        by_record (Some (renews named)) read = plainly (Some (renews named)) read refl
+        by_record (Some (draws number)) read = plainly (Some (draws number)) read refl
+        by_record (Some follows) read = plainly (Some follows) read refl
+
+    start_of : (gate : ℕ) (bodies : List (List ℕ)) → AreAllBytes bodies → made_in (with_bodies_at f texts shelf gate bodies nothing) ≡ Some m → Start shelf gate bodies nothing
+    start_of gate [] small makes = absurd (none-some m makes)
+    start_of gate (body ∷ bodies) small makes = by_record (read_record_in f body) refl
+      where
+        plainly : (r : Option Record) → read_record_in f body ≡ r → start_by texts shelf gate (length body) r ≡ first_by texts false shelf gate (length body) r → Start shelf gate (body ∷ bodies) nothing
+        plainly r read alike =
+            start_here false gate body bodies nothing small (λ ls. refl) refl (λ older xs h. h)
+            (ap (start_by texts shelf gate (length body)) read ∙ (alike ∙ sym (ap (first_by texts false shelf gate (length body)) read))) makes
+
+        by_record : (r : Option Record) → read_record_in f body ≡ r → Start shelf gate (body ∷ bodies) nothing
+        by_record (Some follows) read =
+            let is : with_body_at f texts shelf gate body nothing ≡ waits shelf = ap (start_by texts shelf gate (length body)) read in
+            let never : IsOlder f → ⊥ = λ older. (let no : true ≡ false = tells_none f body follows older small.0 read in cc no) in
+            start_later gate body bodies nothing (waits shelf) (λ ls. refl) refl never (role_is f body follows small.0 read) is
+            (start_waits never shelf (gate + 5 + length body) bodies small.1 (ap (λ (y : Making). made_in (with_bodies_at f texts shelf (gate + 5 + length body) bodies y)) (sym is) ∙ makes))
+        by_record None read = plainly None read refl
+        by_record (Some (begins t named)) read = plainly (Some (begins t named)) read refl
+        by_record (Some (changes c state)) read = plainly (Some (changes c state)) read refl
+        by_record (Some (renews named)) read = plainly (Some (renews named)) read refl
+        by_record (Some (draws number)) read = plainly (Some (draws number)) read refl
+        by_record (Some promotes) read = plainly (Some promotes) read refl
+
+  -- these bodies, walked through: the first that is no role's, and those behind it
+  record Read (ls : List Instance) (shelf : ℕ) (bodies : List (List ℕ)) (m : Made) : Type 0 where
+    first : List ℕ
+    behind : List (List ℕ)
+    plain : is_role first ≡ false
+    front : behind_front bodies ≡ first ∷ behind
     all : List (Option Kept)
     rest : List (List ℕ)
-    others : rest ≡ others_of (is_some m.book.file.drawn) bodies
-    marks : marks_of f texts shelf 8 (first ∷ bodies) nothing ≡ map is_some all
-    stay : entries f ls texts shelf 8 (first ∷ bodies) nothing ≡ staying ls (entries_in all)
+    others : rest ≡ others_of (is_some m.book.file.drawn) behind
+    marks : marks_of f texts shelf 8 bodies nothing ≡ map is_some all
+    stay : entries f ls texts shelf 8 bodies nothing ≡ staying ls (entries_in all)
     lines : m.book.file.lines ≡ lines_in all
     head : m.book.file.head ≡ 14 + length first
     bodies_are : f ≡ newest → AreBodiesOf rest all
     same_lines : f ≡ newest → lines_in all ≡ map line_of (entries_in all)
-    anew_are : (f ≡ newest → ⊥) → (anew : List (List ℕ)) → AreAnew f texts shelf 8 (first ∷ bodies) nothing anew → (behind : List (List ℕ)) × ((anew ≡ first ∷ behind) × AreBodiesOf behind all)
+    anew_are : IsOlder f → (anew : List (List ℕ)) → AreAnew f texts shelf 8 bodies nothing anew → (more : List (List ℕ)) × ((anew ≡ first ∷ more) × AreBodiesOf more all)
 
-  read : (ls : List Instance) (shelf : ℕ) (first : List ℕ) (bodies : List (List ℕ)) (m : Made) → made_in (book_of_format f texts shelf (first ∷ bodies)) ≡ Some m → Read ls shelf first bodies m
-  read ls shelf first bodies m makes =
-      let n = length first in
-      let one_first = first_is f texts shelf n (8 + 5 + n) bodies m (read_record_in f first) makes in
-      let here = ap (λ (y : Making). made_in (with_bodies_at f texts shelf (8 + 5 + n) bodies y)) (sym one_first.is) ∙ makes in
-      let two = second ls shelf n one_first.scripts m (8 + 5 + n) bodies here in
-      let w = walk ls shelf two.later two.rest two.from m two.is in
+  read : (ls : List Instance) (shelf : ℕ) (bodies : List (List ℕ)) (m : Made) → m.book.follows ≡ false → AreAllBytes bodies → made_in (book_of_format f texts shelf bodies) ≡ Some m → Read ls shelf bodies m
+  read ls shelf bodies m unfed small makes =
+      let s = start_of shelf m unfed 8 bodies small makes in
+      let later = s.place + 5 + length s.first in
+      let here = ap made_in (sym s.makes) ∙ makes in
+      let two = second ls s.fed shelf s.place (length s.first) s.one.scripts m later s.rest s.bytes here in
+      let w = walk ls shelf two.later two.rest two.from m two.bytes two.is in
       record {
+        first = s.first;
+        behind = s.rest;
+        plain = s.plain;
+        front = s.front;
         all = w.all;
         rest = two.rest;
-        others = two.others ∙ ap (λ (o : Option ℕ). others_of (is_some o) bodies) (sym w.drawn);
-        marks = ap (marks_of f texts shelf (8 + 5 + n) bodies) one_first.is ∙ (two.marks ∙ w.marks);
-        stay = ap (entries f ls texts shelf (8 + 5 + n) bodies) one_first.is ∙ (two.stay ∙ w.stay);
+        others = two.others ∙ ap (λ (o : Option ℕ). others_of (is_some o) s.rest) (sym w.drawn);
+        marks = s.marks ∙ (two.marks ∙ w.marks);
+        stay = s.stay ls ∙ (two.stay ∙ w.stay);
         lines = w.lines ∙ ap (λ (xs : List Line). xs ++ lines_in w.all) two.lines;
         head = w.head ∙ two.head;
         bodies_are = w.bodies_are;
         same_lines = w.same_lines;
-        anew_are = λ old anew h. (
-          h.1,
-          (one_in_front first h.0 h.1 anew h.2.0 h.2.1.0, w.anew_are old h.1 (two.anew h.1 (subst (λ (y : Making). AreAnew f texts shelf (8 + 5 + n) bodies y h.1) one_first.is h.2.1.1))),
-        );
+        anew_are = λ older anew h.
+            let a = s.anew older anew h in
+            (a.0, (a.1.0, w.anew_are older a.0 (two.anew a.0 a.1.1)));
       }
 
 -- what is known of a file of this format whose bodies make this
@@ -460,42 +608,44 @@ pub record KnowsMade (f shelf : ℕ) (bodies : List (List ℕ)) (m : Made) (note
   pub marks : marks_in notes ≡ marks_of f texts shelf 8 bodies nothing
   pub planned : plan ≡ plan_in m.book.instances notes.notes.items
 
-module _ (f shelf : ℕ) (first : List ℕ) (bodies : List (List ℕ)) (m : Made) (makes : made_in (book_of_format f texts shelf (first ∷ bodies)) ≡ Some m) where
+module _ (f shelf : ℕ) (bodies : List (List ℕ)) (m : Made) (unfed : m.book.follows ≡ false) (small : AreAllBytes bodies) (makes : made_in (book_of_format f texts shelf bodies) ≡ Some m) where
   abbrev ls : List Instance
   ls = m.book.instances
 
-  abbrev r : Read f ls shelf first bodies m
-  r = read f ls shelf first bodies m makes
+  abbrev r : Read f ls shelf bodies m
+  r = read f ls shelf bodies m unfed small makes
 
-  copies_is : copies f texts shelf first bodies m ≡ first ∷ (body_of (draws m.book.logged) ∷ map body_in (kept ls r.all))
-  copies_is = ap (λ (es : List Entry). first ∷ (body_of (draws m.book.logged) ∷ map body_in (entries_joined es))) r.stay
+  copies_is : copies f texts shelf bodies m ≡ r.first ∷ (body_of (draws m.book.logged) ∷ map body_in (kept ls r.all))
+  copies_is =
+      ap (λ (bs : List (List ℕ)). first_body_of bs ∷ (body_of (draws m.book.logged) ∷ map body_in (entries_joined (entries f ls texts shelf 8 bodies nothing)))) r.front
+      ∙ ap (λ (es : List Entry). r.first ∷ (body_of (draws m.book.logged) ∷ map body_in (entries_joined es))) r.stay
 
-  module _ (notes : FileNotes) (plan : List Bool) (k : KnowsMade f shelf (first ∷ bodies) m notes plan) where
+  module _ (notes : FileNotes) (plan : List Bool) (k : KnowsMade f shelf bodies m notes plan) where
     abbrev ns : List Note
     ns = notes.notes.items
 
     drawn_is : is_some m.book.file.drawn ≡ notes.drawn
     drawn_is = ap (λ (g : File). is_some g.drawn) (sym k.file) ∙ sym k.noted.drawn
 
-    others_are : r.rest ≡ others_of notes.drawn bodies
-    others_are = r.others ∙ ap (λ (t : Bool). others_of t bodies) drawn_is
+    others_are : r.rest ≡ others_of notes.drawn r.behind
+    others_are = r.others ∙ ap (λ (t : Bool). others_of t r.behind) drawn_is
 
     are : AreNotesOf ns r.all
     are = notes_are ns r.all (k.marks ∙ r.marks) (k.noted.lines ∙ ap (map note_of) (ap (λ (g : File). g.lines) k.file ∙ r.lines))
 
     -- of the newest format what is copied
-    pub copied_so : f ≡ newest → copied plan notes.drawn (body_of (draws m.book.logged)) (first ∷ bodies) ≡ copies f texts shelf first bodies m
+    pub copied_so : f ≡ newest → copied plan notes.drawn (body_of (draws m.book.logged)) (behind_front bodies) ≡ copies f texts shelf bodies m
     copied_so now =
-        let chosen : picked plan (others_of notes.drawn bodies) ≡ map body_in (kept ls r.all) =
-        ap (λ (p : List Bool). picked p (others_of notes.drawn bodies)) k.planned ∙ (ap (picked (plan_in ls ns)) (sym others_are) ∙ picks ls ns r.all r.rest are (r.bodies_are now)) in
-        ap (λ (xs : List (List ℕ)). first ∷ (body_of (draws m.book.logged) ∷ xs)) chosen ∙ sym copies_is
+        let chosen : picked plan (others_of notes.drawn r.behind) ≡ map body_in (kept ls r.all) =
+        ap (λ (p : List Bool). picked p (others_of notes.drawn r.behind)) k.planned ∙ (ap (picked (plan_in ls ns)) (sym others_are) ∙ picks ls ns r.all r.rest are (r.bodies_are now)) in
+        ap (copied plan notes.drawn (body_of (draws m.book.logged))) r.front ∙ (ap (λ (xs : List (List ℕ)). r.first ∷ (body_of (draws m.book.logged) ∷ xs)) chosen ∙ sym copies_is)
 
     -- of an older one what is written
-    pub written_so : (f ≡ newest → ⊥) → (anew : List (List ℕ)) → AreAnew f texts shelf 8 (first ∷ bodies) nothing anew → copied plan false (body_of (draws m.book.logged)) anew ≡ copies f texts shelf first bodies m
-    written_so old anew h =
-        let has = r.anew_are old anew h in
+    pub written_so : IsOlder f → (anew : List (List ℕ)) → AreAnew f texts shelf 8 bodies nothing anew → copied plan false (body_of (draws m.book.logged)) anew ≡ copies f texts shelf bodies m
+    written_so older anew h =
+        let has = r.anew_are older anew h in
         let chosen : picked plan has.0 ≡ map body_in (kept ls r.all) = ap (λ (p : List Bool). picked p has.0) k.planned ∙ picks ls ns r.all has.0 are has.1.1 in
-        ap (copied plan false (body_of (draws m.book.logged))) has.1.0 ∙ (ap (λ (xs : List (List ℕ)). first ∷ (body_of (draws m.book.logged) ∷ xs)) chosen ∙ sym copies_is)
+        ap (copied plan false (body_of (draws m.book.logged))) has.1.0 ∙ (ap (λ (xs : List (List ℕ)). r.first ∷ (body_of (draws m.book.logged) ∷ xs)) chosen ∙ sym copies_is)
 
 -- ---- of the newest format
 
@@ -508,12 +658,12 @@ lines_stay live (e ∷ es) = by_test (lines_stay live es) (stays live (line_of e
     by_test h true = ap (λ (xs : List Line). line_of e ∷ xs) h
     by_test h false = h
 
-module _ (shelf : ℕ) (first : List ℕ) (bodies : List (List ℕ)) (m : Made) (makes : made_in (book_of_format newest texts shelf (first ∷ bodies)) ≡ Some m) where
+module _ (shelf : ℕ) (bodies : List (List ℕ)) (m : Made) (unfed : m.book.follows ≡ false) (small : AreAllBytes bodies) (makes : made_in (book_of_format newest texts shelf bodies) ≡ Some m) where
   abbrev now_ls : List Instance
   now_ls = m.book.instances
 
-  abbrev now_r : Read newest now_ls shelf first bodies m
-  now_r = read newest now_ls shelf first bodies m makes
+  abbrev now_r : Read newest now_ls shelf bodies m
+  now_r = read newest now_ls shelf bodies m unfed small makes
 
   kept_lines : map line_of (kept now_ls now_r.all) ≡ last_sweeps (filter (stays now_ls) m.book.file.lines)
   kept_lines = lines_joined (staying now_ls (entries_in now_r.all)) ∙ ap last_sweeps (lines_stay now_ls (entries_in now_r.all) ∙ ap (filter (stays now_ls)) (sym (now_r.lines ∙ now_r.same_lines refl)))
@@ -528,12 +678,13 @@ module _ (shelf : ℕ) (first : List ℕ) (bodies : List (List ℕ)) (m : Made) 
       let h = frames_long es in
       omega (arith, length-framed body, length-append (framed body) (frames (map body_in es)), h)
 
-  pub long_so : length (at_rest (copies newest texts shelf first bodies m)) ≡ file_length (compaction m.book)
+  pub long_so : length (at_rest (copies newest texts shelf bodies m)) ≡ file_length (compaction m.book)
   long_so =
       let d = body_of (draws m.book.logged) in
       let rest = map body_in (kept now_ls now_r.all) in
+      let first = now_r.first in
       let all = first ∷ (d ∷ rest) in
-      let here : length (at_rest (copies newest texts shelf first bodies m)) ≡ length (at_rest all) = ap (λ (xs : List (List ℕ)). length (at_rest xs)) (copies_is newest shelf first bodies m makes) in
+      let here : length (at_rest (copies newest texts shelf bodies m)) ≡ length (at_rest all) = ap (λ (xs : List (List ℕ)). length (at_rest xs)) (copies_is newest shelf bodies m unfed small makes) in
       let others : length (frames rest) ≡ lines_length (last_sweeps (filter (stays now_ls) m.book.file.lines)) = frames_long (kept now_ls now_r.all) ∙ ap lines_length kept_lines in
       let nine : length d ≡ 9 = nine_long m.book.logged in
       let one : length (frames all) ≡ 5 + length first + length (frames (d ∷ rest)) = omega (arith, length-framed first, length-append (framed first) (frames (d ∷ rest))) in
@@ -582,21 +733,27 @@ as_many_copies : (es : List Entry) → length (map body_in es) ≡ length es
 as_many_copies [] = refl
 as_many_copies (e ∷ es) = ap suc (as_many_copies es)
 
+-- the second one of these two lists, where each has one body in front
+behind_is : (x y : List ℕ) (xs ys : List (List ℕ)) → x ∷ xs ≡ y ∷ ys → ys ≡ xs
+behind_is x y xs ys e = cc e
+
 -- what is known of the compacted file, whose bodies make this with the lines that stay
-pub marks_so : (shelf : ℕ) (first : List ℕ) (bodies : List (List ℕ)) (m k : Made) (makes : made_in (book_of_format newest texts shelf (first ∷ bodies)) ≡ Some m) (notes after : FileNotes) (plan : List Bool)
-    → KnowsMade newest shelf (first ∷ bodies) m notes plan → made_in (book_of_format newest texts shelf (copies newest texts shelf first bodies m)) ≡ Some k → k.book.file ≡ compaction m.book
-    → IsPicked plan notes after → marks_in after ≡ marks_of newest texts shelf 8 (copies newest texts shelf first bodies m) nothing
-marks_so shelf first bodies m k makes notes after plan known again file chosen =
+pub marks_so : (shelf : ℕ) (bodies : List (List ℕ)) (m k : Made) (unfed : m.book.follows ≡ false) (small : AreAllBytes bodies) (makes : made_in (book_of_format newest texts shelf bodies) ≡ Some m) (notes after : FileNotes) (plan : List Bool)
+    → KnowsMade newest shelf bodies m notes plan → k.book.follows ≡ false → AreAllBytes (copies newest texts shelf bodies m) → made_in (book_of_format newest texts shelf (copies newest texts shelf bodies m)) ≡ Some k
+    → k.book.file ≡ compaction m.book → IsPicked plan notes after → marks_in after ≡ marks_of newest texts shelf 8 (copies newest texts shelf bodies m) nothing
+marks_so shelf bodies m k unfed small makes notes after plan known unfed_then small_then again file chosen =
     let ls = m.book.instances in
     let ns = notes.notes.items in
-    let r = read newest ls shelf first bodies m makes in
+    let r = read newest ls shelf bodies m unfed small makes in
     let rest = map body_in (kept ls r.all) in
     let number = body_of (draws m.book.logged) in
-    let is = copies_is newest shelf first bodies m makes in
-    let q = read newest ls shelf first (number ∷ rest) k (ap (λ (bs : List (List ℕ)). made_in (book_of_format newest texts shelf bs)) (sym is) ∙ again) in
+    let is = copies_is newest shelf bodies m unfed small makes in
+    let q = read newest ls shelf (r.first ∷ (number ∷ rest)) k unfed_then (subst AreAllBytes is small_then) (ap (λ (bs : List (List ℕ)). made_in (book_of_format newest texts shelf bs)) (sym is) ∙ again) in
+    let behind : q.behind ≡ number ∷ rest =
+    behind_is r.first q.first (number ∷ rest) q.behind (sym (ap (λ (t : Bool). if t then behind_front (number ∷ rest) else r.first ∷ (number ∷ rest)) r.plain) ∙ q.front) in
     let drawn : is_some k.book.file.drawn ≡ true = ap (λ (g : File). is_some g.drawn) file in
-    let these : q.rest ≡ rest = q.others ∙ ap (λ (t : Bool). others_of t (number ∷ rest)) drawn in
-    let lines : k.book.file.lines ≡ map line_of (kept ls r.all) = ap (λ (g : File). g.lines) file ∙ sym (kept_lines shelf first bodies m makes) in
+    let these : q.rest ≡ rest = q.others ∙ (ap (λ (t : Bool). others_of t q.behind) drawn ∙ ap (others_of true) behind) in
+    let lines : k.book.file.lines ≡ map line_of (kept ls r.all) = ap (λ (g : File). g.lines) file ∙ sym (kept_lines shelf bodies m unfed small makes) in
     let same : map line_of (entries_in q.all) ≡ map line_of (kept ls r.all) = sym (q.lines ∙ q.same_lines refl) ∙ lines in
     let many : length (entries_in q.all) ≡ length (kept ls r.all) = sym (as_many_lines (entries_in q.all)) ∙ (ap (λ (xs : List Line). length xs) same ∙ as_many_lines (kept ls r.all)) in
     let bodies_many : length q.all ≡ length (kept ls r.all) =
@@ -607,6 +764,6 @@ marks_so shelf first bodies m k makes notes after plan known again file chosen =
     chosen.notes ∙ (ap (λ (p : List Bool). picked p ns) known.planned ∙ plan_picks ls ns m.book.file.lines lines_of_all) in
     let notes_many : length after.notes.items ≡ length (kept ls r.all) =
     ap (λ (xs : List Note). length xs) notes_after
-    ∙ (as_many_notes (last_sweeps (filter (stays ls) m.book.file.lines)) ∙ (ap (λ (xs : List Line). length xs) (sym (kept_lines shelf first bodies m makes)) ∙ as_many_lines (kept ls r.all))) in
+    ∙ (as_many_notes (last_sweeps (filter (stays ls) m.book.file.lines)) ∙ (ap (λ (xs : List Line). length xs) (sym (kept_lines shelf bodies m unfed small makes)) ∙ as_many_lines (kept ls r.all))) in
     told_trues after.notes.items chosen.told
     ∙ (ap trues (notes_many ∙ sym bodies_many) ∙ (sym all_taken ∙ (sym q.marks ∙ ap (λ (bs : List (List ℕ)). marks_of newest texts shelf 8 bs nothing) (sym is))))

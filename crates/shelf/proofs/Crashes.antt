@@ -1,6 +1,6 @@
 -- What is opened behind a crash.
 use Rattle.std.proofs.Common.{◌≡◌, inl, inr, ⊎_elim, ℕ, List, None, length, refl, sym, ◌∙◌, ap, subst}
-use Rattle.setup_reader.specs.Texts.{setup_of_texts as texts}
+use Rattle.book_recovery.specs.SetupReader.Texts.{setup_of_texts as texts}
 use Rattle.script_nodes.specs.Setup.{Named}
 use Rattle.web_disk.specs.View.{View}
 use Rattle.replay_spec.specs.Book.{Book}
@@ -9,11 +9,11 @@ use Rattle.replay_spec.specs.Step as step
 use Rattle.replay_spec.specs.Step.{Fate, lost, kept, live}
 use Rattle.replay_spec.specs.Invariant.{IsSound}
 use Rattle.replay_spec.proofs.Steps.{stepped}
-use Rattle.journal_spec.specs.Making.{Making, damaged, other, made_in}
-use Rattle.journal_spec.specs.Bytes.{book_in_bytes}
-use Rattle.journal_spec.specs.Standing.{IsBook, if_kept}
-use Rattle.journal_spec.proofs.Between.{make_books}
-use Rattle.journal_spec.proofs.Setups.{crashes}
+use Rattle.book_recovery.specs.JournalSpec.Making.{Making, damaged, other, made_in}
+use Rattle.book_recovery.specs.JournalSpec.Bytes.{book_in_bytes}
+use Rattle.book_recovery.specs.JournalSpec.Standing.{IsBook, if_kept}
+use Rattle.book_recovery.proofs.JournalSpec.Between.{make_books}
+use Rattle.book_recovery.proofs.JournalSpec.Setups.{crashes}
 use Rattle.shelf.specs.Opening.{IsCrashed, AReopenedShelfHasCrashed, AReopenedShelfIsSound, AStandingDiskOpens}
 use Rattle.shelf.specs.declared.begin.BeginFault.TheVariants as fault
 

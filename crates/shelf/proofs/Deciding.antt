@@ -11,19 +11,19 @@ use Rattle.page_names.specs.Views.{target_of}
 use Rattle.replay_spec.specs.Rules.{Rules}
 use Rattle.replay_spec.specs.Admission.{Admission, begins, resumes, refused, refusal_of, admit}
 use Rattle.replay_spec.specs.Next.{Ticket as spec_ticket}
-use Rattle.replay_spec.specs.Book.{Doubt, Book, at_number, page_at}
+use Rattle.replay_spec.specs.Book.{Book, at_number, page_at}
 use Rattle.replay_spec.specs.Invariant.{IsOrderly}
 use Rattle.replay_spec.proofs.Stand.{among_of}
-use Rattle.instance_book.specs.declared.book.Book as kept
-use Rattle.instance_book.specs.declared.numbered.Numbered.{Numbered}
-use Rattle.instance_book.specs.declared.instance.KeptInstance.{KeptInstance}
+use Rattle.book_recovery.specs.InstanceBook.declared.book.Book as kept
+use Rattle.book_recovery.specs.InstanceBook.declared.numbered.Numbered.{Numbered}
+use Rattle.book_recovery.specs.InstanceBook.declared.instance.KeptInstance.{KeptInstance}
 use Rattle.book_visits.specs.declared.ticket.Ticket.{Ticket}
-use Rattle.instance_book.specs.Standing.{book_under}
-use Rattle.instance_book.proofs.Seen.{instance_some}
+use Rattle.book_recovery.specs.InstanceBook.Standing.{book_under}
+use Rattle.book_recovery.proofs.InstanceBook.Seen.{instance_some}
 use Rattle.replay_spec.specs.Step as step
-use Rattle.replay_spec.specs.Step.{Decision, plain, replies, unless, down_by, decide}
+use Rattle.replay_spec.specs.Step.{Decision, plain, replies, unless, decide}
 use Rattle.book_visits.specs.declared.prepared.Prepared.{Prepared}
-use Rattle.instance_book.specs.Views.{Beside, no_journal, book_of, pages_of, instance_of}
+use Rattle.book_recovery.specs.InstanceBook.Views.{Beside, no_journal, book_of, pages_of, instance_of}
 use Rattle.book_visits.specs.Admissions.{refusal_for}
 use Rattle.book_visits.specs.Views.{ticket_of, reply_of}
 use Rattle.book_visits.specs.Prepares.{Prepares, IsOfRun, WantsRoom, IsNewBy}
@@ -46,6 +46,7 @@ decides library r b d (Err (reply.Oversize n)) h = h
 decides library r b d (Err (reply.JournalFull n)) h = h
 decides library r b d (Err (reply.DiskFault count)) h = h
 decides library r b d (Err (reply.Down count)) h = h
+decides library r b d (Err reply.Following) h = h
 decides library r b d (Err reply.Worn) h = h
 decides library r b d (Err reply.Memory) h = tt
 
@@ -55,13 +56,13 @@ refused_decides rules b t (resumes at) why e = absurd (none-some why e)
 refused_decides rules b t (refused r) why e = ap (λ (x : Refusal). replies (step.refusal x)) (same_Some r why e)
 
 -- a target that is not admitted is answered with its refusal
-pub refused_beside : (l : Library) (beside : Beside) (r : limits_of.Rules) (b : kept.Book) (t : Ticket) (why : Refusal) → refusal_for l b t.target ≡ Some why → beside.down ≡ None
+pub refused_beside : (l : Library) (beside : Beside) (r : limits_of.Rules) (b : kept.Book) (t : Ticket) (why : Refusal) → refusal_for l b t.target ≡ Some why → step.barred (book_of l beside b) ≡ None
     → decision_beside l beside r b t ≡ replies (step.refusal why)
-refused_beside l beside r b t why told up =
+refused_beside l beside r b t why told free =
     let here = book_of l beside b in
     let x = target_of t.target in
     let rules = unmeasured r in
-    ap (λ (o : Option Doubt). unless (down_by o) (decide rules here (ticket_of t) (admit here x))) up
+    ap (λ (o : Option step.Reply). unless o (decide rules here (ticket_of t) (admit here x))) free
     ∙ refused_decides rules here (ticket_of t) (admit here x) why (ap refusal_of (admit_same l beside no_journal b x) ∙ told)
 
 -- what a run comes to

@@ -1,39 +1,39 @@
 -- A ticket fits the book behind its take; and calls on a shelf whose book was made anew, the same.
 use Rattle.std.proofs.Common.{◌≡◌, ◌∙◌, ap, sym, subst, ℕ, Bool, List, [], Option, Some, None, IfSome, slice_get}
 use Rattle.script_nodes.specs.Setup.{Named, Library}
-use Rattle.setup_reader.specs.Texts.{setup_of_texts as texts}
+use Rattle.book_recovery.specs.SetupReader.Texts.{setup_of_texts as texts}
 use Rattle.page_names.specs.Names.{Destination, start, page}
 use Rattle.replay_spec.specs.Book.{Book, draw}
 use Rattle.replay_spec.specs.Admission.{Admission, begins, resumes, refused, refusal_of, admit}
 use Rattle.replay_spec.proofs.Admitted.{start_is_no_page, admit_drawn}
 use Rattle.book_visits.specs.declared.ticket.Ticket.{Ticket}
 use Rattle.book_visits.specs.Fits.{FitsAs, FitsIfStart}
-use Rattle.instance_book.specs.Makes.{rules_with}
+use Rattle.book_recovery.specs.InstanceBook.Makes.{rules_with}
 use Rattle.book_visits.specs.Prepares.{HasItsScript, IsCarriedOut}
-use Rattle.instance_book.specs.Places as sources
-use Rattle.instance_book.specs.Makes.{StaysSame, KeepsStates}
-use Rattle.instance_book.specs.Swept.{cells_in, cells_at}
+use Rattle.book_recovery.specs.InstanceBook.Places as sources
+use Rattle.book_recovery.specs.InstanceBook.Makes.{StaysSame, KeepsStates}
+use Rattle.book_recovery.specs.InstanceBook.Swept.{cells_in, cells_at}
 use Rattle.book_visits.specs.declared.prepared.Prepared.{Prepared}
-use Rattle.instance_book.proofs.Seen.{cells_seen}
+use Rattle.book_recovery.proofs.InstanceBook.Seen.{cells_seen}
 use Rattle.machine_states.specs.Views.{segment_of}
 use Rattle.script_value.specs.Val.{Val}
 use Rattle.instance_cells.specs.Cells.{Effect}
 use Rattle.page_names.specs.Views.{target_of}
-use Rattle.instance_book.specs.declared.book.Book as rust
-use Rattle.instance_book.specs.declared.change.Change as prepared
-use Rattle.instance_book.specs.Views as kept
+use Rattle.book_recovery.specs.InstanceBook.declared.book.Book as rust
+use Rattle.book_recovery.specs.InstanceBook.declared.change.Change as prepared
+use Rattle.book_recovery.specs.InstanceBook.Views as kept
 use Rattle.book_visits.specs.Changes.{decision_of, HasStateBy}
 use Rattle.web_disk.specs.View.{View}
 use Rattle.page_journal.specs.declared.journal.Journal.{Journal}
-use Rattle.journal_spec.specs.Standing.{if_kept, Throughout}
+use Rattle.book_recovery.specs.JournalSpec.Standing.{if_kept, Throughout}
 use Rattle.replay_spec.specs.Runs as runs
 use Rattle.replay_spec.specs.Step as step
 use Rattle.shelf.specs.declared.rules.Rules as limits_of
 use Rattle.shelf.specs.declared.shelf.Shelf.{Shelf}
-use Rattle.instance_book.specs.Standing.{book_under}
+use Rattle.book_recovery.specs.InstanceBook.Standing.{book_under}
 use Rattle.book_visits.specs.Laws.{KeepsStateAs}
 use Rattle.shelf.specs.Views.{rules_of, library_in, book_in, shelf_of, HasGiven, IsStep, IsEvent, IsOwnShelf}
-use Rattle.journal_spec.specs.Laws.{MeasuresDoubt}
+use Rattle.book_recovery.specs.JournalSpec.Laws.{MeasuresDoubt}
 use Rattle.shelf.specs.Owning.{StaysOwnThroughout, StandsOwn}
 use Rattle.shelf.specs.Events.{HasMoments, HasOwnMoments}
 use Rattle.shelf.specs.Holding.{AreHeld, AreHeldBy}

@@ -4,7 +4,7 @@ use Rattle.std.specs.Prelude.{nat_lt}
 use Rattle.std.proofs.lemmas.Bool.Decides.{nat_tests}
 use Rattle.std.proofs.lemmas.List.{append-nil}
 use Rattle.script_value.specs.declared.outcome.TxName.{TxName}
-use Rattle.setup_reader.specs.Texts.{setup_of_texts as texts}
+use Rattle.book_recovery.specs.SetupReader.Texts.{setup_of_texts as texts}
 use Rattle.web_disk.specs.View.{View, LeavesOnly}
 use Rattle.value_bytes.specs.Laws.{AreBytes}
 use Rattle.page_journal.specs.Records.{newest, stored, format_of}
@@ -16,14 +16,14 @@ use Rattle.replay_spec.specs.Book.{Change, sweeps, Book}
 use Rattle.journal_records.specs.Records.{changes, IsInGrammar}
 use Rattle.journal_records.specs.Laws.{AreRecordsExact}
 use Rattle.journal_records.specs.Old.{read_record_in}
-use Rattle.journal_spec.specs.Before.{Earlier, Made, made_of}
-use Rattle.journal_spec.specs.Retaking.{Told, unread, misread, told, told_in, landing}
-use Rattle.journal_spec.specs.Making.{Making, nothing, begun, made, damaged, other, made_in}
-use Rattle.journal_spec.specs.Old.{landing_told, with_body_at, with_bodies_at, book_of_format, format_of_now}
-use Rattle.journal_spec.specs.Keeping.{IsTakenAs, IsTaken, Keeps, body_by}
-use Rattle.journal_spec.proofs.Taking.{IsNew, moved_in, there}
-use Rattle.journal_spec.specs.Reading.{AreAllBytes}
-use Rattle.journal_spec.proofs.Between.{closed_format, may_format}
+use Rattle.book_recovery.specs.JournalSpec.Before.{Earlier, Made, made_of}
+use Rattle.book_recovery.specs.JournalSpec.Retaking.{Told, unread, misread, told, told_in, landing}
+use Rattle.book_recovery.specs.JournalSpec.Making.{Making, nothing, waits, waited, begun, made, damaged, other, waiting, made_in}
+use Rattle.book_recovery.specs.JournalSpec.Old.{landing_told, with_body_at, with_bodies_at, book_of_format, format_of_now}
+use Rattle.book_recovery.specs.JournalSpec.Keeping.{IsTakenAs, IsTaken, Keeps, body_by}
+use Rattle.book_recovery.proofs.JournalSpec.Taking.{IsNew, moved_in, there}
+use Rattle.book_recovery.specs.JournalSpec.Reading.{AreAllBytes}
+use Rattle.book_recovery.proofs.JournalSpec.Between.{closed_format, may_format}
 use Rattle.file_copies.specs.OfFileNotes.declared.notes.FileNotes.{FileNotes}
 use Rattle.file_copies.specs.OfFileNotes.Files.{marks_in, IsNoted, StaysAsTold}
 use Rattle.file_copies.specs.OfFileNotes.Notes.{is_told}
@@ -43,18 +43,22 @@ bodies_more format shelf place (b ∷ bodies) body x =
     (mark_in format (with_bodies_at format texts shelf (place + 5 + length b) bodies (with_body_at format texts shelf place b x)) body))
 
 -- what makes a book is begun or made
-pub mark_made : (m : Made) (x : Making) (body : List ℕ) → made_in x ≡ Some m → mark_in newest x body ≡ mark_by newest m (read_record_in newest body)
-mark_made m nothing body e = absurd (let no : ⊥ = cc e in no)
-mark_made m (begun k) body e = ap (λ (y : Made). mark_by newest y (read_record_in newest body)) (same_made k m e)
+pub mark_made : (m : Made) (x : Making) (body : List ℕ) → m.book.follows ≡ false → made_in x ≡ Some m → mark_in newest x body ≡ mark_by newest m (read_record_in newest body)
+mark_made m nothing body leads e = absurd (let no : ⊥ = cc e in no)
+mark_made m waited body leads e = absurd (let no : ⊥ = cc e in no)
+mark_made m (waits s) body leads e =
+    let at : waiting s ≡ m = cc e in
+    let no : true ≡ false = ap (λ (y : Made). y.book.follows) at ∙ leads in absurd (cc no)
+mark_made m (begun k) body leads e = ap (λ (y : Made). mark_by newest y (read_record_in newest body)) (same_made k m e)
   where
     same_made : (k m : Made) → made_in (begun k) ≡ Some m → k ≡ m
     same_made k m f = cc f
-mark_made m (made k) body e = ap (λ (y : Made). mark_by newest y (read_record_in newest body)) (same_made k m e)
+mark_made m (made k) body leads e = ap (λ (y : Made). mark_by newest y (read_record_in newest body)) (same_made k m e)
   where
     same_made : (k m : Made) → made_in (made k) ≡ Some m → k ≡ m
     same_made k m f = cc f
-mark_made m (damaged p) body e = absurd (let no : ⊥ = cc e in no)
-mark_made m (other p) body e = absurd (let no : ⊥ = cc e in no)
+mark_made m (damaged p) body leads e = absurd (let no : ⊥ = cc e in no)
+mark_made m (other p) body leads e = absurd (let no : ⊥ = cc e in no)
 
 -- a record that lands is marked
 lands_so : (b : Book) (earlier : Earlier) (c : Change) (inside : List TxName) (x : Told) → IsNew earlier.seen c → IsTakenAs b c inside x → is_some (landing_told (made_of b earlier) c x) ≡ true
@@ -64,9 +68,9 @@ lands_so b earlier c inside (told d) new taken =
     ap (λ (ns : List TxName). is_some (landing (made_of b earlier) c ns)) taken.1 ∙ ap (λ (o : Option (List TxName)). is_some o) (there b earlier c inside taken.0 new)
 
 pub marked : AreRecordsExact → (shelf : ℕ) (bodies : List (List ℕ)) (b : Book) (c : Change) (state : Option (List ℕ)) (inside : List TxName) (k : Keeps texts shelf bodies b) → IsInGrammar (changes c state)
-    → IsTaken k.earlier b c state inside → IsNew k.earlier.seen c
+    → IsTaken k.earlier b c state inside → IsNew k.earlier.seen c → b.follows ≡ false
     → marks_of newest texts shelf 8 (bodies ++ body_by c state ∷ []) nothing ≡ marks_of newest texts shelf 8 bodies nothing ++ true ∷ []
-marked exact shelf bodies b c state inside k fits taken new =
+marked exact shelf bodies b c state inside k fits taken new leads =
     let m = made_of b k.earlier in
     let x = told_in k.earlier b c state in
     let body = body_by c state in
@@ -75,14 +79,14 @@ marked exact shelf bodies b c state inside k fits taken new =
     ap (λ (y : Told). is_some (landing_told m c y)) (moved_in k.earlier b b.logged [] None c state) ∙ lands_so b k.earlier c inside x new taken in
     bodies_more newest shelf 8 bodies body nothing
     ∙ ap (λ (ts : List Bool). marks_of newest texts shelf 8 bodies nothing ++ ts)
-    (mark_made m (book_of_format newest texts shelf bodies) body (ap made_in (format_of_now texts shelf bodies) ∙ k.makes) ∙ (ap (mark_by newest m) reads ∙ ap (λ (t : Bool). t ∷ []) lands))
+    (mark_made m (book_of_format newest texts shelf bodies) body leads (ap made_in (format_of_now texts shelf bodies) ∙ k.makes) ∙ (ap (mark_by newest m) reads ∙ ap (λ (t : Bool). t ∷ []) lands))
 
 -- so is a later tick
-pub marked_tick : AreRecordsExact → (shelf : ℕ) (bodies : List (List ℕ)) (b : Book) (tick : ℕ) → nat_le tick b.clock ≡ false → Keeps texts shelf bodies b → IsInGrammar (changes (sweeps tick) None)
+pub marked_tick : AreRecordsExact → (shelf : ℕ) (bodies : List (List ℕ)) (b : Book) (tick : ℕ) → nat_le tick b.clock ≡ false → Keeps texts shelf bodies b → IsInGrammar (changes (sweeps tick) None) → b.follows ≡ false
     → marks_of newest texts shelf 8 (bodies ++ body_by (sweeps tick) None ∷ []) nothing ≡ marks_of newest texts shelf 8 bodies nothing ++ true ∷ []
-marked_tick exact shelf bodies b tick late k fits =
+marked_tick exact shelf bodies b tick late k fits leads =
     let over : nat_lt b.clock tick ≡ true = grind (arith, nat_tests, late) in
-    marked exact shelf bodies b (sweeps tick) None [] k fits (ap (λ (t : Bool). when t []) over, refl) (λ n e. absurd e)
+    marked exact shelf bodies b (sweeps tick) None [] k fits (ap (λ (t : Bool). when t []) over, refl) (λ n e. absurd e) leads
 
 pub bytes_more : (bodies : List (List ℕ)) (body : List ℕ) → AreAllBytes bodies → AreBytes body → AreAllBytes (bodies ++ body ∷ [])
 bytes_more [] body all one = (one, tt)

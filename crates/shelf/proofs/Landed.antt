@@ -1,7 +1,7 @@
 -- A shelf in order stays so where a change lands that would be taken in again, whatever its page's state is.
 use Rattle.std.proofs.Common.{◌≡◌, ◌∙◌, ap, sym, subst, refl, ℕ, ◌+◌, ◌≤◌, ◌^◌, ◌++◌, ◌∷◌, [], Bool, IsTrue, true, false, List, length, Option, Some, None, option_map, Contains, inl, arith}
 use Rattle.script_value.specs.declared.outcome.TxName.{TxName}
-use Rattle.setup_reader.specs.Texts.{setup_of_texts as texts}
+use Rattle.book_recovery.specs.SetupReader.Texts.{setup_of_texts as texts}
 use Rattle.web_disk.specs.View.{View, LeavesOnly}
 use Rattle.page_journal.specs.Records.{newest, stored}
 use Rattle.page_journal.specs.Holding.{MayHold}
@@ -17,20 +17,20 @@ use Rattle.replay_spec.proofs.Stand.{among_of, Later}
 use Rattle.replay_spec.proofs.Orderly.{published, failed}
 use Rattle.journal_records.specs.Records.{changes, IsInGrammar}
 use Rattle.journal_records.specs.Laws.{AreRecordsExact}
-use Rattle.journal_spec.specs.Before.{States, Made}
-use Rattle.journal_spec.specs.Making as make
-use Rattle.journal_spec.specs.Making.{made_in}
-use Rattle.journal_spec.specs.Retaking.{Told, told_in, with_state}
-use Rattle.journal_spec.specs.Whole.{HasWholeScripts}
-use Rattle.journal_spec.specs.Keeping.{IsTakenAs, IsTaken, IsOut, without_number, landed_in, Keeps, body_by}
-use Rattle.journal_spec.specs.Standing.{adds, Between, Carries, HasRoom, if_kept, Throughout}
-use Rattle.journal_spec.specs.Disks.{IsFit}
-use Rattle.journal_spec.specs.Spelling.{IsTickInRange, IsInRange}
-use Rattle.journal_spec.specs.Laws.{LandingsAreKept, LandingsStandBetween}
-use Rattle.journal_spec.proofs.Fitting.{whole_by}
-use Rattle.journal_spec.proofs.Taking.{IsNew}
-use Rattle.journal_spec.proofs.Standings.{settled_stands, written, left_standing}
-use Rattle.instance_book.specs.Makes.{HasSomeStates}
+use Rattle.book_recovery.specs.JournalSpec.Before.{States, Made}
+use Rattle.book_recovery.specs.JournalSpec.Making as make
+use Rattle.book_recovery.specs.JournalSpec.Making.{made_in}
+use Rattle.book_recovery.specs.JournalSpec.Retaking.{Told, told_in, with_state}
+use Rattle.book_recovery.specs.JournalSpec.Whole.{HasWholeScripts}
+use Rattle.book_recovery.specs.JournalSpec.Keeping.{IsTakenAs, IsTaken, IsOut, without_number, landed_in, Keeps, body_by}
+use Rattle.book_recovery.specs.JournalSpec.Standing.{adds, Between, Carries, HasRoom, if_kept, Throughout}
+use Rattle.book_recovery.specs.JournalSpec.Disks.{IsFit}
+use Rattle.book_recovery.specs.JournalSpec.Spelling.{IsTickInRange, IsInRange}
+use Rattle.book_recovery.specs.JournalSpec.Laws.{LandingsAreKept, LandingsStandBetween}
+use Rattle.book_recovery.proofs.JournalSpec.Fitting.{whole_by}
+use Rattle.book_recovery.proofs.JournalSpec.Taking.{IsNew}
+use Rattle.book_recovery.proofs.JournalSpec.Standings.{settled_stands, written, left_standing}
+use Rattle.book_recovery.specs.InstanceBook.Makes.{HasSomeStates}
 use Rattle.shelf.specs.declared.doubt.Doubt as doubt_type
 use Rattle.shelf.specs.declared.shelf.Shelf.{Shelf}
 use Rattle.shelf.specs.Views.{doubt_of, library_in, book_in, IsInOrder}
@@ -41,6 +41,7 @@ use Rattle.value_bytes.specs.Laws.{AreBytes}
 use Rattle.file_copies.specs.OfFileNotes.Files.{marks_in, IsNoted}
 use Rattle.shelf.proofs.Newest.{newest_images, makes_so}
 use Rattle.shelf.proofs.Known.{known_added, known_doubted, may_newest, marked}
+use Rattle.shelf.proofs.Leads.{leads_in, unfed, out_leads}
 use Rattle.shelf.proofs.Order.{order_of}
 use Rattle.shelf.proofs.Taken.{number_of, taken_fits}
 use Rattle.shelf.proofs.Tales.{told_landed}
@@ -83,6 +84,9 @@ module _ {D N : Type 0} (view : D → View) (tells : Bool) (s : Shelf D N) (orde
 
   abbrev pub doubted_book : (count : ℕ) → Book
   doubted_book count = doubted_in count c inside (spend k b)
+
+  leads : s.follower ≡ None
+  leads = out_leads view tells s order k out
 
   abbrev none_down : b.down ≡ None
   none_down = ap (λ (o : Option doubt_type.Doubt). option_map doubt_of o) up
@@ -143,12 +147,12 @@ module _ {D N : Type 0} (view : D → View) (tells : Bool) (s : Shelf D N) (orde
         there.recoverable.used k (subst (λ (m : ℕ). Among m there.earlier.seen) same seen) (inl (among_of b.out k out))
 
     keeps : LandingsAreKept → Keeps texts shelf (bodies ++ body ∷ []) landed_book
-    keeps law = subst (Keeps texts shelf (bodies ++ body ∷ [])) landed_is (law texts shelf bodies b c state inside there none_down fits taken_there its_out)
+    keeps law = subst (Keeps texts shelf (bodies ++ body ∷ [])) landed_is (law texts shelf bodies b c state inside there none_down (leads_in s leads) fits taken_there its_out)
 
     between : LandingsStandBetween → (l : Between texts shelf b landed_book) × Carries newest bodies (adds body) l
     between law =
         subst (λ (d : Book). (l : Between texts shelf b d) × Carries newest bodies (adds body) l) landed_is
-        (law texts shelf bodies b c state inside there none_down fits taken_there its_out has_room)
+        (law texts shelf bodies b c state inside there none_down (leads_in s leads) fits taken_there its_out has_room)
 
     -- at each moment of a call that adds the body
     module _ (mid new : Journal D) (call : IsQuietCall view tells s.journal mid) (run : LeavesOnly (view_of view mid) (view_of view new) (MayHold newest (bodies_in view mid) body)) where
@@ -168,16 +172,16 @@ module _ {D N : Type 0} (view : D → View) (tells : Bool) (s : Shelf D N) (orde
           → HasToldStates (library_in t).all m.earlier.states t.book
       tells_then exact told m made_there stay =
           let states = (there told).earlier.states in
-          let first = told_landed exact shelf (bodies told) b c state inside (there told) fits (taken_there told) (new_there told) m made_there in
+          let first = told_landed exact shelf (bodies told) b c state inside (there told) fits (taken_there told) (new_there told) (leads_in s leads) m made_there in
           let then_them : m.earlier.states ≡ with_state (Some k) x states = first ∙ (ap (λ (o : Option ℕ). with_state o (told_in (there told).earlier b c state) states) number ∙ ap (λ (y : Told). with_state (Some k) y states) (read told)) in
           subst (λ (ys : States). HasToldStates (library_in t).all ys t.book) (sym then_them) stay
 
       pub landed_order : AreRecordsExact → LandingsAreKept → is_broken t.journal ≡ false → (IsTrue tells → IsSettled view t.journal × (bodies_in view t.journal ≡ bodies_in view mid ++ body ∷ []))
           → ((told : IsTrue tells) → HasToldStates (library_in t).all (with_state (Some k) x (there told).earlier.states) t.book)
-          → t.journal.format ≡ newest → IsNoted t.notes → marks_in t.notes ≡ marks_in s.notes ++ true ∷ [] → AreBytes body → IsInOrder view tells t
-      landed_order exact law whole added stay now noted marks bytes =
+          → t.journal.format ≡ newest → IsNoted t.notes → marks_in t.notes ≡ marks_in s.notes ++ true ∷ [] → AreBytes body → t.follower ≡ s.follower → IsInOrder view tells t
+      landed_order exact law whole added stay now noted marks bytes followed =
           order_of view tells s t landed_book order some landed_later.orderly
-          whole_landed range_landed refl is told_same limits (record {
+          whole_landed range_landed refl is told_same limits followed (record {
             sound = sound;
             whole = λ _. whole;
             fit = λ told.
@@ -189,7 +193,8 @@ module _ {D N : Type 0} (view : D → View) (tells : Bool) (s : Shelf D N) (orde
                 let these : bodies told ++ body ∷ [] ≡ bodies_in view t.journal = ap (λ (bs : List (List ℕ)). bs ++ body ∷ []) (sym (ap stored call.seen)) ∙ sym (added told).1 in
                 tells_then exact told m (ap (λ (bs : List (List ℕ)). made_in (make.book_of texts shelf bs)) these ∙ made_there) (stay told);
             knows = known_added view tells shelf s.journal mid t.journal (s.down ≡ None) (t.down ≡ None) s.notes t.notes body order.knows up call now noted marks bytes added
-                (λ told. marked exact shelf (bodies told) b c state inside (there told) fits (taken_there told) (new_there told));
+                (λ told. marked exact shelf (bodies told) b c state inside (there told) fits (taken_there told) (new_there told) (leads_in s leads));
+            fed = unfed view tells t (followed ∙ leads);
           })
 
       pub landed_run : LandingsStandBetween → IsTrue tells → OnlyNow (view s.journal.disk) → HasMoments view s t
@@ -211,10 +216,10 @@ module _ {D N : Type 0} (view : D → View) (tells : Bool) (s : Shelf D N) (orde
       kept_same : reopened landed_book ≡ reopened (if_kept (length body) d)
       kept_same = refl
 
-      pub doubted_order : LandingsStandBetween → OnlyNow (view s.journal.disk) → CountsNow (view t.journal.disk) → t.journal.format ≡ newest → IsNoted t.notes → IsInOrder view tells t
-      doubted_order law only_now counts now noted =
+      pub doubted_order : LandingsStandBetween → OnlyNow (view s.journal.disk) → CountsNow (view t.journal.disk) → t.journal.format ≡ newest → IsNoted t.notes → t.follower ≡ s.follower → IsInOrder view tells t
+      doubted_order law only_now counts now noted followed =
           order_of view tells s t d order some (doubted_later count).orderly
-          (record { setup = order.scripts_are.setup; instances = order.scripts_are.instances }) (range_doubted count) refl is told_same limits (record {
+          (record { setup = order.scripts_are.setup; instances = order.scripts_are.instances }) (range_doubted count) refl is told_same limits followed (record {
             sound = sound;
             whole = λ none. absurd (in_doubt none);
             fit = λ told. record {
@@ -224,6 +229,7 @@ module _ {D N : Type 0} (view : D → View) (tells : Bool) (s : Shelf D N) (orde
             };
             told = λ told none. absurd (in_doubt none);
             knows = known_doubted view tells shelf t.journal (t.down ≡ None) t.notes now noted (λ told. may_newest (view_of view mid) (view_of view t.journal) (bodies_in view mid) body counts (run told)) in_doubt;
+            fed = unfed view tells t (followed ∙ leads);
           })
 
       pub doubted_run : LandingsStandBetween → IsTrue tells → OnlyNow (view s.journal.disk) → HasMoments view s t

@@ -21,16 +21,16 @@ use Rattle.replay_spec.specs.Step as step
 use Rattle.replay_spec.specs.Step.{replies, records, carried_out, publish_comes}
 use Rattle.machine_states.specs.Machine.{Suspended}
 use Rattle.journal_records.specs.Records.{changes, record_length, IsInGrammar}
-use Rattle.journal_spec.specs.Before.{state_at, Earlier}
-use Rattle.journal_spec.specs.Retaking as books_told
-use Rattle.journal_spec.specs.Retaking.{arena_of, Told, with_state}
-use Rattle.journal_spec.specs.Lengths.{state_by, told_bytes, state_told, told_own, own_before, own_body}
-use Rattle.journal_spec.specs.Keeping.{IsTakenAs, body_by}
-use Rattle.journal_spec.specs.Whole.{IsSpelledState, HasWholeScripts}
-use Rattle.journal_spec.specs.Whole as whole
-use Rattle.journal_spec.specs.Making.{has_script}
-use Rattle.journal_spec.proofs.Brief.{moved_told, length_short}
-use Rattle.journal_spec.proofs.Grammar.{TellsInRange, IsToldWith, in_grammar}
+use Rattle.book_recovery.specs.JournalSpec.Before.{state_at, Earlier}
+use Rattle.book_recovery.specs.JournalSpec.Retaking as books_told
+use Rattle.book_recovery.specs.JournalSpec.Retaking.{arena_of, Told, with_state}
+use Rattle.book_recovery.specs.JournalSpec.Lengths.{state_by, told_bytes, state_told, told_own, own_before, own_body}
+use Rattle.book_recovery.specs.JournalSpec.Keeping.{IsTakenAs, body_by}
+use Rattle.book_recovery.specs.JournalSpec.Whole.{IsSpelledState, HasWholeScripts}
+use Rattle.book_recovery.specs.JournalSpec.Whole as whole
+use Rattle.book_recovery.specs.JournalSpec.Making.{has_script}
+use Rattle.book_recovery.proofs.JournalSpec.Brief.{moved_told, length_short}
+use Rattle.book_recovery.proofs.JournalSpec.Grammar.{TellsInRange, IsToldWith, in_grammar}
 use Rattle.machine_states.specs.Views.{segment_of, suspended_of}
 use Rattle.machine_states.specs.declared.segment.Segment.{Segment}
 use Rattle.instance_cells.specs.Cells.{Effect}
@@ -41,22 +41,22 @@ use Rattle.journal_records.specs.Fields as spec_records
 use Rattle.journal_records.specs.Reading.{change_from}
 use Rattle.journal_records.specs.Views.{origin_of as origin_in, page_change}
 use Rattle.journal_records.specs.declared.records.PageRecord.{PageRecord}
-use Rattle.instance_book.specs.declared.book.Book.{Book}
-use Rattle.instance_book.specs.declared.change.Change.{Change}
-use Rattle.instance_book.specs.declared.change.Change.TheVariants.{Opens, Extends, Ends, Finishes}
+use Rattle.book_recovery.specs.InstanceBook.declared.book.Book.{Book}
+use Rattle.book_recovery.specs.InstanceBook.declared.change.Change.{Change}
+use Rattle.book_recovery.specs.InstanceBook.declared.change.Change.TheVariants.{Opens, Extends, Ends, Finishes}
 use Rattle.book_visits.specs.declared.prepared.Prepared.{Prepared}
 use Rattle.book_visits.specs.declared.ticket.Ticket.{Ticket}
-use Rattle.instance_book.specs.declared.in_order.InOrder.{InOrder}
-use Rattle.instance_book.specs.Lists.{HasRoom}
-use Rattle.instance_book.specs.declared.instance.KeptInstance.{KeptInstance}
-use Rattle.instance_book.specs.Views.{Beside, no_journal, book_of, instances_of}
+use Rattle.book_recovery.specs.InstanceBook.declared.in_order.InOrder.{InOrder}
+use Rattle.book_recovery.specs.InstanceBook.Lists.{HasRoom}
+use Rattle.book_recovery.specs.InstanceBook.declared.instance.KeptInstance.{KeptInstance}
+use Rattle.book_recovery.specs.InstanceBook.Views.{Beside, no_journal, book_of, instances_of}
 use Rattle.book_visits.specs.Views.{ticket_of, reply_of}
-use Rattle.instance_book.specs.Places.{given}
-use Rattle.instance_book.specs.Changes.{HasStateIn, change_of, inside_of, gone_in, HasRoomFor, CanShowAt}
+use Rattle.book_recovery.specs.InstanceBook.Places.{given}
+use Rattle.book_recovery.specs.InstanceBook.Changes.{HasStateIn, change_of, inside_of, gone_in, HasRoomFor, CanShowAt}
 use Rattle.book_visits.specs.Changes.{decision_by, put_into, HasDeadlineIn, HasDeadlineBy, IsSpelledIn}
 use Rattle.book_visits.specs.Fits.{FitsAs, IsRunnable}
-use Rattle.instance_book.specs.Makes.{Makes, MakesUnder}
-use Rattle.instance_book.specs.Makes.{rules_with}
+use Rattle.book_recovery.specs.InstanceBook.Makes.{Makes, MakesUnder}
+use Rattle.book_recovery.specs.InstanceBook.Makes.{rules_with}
 use Rattle.book_visits.specs.Prepares.{KeepsStateOf, IsChangeBy, IsDecisionBy, IsCarriedOut, HasItsScript}
 use Rattle.shelf.specs.declared.shelf.Shelf.{Shelf}
 use Rattle.shelf.specs.declared.doubt.Doubt as doubt_type

@@ -21,22 +21,22 @@ use Rattle.replay_spec.proofs.Stand.{Later}
 use Rattle.replay_spec.specs.Admission.{admit}
 use Rattle.journal_records.specs.Records.{changes, record_length}
 use Rattle.journal_records.specs.Laws.{AreRecordsExact}
-use Rattle.journal_spec.specs.Before.{state_at}
-use Rattle.journal_spec.specs.Lengths.{told_own, own_body}
-use Rattle.journal_spec.specs.Keeping.{IsTakenAs, body_by, stake_of}
-use Rattle.journal_spec.specs.Whole.{HasWholeScripts, CanBeWritten}
-use Rattle.journal_spec.specs.Owning.{IsOwnBefore}
-use Rattle.journal_spec.specs.Retaking as books_told
-use Rattle.journal_spec.specs.Laws.{EventsAreKept, EventsStandBetween, LandingsAreKept, LandingsStandBetween}
-use Rattle.instance_book.specs.declared.book.Book as kept
+use Rattle.book_recovery.specs.JournalSpec.Before.{state_at}
+use Rattle.book_recovery.specs.JournalSpec.Lengths.{told_own, own_body}
+use Rattle.book_recovery.specs.JournalSpec.Keeping.{IsTakenAs, body_by, stake_of}
+use Rattle.book_recovery.specs.JournalSpec.Whole.{HasWholeScripts, CanBeWritten}
+use Rattle.book_recovery.specs.JournalSpec.Owning.{IsOwnBefore}
+use Rattle.book_recovery.specs.JournalSpec.Retaking as books_told
+use Rattle.book_recovery.specs.JournalSpec.Laws.{EventsAreKept, EventsStandBetween, LandingsAreKept, LandingsStandBetween}
+use Rattle.book_recovery.specs.InstanceBook.declared.book.Book as kept
 use Rattle.book_visits.specs.declared.ticket.Ticket.{Ticket}
 use Rattle.book_visits.specs.declared.prepared.Prepared.{Prepared}
-use Rattle.instance_book.specs.declared.change.Change.{Change}
-use Rattle.instance_book.specs.Places as sources
-use Rattle.instance_book.specs.Places.{Source}
-use Rattle.instance_book.specs.Makes.{Makes, MakesUnder, StaysSame, HasStatesFrom, HasSomeStates, HasItsStates, KeepsStates}
+use Rattle.book_recovery.specs.InstanceBook.declared.change.Change.{Change}
+use Rattle.book_recovery.specs.InstanceBook.Places as sources
+use Rattle.book_recovery.specs.InstanceBook.Places.{Source}
+use Rattle.book_recovery.specs.InstanceBook.Makes.{Makes, MakesUnder, StaysSame, HasStatesFrom, HasSomeStates, HasItsStates, KeepsStates}
 use Rattle.book_visits.specs.Views.{ticket_of, reply_of}
-use Rattle.instance_book.specs.Changes.{change_of, inside_of, HasRoomFor, KeepsStatesBy}
+use Rattle.book_recovery.specs.InstanceBook.Changes.{change_of, inside_of, HasRoomFor, KeepsStatesBy}
 use Rattle.book_visits.specs.Changes.{put_into, HasStateBy, IsSpelledIn, IsSpelledBy}
 use Rattle.book_visits.specs.Fits.{FitsAs}
 use Rattle.book_visits.specs.Prepares.{HasItsScript}
@@ -51,6 +51,7 @@ use Rattle.shelf.specs.Preparing.{CanBeLanded}
 use Rattle.shelf.specs.Tickets.{KeepsTickets}
 use Rattle.shelf.specs.Recording.{IsBody, BindsIn, GoesOnAsGiven, state_in, told_in}
 use Rattle.shelf.proofs.Standing.{OnlyNow, CountsNow, IsQuietCall}
+use Rattle.shelf.proofs.Leads.{unfed, out_leads}
 use Rattle.shelf.proofs.Order.{quiet, quiet_event}
 use Rattle.shelf.proofs.Steps.{Comes, wanting}
 use Rattle.shelf.proofs.Recorded.{own_behind, stake_landed, stake_doubted}
@@ -98,13 +99,13 @@ KeepsStatesIn all old new = (source : Source ⊤) → HasStatesFrom source all o
 
 -- nothing was recorded
 pub spent_publishes : {D N : Type 0} (view : D → View) (tells : Bool) (coming : N → ℕ → ℕ) (s u : Shelf D N) (t : Ticket) (x : Reply) → IsInOrder view tells s → EventsAreKept
-    → OnlyNow (view s.journal.disk) → Contains (book_in view s).out t.number → book_in view u ≡ spend t.number (book_in view s) → u.library ≡ s.library → u.rules ≡ s.rules → u.nonces ≡ s.nonces
+    → OnlyNow (view s.journal.disk) → Contains (book_in view s).out t.number → book_in view u ≡ spend t.number (book_in view s) → u.library ≡ s.library → u.rules ≡ s.rules → u.nonces ≡ s.nonces → u.follower ≡ s.follower
     → IsQuietCall view tells s.journal u.journal → IsNoted u.notes → StaysAsTold s.notes u.notes → journal.IsSound u.journal → (u.down ≡ None → is_broken u.journal ≡ false)
     → ((source : Source ⊤) → HasStatesFrom source (library_in s).all s.book → HasStatesFrom source (library_in u).all u.book)
     → (IsOwnVisit view tells s t
     → Comes (rules_of s.rules) (book_in view s) (step.publish (ticket_of t)) (fate_by (reply_of x)) (reply_of x) (spend t.number (book_in view s)) None)
     → Publishes view tells coming s u t x
-spent_publishes view tells coming s u t x order events only_now out is told_same limits source_stays call noted stays sound whole states comes =
+spent_publishes view tells coming s u t x order events only_now out is told_same limits source_stays followed call noted stays sound whole states comes =
     let b = book_in view s in
     let event = step.publish (ticket_of t) in
     let d = spend t.number b in
@@ -114,7 +115,7 @@ spent_publishes view tells coming s u t x order events only_now out is told_same
     let some : HasSomeStates (library_in s).all s.book → HasSomeStates (library_in u).all u.book = λ all. (all.0, states (sources.given all.0) all.1) in
     record {
       event = λ own. quiet_event view coming s u event (reply_of x) d limits source_stays is (λ given. quiet x given) (comes own).step;
-      in_order = quiet_order view tells s u told_same limits d is refl refl call order some stay sound event step.no_memory step.memory (wants.step 0) tt tt tt refl out tt events wants.landed scripts whole noted stays;
+      in_order = quiet_order view tells s u told_same limits d is refl refl call order some stay sound event step.no_memory step.memory (wants.step 0) tt tt tt refl out tt events wants.landed scripts whole noted stays followed (unfed view tells u (followed ∙ out_leads view tells s order t.number out));
       own = λ own. quiet_own view tells s u told_same limits d is refl refl call (states (sources.own tt)) own.own;
       spent = ap (λ (y : Book). y.out) is;
       any_moment = λ told. quiet_run view tells s u told_same limits d is refl refl call order some stay sound event step.no_memory step.memory (wants.step 0) tt tt tt refl out tt events wants.landed told only_now;
@@ -252,7 +253,7 @@ module _ {D N : Type 0} (view : D → View) (tells : Bool) (coming : N → ℕ �
     landed_publishes = record {
       event = λ own. quiet_event view coming s longer event (reply_of x) after refl refl landed_is (λ given. quiet x given) (lands own x replied).step;
       in_order = landed_order view tells s order up t.number out told_change its_number (told_in t c) (inside_of c) written.spelled (told_own (state_in c)) taken read_there room longer refl refl mid call run had sound landed_is laws.exact laws.landings unbroken added
-          (λ told. behind.installed view tells s order t p up out has can rooms c some spent same keeps whole spelled goes told new states_by) serves.now noted marks (subst AreBytes written.is bytes);
+          (λ told. behind.installed view tells s order t p up out has can rooms c some spent same keeps whole spelled goes told new states_by) serves.now noted marks (subst AreBytes written.is bytes) refl;
       own = λ own. added_own view tells s longer order refl refl event (fate_by (reply_of x)) (reply_of x) after landed_is ((lands own x replied).step 0) tt tt tt refl out laws.events up told_change (can_be_written own) (own_room own) (before_own own) mid call (own_run own)
           serves.counts_now (own_states own) serves.reads own.own serves.now (lands own x replied).landed none_down (own_added own);
       spent = ap (λ (y : Book). y.out) landed_is;
@@ -289,7 +290,7 @@ module _ {D N : Type 0} (view : D → View) (tells : Bool) (coming : N → ℕ �
     doubted_publishes = record {
       event = λ own. quiet_event view coming s doubtful event (step.disk_failed count) in_doubt refl refl doubted_is (λ given. refl) (doubts own).step;
       in_order = doubted_order view tells s order up t.number out told_change its_number (told_in t c) (inside_of c) written.spelled (told_own (state_in c)) taken read_there room doubtful refl refl mid call run (some_kept l.all s.book spent keeps order.kept) sound count doubted_is
-          (λ e. down_there doubt _ e (ap (λ (y : Book). y.down) doubted_is)) laws.landings_between serves.only_now serves.counts_now serves.now noted;
+          (λ e. down_there doubt _ e (ap (λ (y : Book). y.down) doubted_is)) laws.landings_between serves.only_now serves.counts_now serves.now noted refl;
       own = λ own. shelves.doubted_own view tells s doubtful order refl refl event (step.disk_fault count) (step.disk_failed count) in_doubt doubted_is ((doubts own).step 0) tt tt tt refl out laws.events up told_change (can_be_written own) (own_room own) (before_own own) mid call
           (own_run own) serves.counts_now (keeps (sources.own tt) l.all) serves.reads own.own laws.between serves.only_now (stake own) refl (fate_by (reply_of p.reply)) (lands own p.reply refl).landed;
       spent = ap (λ (y : Book). y.out) doubted_is;

@@ -1,4 +1,6 @@
 pub mod Now
+pub mod Leads
+pub mod Roles
 pub mod Beside
 pub mod Deciding
 pub mod Told
@@ -27,8 +29,12 @@ pub mod Openings
 pub mod OwnOpenings
 pub mod Telling
 pub mod Renewing
+pub mod Reopening
+pub mod Reopened
+pub mod Bare
 pub mod Beginning
 pub mod Reading
+pub mod Waiting
 pub mod Crashes
 pub mod Setups
 pub mod Opened
@@ -49,4 +55,12 @@ pub mod Rewritten
 pub mod Migrated
 pub mod Moving
 pub mod Throughout
-pub use Rattle.journal_spec.proofs as JournalSpec
+pub mod Still
+pub mod Unmoved
+pub mod Adding
+pub mod FedMore
+pub mod Adopting
+pub mod Promoting
+pub use Rattle.book_recovery.proofs.JournalSpec
+pub use Rattle.web_outside.proofs as WebOutside
+pub use Rattle.page_journal.proofs as PageJournal

@@ -1,19 +1,19 @@
 -- What an opening goes on with on the bytes of a disk.
 use Rattle.std.proofs.Common.{◌≡◌, ◌≢◌, inl, inr, length, None, ◌∙◌, ap, sym, subst, refl, ℕ, ◌==◌, Bool, true, false, List, [], ◌∷◌, if◌then◌else◌, arith}
-use Rattle.setup_reader.specs.Texts.{setup_of_texts as texts}
+use Rattle.book_recovery.specs.SetupReader.Texts.{setup_of_texts as texts}
 use Rattle.web_disk.specs.View.{View}
 use Rattle.page_journal.specs.Records.{newest, format_of, at_rest, stored}
 use Rattle.page_journal.specs.Opened.{TellsFormat, IsIntactOrEmpty}
 use Rattle.page_journal.specs.Settled.{bodies_in}
 use Rattle.page_journal.specs.declared.journal.Journal.{Journal}
 use Rattle.script_nodes.specs.Setup.{Named}
-use Rattle.journal_spec.specs.Making.{Making, nothing, damaged, other, made_in}
+use Rattle.book_recovery.specs.JournalSpec.Making.{Making, nothing, damaged, other, made_in}
 use Rattle.shelf.specs.Faults.{IsReadFaultOf, IsTooLong}
 use Rattle.shelf.specs.declared.begin.BeginFault.{BeginFault}
 use Rattle.shelf.specs.declared.begin.BeginFault.TheVariants as fault
 use Rattle.shelf.specs.Migrating.{bodies_now, making_now, HasMigrated, IsMigrationFault, IsTooLongAnew}
-use Rattle.journal_spec.specs.Bytes.{book_in_bytes}
-use Rattle.journal_spec.specs.Old.{book_of_format, format_of_now}
+use Rattle.book_recovery.specs.JournalSpec.Bytes.{book_in_bytes}
+use Rattle.book_recovery.specs.JournalSpec.Old.{book_of_format, format_of_now}
 use Rattle.shelf.specs.Opening.{making_of, making_on, making_after, now_in_bytes, bodies_after, IsFaultOf, HasRoomFor, IsOfNow}
 use Rattle.shelf.proofs.Openings.{now_in, read_in_bytes}
 use Rattle.shelf.proofs.Opened.{making_newest}

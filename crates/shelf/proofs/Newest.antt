@@ -1,6 +1,6 @@
 -- A journal of the newest format.
 use Rattle.std.proofs.Common.{◌≡◌, ◌∙◌, ap, sym, subst, refl, ℕ, List, Option, Some, None}
-use Rattle.setup_reader.specs.Texts.{setup_of_texts as texts}
+use Rattle.book_recovery.specs.SetupReader.Texts.{setup_of_texts as texts}
 use Rattle.web_disk.specs.View.{View}
 use Rattle.page_journal.specs.Records.{newest}
 use Rattle.page_journal.specs.Holding.{IsClosed}
@@ -11,12 +11,12 @@ use Rattle.replay_spec.specs.Book.{Book}
 use Rattle.journal_records.specs.Records.{Record, changes}
 use Rattle.journal_records.specs.Reading.{read_record}
 use Rattle.journal_records.specs.Old.{read_record_in}
-use Rattle.journal_spec.specs.Before.{Made}
-use Rattle.journal_spec.specs.Making.{made_in}
-use Rattle.journal_spec.specs.Old.{format_of_now}
-use Rattle.journal_spec.specs.Owning.{AreOwn, AreOwnIn, IsOwnRecord, IsOwnRecordIn}
-use Rattle.journal_spec.specs.Standing.{Makes, MakesOf}
-use Rattle.journal_spec.proofs.Between.{makes_now}
+use Rattle.book_recovery.specs.JournalSpec.Before.{Made}
+use Rattle.book_recovery.specs.JournalSpec.Making.{made_in}
+use Rattle.book_recovery.specs.JournalSpec.Old.{format_of_now}
+use Rattle.book_recovery.specs.JournalSpec.Owning.{AreOwn, AreOwnIn, IsOwnRecord, IsOwnRecordIn}
+use Rattle.book_recovery.specs.JournalSpec.Standing.{Makes, MakesOf}
+use Rattle.book_recovery.proofs.JournalSpec.Between.{makes_now}
 
 pub newest_images : {D : Type 0} (view : D → View) (j : Journal D) → IsSettled view j → j.format ≡ newest → (image : List ℕ) → (view j.disk).images image → IsClosed newest (bodies_in view j) image
 newest_images view j s now image left = subst (λ (f : ℕ). IsClosed f (bodies_in view j) image) now (settled_images view j s image left)

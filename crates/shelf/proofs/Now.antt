@@ -20,11 +20,11 @@ use Rattle.machine_states.specs.Views.{segment_of}
 use Rattle.machine_states.specs.declared.segment.Segment.{Segment}
 use Rattle.book_visits.specs.declared.ticket.Ticket.{Ticket}
 use Rattle.book_visits.specs.Views.{ticket_of}
-use Rattle.instance_book.specs.Swept.{cells_in}
+use Rattle.book_recovery.specs.InstanceBook.Swept.{cells_in}
 use Rattle.book_visits.specs.Fits.{IsFor, FitsAs}
 use Rattle.book_visits.specs.Laws.{KeepsStateAs}
 use Rattle.shelf.specs.Runs.{IsRunOver}
-use Rattle.visit_runs.specs.Likes.{IsLike}
+use Rattle.book_recovery.specs.VisitRuns.Likes.{IsLike}
 use Rattle.shelf.proofs.Replayed.{run_like}
 use Rattle.shelf.specs.Views.{IsSegmentOf}
 

@@ -1,6 +1,6 @@
 -- A shelf that was opened on a disk.
-use Rattle.std.proofs.Common.{◌≡◌, ◌≢◌, inl, inr, ⊎_elim, ℕ, ◌≤◌, ◌^◌, Bool, true, false, List, [], ◌++◌, length, Option, Some, None, option_map, IsTrue, refl, sym, ◌∙◌, ap, subst, arith, append-nil}
-use Rattle.setup_reader.specs.Texts.{setup_of_texts as texts}
+use Rattle.std.proofs.Common.{◌≡◌, ◌≢◌, inl, inr, ⊎_elim, ℕ, ◌≤◌, ◌^◌, Bool, true, false, List, [], ◌++◌, length, Option, Some, None, option_map, IfSome, IsTrue, refl, sym, ◌∙◌, ap, subst, arith, append-nil}
+use Rattle.book_recovery.specs.SetupReader.Texts.{setup_of_texts as texts}
 use Rattle.script_nodes.specs.Setup.{Named}
 use Rattle.web_disk.specs.View.{View, LeavesOnly}
 use Rattle.page_journal.specs.Records.{Intact, newest, is_format, format_of, at_rest, at_rest_in, records, stored}
@@ -15,29 +15,29 @@ use Rattle.page_journal.proofs.Frames.{closed_end}
 use Rattle.page_journal.proofs.Mending.{leaves_then}
 use Rattle.replay_spec.specs.Book.{Book, File, reopened}
 use Rattle.replay_spec.specs.Invariant.{IsOrderly}
-use Rattle.journal_spec.specs.Before.{Made}
-use Rattle.journal_spec.specs.Making.{Making, nothing, made_in, book_of}
-use Rattle.journal_spec.specs.Old.{book_of_format, format_of_now}
-use Rattle.journal_spec.specs.Standing.{Between, Held, HoldIn, MakesIn, StaysThroughout, OpensThroughout}
-use Rattle.journal_spec.specs.Disks.{IsFit, OpeningsStay, RecoveriesFindOne}
-use Rattle.journal_spec.specs.Spelling.{IsInRange}
-use Rattle.journal_spec.specs.Whole.{HasWholeScripts}
-use Rattle.journal_spec.proofs.Between.{make_books}
-use Rattle.instance_book.specs.Views as views
-use Rattle.book_recovery.specs.Found.{IsBookInOrder, beside_file}
+use Rattle.book_recovery.specs.JournalSpec.Before.{Made}
+use Rattle.book_recovery.specs.JournalSpec.Making.{Making, made_in, book_of}
+use Rattle.book_recovery.specs.JournalSpec.Old.{book_of_format, format_of_now}
+use Rattle.book_recovery.specs.JournalSpec.Standing.{Between, Held, HoldIn, MakesIn, StaysThroughout, OpensThroughout}
+use Rattle.book_recovery.specs.JournalSpec.Disks.{IsFit, OpeningsStay, RecoveriesFindOne}
+use Rattle.book_recovery.specs.JournalSpec.Spelling.{IsInRange}
+use Rattle.book_recovery.specs.JournalSpec.Whole.{HasWholeScripts}
+use Rattle.book_recovery.proofs.JournalSpec.Between.{make_books}
+use Rattle.book_recovery.specs.InstanceBook.Views as views
+use Rattle.book_recovery.specs.Found.{beside_file}
+use Rattle.shelf.specs.declared.follower.Follower.{Follower}
 use Rattle.shelf.specs.declared.begin.BeginFault.{BeginFault}
 use Rattle.shelf.specs.declared.begin.BeginFault.TheVariants as fault
 use Rattle.shelf.specs.declared.shelf.Shelf.{Shelf}
 use Rattle.shelf.specs.Faults.{IsReadFaultOf, IsTooLong, begin_fault}
 use Rattle.file_copies.specs.OfFileNotes.Files.{file_in, IsNoted}
 use Rattle.shelf.specs.Files.{KnowsRead}
-use Rattle.shelf.specs.Views.{doubt_of, library_in, book_in, IsInOrder, IsOwnShelf}
+use Rattle.shelf.specs.Views.{doubt_of, library_in, follows_in, book_in, IsFed, IsInOrder, IsOwnShelf}
 use Rattle.shelf.specs.Ranges.{AreInRange}
 use Rattle.shelf.specs.Migrating.{bodies_now, making_by, making_now, IsTooLongAnew, IsUnwritten}
-use Rattle.shelf.specs.Opening.{making_of, making_on, making_after, now_in_bytes, bodies_after, HasRoomFor, IsTooLongIn, opened_beside, HasAdded, IsMadeOf, IsReadOrRenewed, KeepsRecords, MakesBook, OpensOwn, Renews, CanGoOnWith, HasStatesTold}
+use Rattle.shelf.specs.Opening.{making_of, making_on, making_after, now_in_bytes, bodies_after, HasRoomFor, IsTooLongIn, opened_beside, HasAdded, IsMadeOf, IsReadOrRenewed, KeepsRecords, MakesBook, IsOpenedBook, IsFollowerOf, OpensOwn, Renews, CanGoOnWith, HasStatesTold}
 use Rattle.shelf.proofs.Openings.{made_there, now_in}
 use Rattle.shelf.proofs.OwnOpenings.{opened_own}
-use Rattle.shelf.proofs.Setups.{few_scripts}
 use Rattle.shelf.proofs.Standing.{CountsNow}
 use Rattle.shelf.proofs.Known.{settled_newest}
 
@@ -45,19 +45,19 @@ use Rattle.shelf.proofs.Known.{settled_newest}
 
 module _ {D N : Type 0} (view : D → View) (tells : Bool) (s : Shelf D N) (up : s.down ≡ None) (noted_so : IsNoted s.notes) (now_is : s.journal.format ≡ newest) (known : IsTrue tells → KnowsRead view s.rules.number s.journal s.notes) where
   -- beside what is known of its file
-  pub read_is : book_in view s ≡ views.book_of (library_in s) (beside_file (length_of s.journal) (file_in s.notes)) s.book
-  read_is = ap (λ (o : Option _). views.book_of (library_in s) (record { length = length_of s.journal; file = file_in s.notes; down = option_map doubt_of o }) s.book) up
+  pub read_is : book_in view s ≡ views.book_of (library_in s) (beside_file (follows_in s) (length_of s.journal) (file_in s.notes)) s.book
+  read_is = ap (λ (o : Option _). views.book_of (library_in s) (record { length = length_of s.journal; file = file_in s.notes; down = option_map doubt_of o; follows = follows_in s }) s.book) up
 
-  pub read_there : IsTrue tells → book_in view s ≡ opened_beside view s.rules.number s.journal s.library s.book
-  read_there told = read_is ∙ ap (λ (f : File). views.book_of (library_in s) (beside_file (length_of s.journal) f) s.book) (known told).file
+  pub read_there : IsTrue tells → book_in view s ≡ opened_beside view s.rules.number (follows_in s) s.journal s.library s.book
+  read_there told = read_is ∙ ap (λ (f : File). views.book_of (library_in s) (beside_file (follows_in s) (length_of s.journal) f) s.book) (known told).file
 
-  pub opened_makes : IsTrue tells → (scripts : List Named) (v : View) (j : Journal D) → making_after s.rules.number v ≡ making_of view s.rules.number j → IsMadeOf view scripts s.rules.number j s.journal (s.book, s.library)
+  pub opened_makes : IsTrue tells → (scripts : List Named) (v : View) (j : Journal D) → making_after s.rules.number v ≡ making_of view s.rules.number j → IsMadeOf view scripts s.rules.number (follows_in s) j s.journal (s.book, s.library)
       → MakesBook scripts s.rules.number v (book_in view s)
   opened_makes told scripts v j same is =
       subst (MakesBook scripts s.rules.number v) (sym (read_there told))
-      (made_there scripts s.rules.number (making_after s.rules.number v) (making_of view s.rules.number j) (opened_beside view s.rules.number s.journal s.library s.book) same is)
+      (made_there scripts s.rules.number (making_after s.rules.number v) (making_of view s.rules.number j) (opened_beside view s.rules.number (follows_in s) s.journal s.library s.book) same is)
 
-  module _ (o : IsBookInOrder s.rules.number s.book (library_in s)) where
+  module _ (o : IsOpenedBook s.rules.number (follows_in s) s.book (library_in s)) where
     abbrev pub n : ℕ
     n = length_of s.journal
 
@@ -67,9 +67,9 @@ module _ {D N : Type 0} (view : D → View) (tells : Bool) (s : Shelf D N) (up :
     pub opened_again : book_in view s ≡ reopened (book_in view s)
     opened_again = read_is ∙ (o.again n f ∙ ap reopened (sym read_is))
 
-    pub opened_order : AreInRange s.rules → journal.IsSound s.journal → is_broken s.journal ≡ false → (IsTrue tells → CanGoOnWith view s.rules.number s.journal (s.book, s.library))
-        → (IsTrue tells → HasStatesTold view s.rules.number s.journal (s.book, s.library)) → IsInOrder view tells s
-    opened_order limits sound whole fit told = record {
+    pub opened_order : AreInRange s.rules → journal.IsSound s.journal → is_broken s.journal ≡ false → (IsTrue tells → CanGoOnWith view s.rules.number (follows_in s) s.journal (s.book, s.library))
+        → (IsTrue tells → HasStatesTold view s.rules.number s.journal (s.book, s.library)) → IfSome s.follower (IsFollowerOf view tells s.rules.number s.journal (s.book, s.library)) → IsInOrder view tells s
+    opened_order limits sound whole fit told fed = record {
       placed = o.placed;
       kept = o.kept;
       orderly = subst IsOrderly (sym read_is) (o.orderly n f);
@@ -78,15 +78,20 @@ module _ {D N : Type 0} (view : D → View) (tells : Bool) (s : Shelf D N) (up :
       range = subst IsInRange (sym read_is) (o.range n f);
       number = o.shelf_is;
       limits = limits;
-      few = few_scripts (library_in s).setup o.read;
+      few = o.few;
       sound = sound;
       whole = λ _. whole;
       fit = λ t. subst (IsFit view texts s.rules.number s.journal) (sym (read_there t)) (fit t);
       told = λ t _. told t;
       knows = record { newest_is = now_is; noted = noted_so; images = λ t. settled_newest view s.journal ((fit t).settled refl) now_is; records = λ t _. (known t).records };
+      fed = fed_of s.follower fed;
     }
+      where
+        fed_of : (x : Option Follower) → IfSome x (IsFollowerOf view tells s.rules.number s.journal (s.book, s.library)) → IfSome x (IsFed view tells s)
+        fed_of None h = tt
+        fed_of (Some x) h = record { standing = h.standing; up = up; again = opened_again; fed = h.fed; made = h.made; told = h.told }
 
-  pub opened_is_own : (IsTrue tells → CanGoOnWith view s.rules.number s.journal (s.book, s.library)) → OpensOwn view s.rules.number s.journal (s.book, s.library) → IsOwnShelf view tells s
+  pub opened_is_own : (IsTrue tells → CanGoOnWith view s.rules.number (follows_in s) s.journal (s.book, s.library)) → OpensOwn view s.rules.number s.journal (s.book, s.library) → IsOwnShelf view tells s
   opened_is_own fit own =
       opened_own view tells s now_is (ap (λ (b : Book). b.down) read_is) (λ t. subst (IsFit view texts s.rules.number s.journal) (sym (read_there t)) (fit t)) own
 
@@ -94,15 +99,14 @@ module _ {D N : Type 0} (view : D → View) (tells : Bool) (s : Shelf D N) (up :
 
 module _ {D : Type 0} (view : D → View) (scripts : List Named) (shelf : ℕ) (old : D) (j0 j2 : Journal D) (openings : OpeningsStay view) (recoveries : RecoveriesFindOne view) (reads : (view old).images (view old).seen)
     (counts : CountsNow (view_of view j0)) (same : making_on shelf (view old) ≡ making_of view shelf j0) (first : StaysThroughout texts shelf (view old) (view_of view j0)) where
-  some_there : (before after : Book) (k : Between texts shelf before after) → HoldIn k (view old).images → making_of view shelf j0 ≢ nothing
+  pub some_there : (before after : Book) (k : Between texts shelf before after) → HoldIn k (view old).images → made_in (making_of view shelf j0) ≢ None
   some_there before after k held none =
-      let m = making_on shelf (view old) in
-      let is : m ≡ nothing = same ∙ none in
-      ⊎_elim (λ (h : MakesIn texts shelf (view old).seen before). let no : ⊥ = cc (sym (ap made_in is) ∙ h.1) in no)
-      (λ (h : MakesIn texts shelf (view old).seen after). let no : ⊥ = cc (sym (ap made_in is) ∙ h.1) in no)
+      let is : made_in (making_on shelf (view old)) ≡ None = ap made_in same ∙ none in
+      ⊎_elim (λ (h : MakesIn texts shelf (view old).seen before). let no : ⊥ = cc (sym is ∙ h.1) in no)
+      (λ (h : MakesIn texts shelf (view old).seen after). let no : ⊥ = cc (sym is ∙ h.1) in no)
       (make_books texts shelf before after k (view old).seen (held (view old).seen reads))
 
-  still : IsQuiet (view_of view j0) (view_of view j2) → StaysThroughout texts shelf (view old) (view_of view j2)
+  pub still : IsQuiet (view_of view j0) (view_of view j2) → StaysThroughout texts shelf (view old) (view_of view j2)
   still q = λ before after k held.
       let run = first before after k held in
       let now : (image : List ℕ) → (view_of view j0).images image → Held k image = λ image left. run.each image (counts (view old).moment image run.later left) in
@@ -120,7 +124,7 @@ module _ {D : Type 0} (view : D → View) (scripts : List Named) (shelf : ℕ) (
 
   pub opens_all : IsReadOrRenewed view scripts shelf j0 j2 → OpensThroughout texts shelf scripts (view old) (view_of view j2)
   opens_all quiet = λ before after k held.
-      ⊎_elim (λ q. (openings texts shelf scripts old j2.disk (still q)).0 before after k held) (λ r. renewed r before after k held) (quiet (some_there before after k held))
+      ⊎_elim (λ q. (openings texts shelf scripts old j2.disk (still q)).0 before after k held) (λ r. renewed r before after k held) (quiet (λ none. some_there before after k held (ap made_in none)) (λ none. some_there before after k held (ap made_in none)))
 
 -- ---- nothing is lost on a disk whose journal was opened
 

@@ -1,38 +1,38 @@
 -- What opening a disk finds.
 use Rattle.std.proofs.Common.{◌≡◌, ◌≢◌, ◌⊎◌, inl, inr, ⊎_elim, ℕ, ◌+◌, ◌==◌, Bool, true, false, List, [], ◌∷◌, length, Option, Some, None, if◌then◌else◌, refl, sym, ◌∙◌, ap, subst, arith}
 use Rattle.std.proofs.lemmas.Option.{same_Some}
-use Rattle.setup_reader.specs.Texts.{setup_of_texts as texts, IsReadSetup}
+use Rattle.book_recovery.specs.SetupReader.Texts.{setup_of_texts as texts, IsReadSetup}
 use Rattle.script_nodes.specs.Arena.{IsScript, script_of}
 use Rattle.script_nodes.specs.Setup.{Named, Library}
 use Rattle.script_nodes.specs.Views.{named_of}
 use Rattle.script_nodes.specs.declared.setup.NamedScript.{NamedScript}
 use Rattle.web_disk.specs.View.{View, LeavesOnly}
-use Rattle.page_journal.specs.Records.{newest, records, format_of, Intact, stored, at_rest}
+use Rattle.page_journal.specs.Records.{newest, records, format_of, Intact, stored}
 use Rattle.page_journal.specs.Scanned.{IsQuiet}
 use Rattle.page_journal.specs.Settled.{IsSettled, bodies_in, length_of}
 use Rattle.page_journal.specs.declared.journal.Journal.{Journal}
 use Rattle.replay_spec.specs.Book.{Book, File, reopened}
-use Rattle.journal_records.specs.Records.{Record, begins, changes, renews, draws}
+use Rattle.journal_records.specs.Records.{Record, begins, changes, renews, draws, follows, promotes}
 use Rattle.journal_records.specs.Reading.{read_record}
 use Rattle.journal_records.specs.Laws.{AreRecordsExact}
-use Rattle.journal_spec.specs.Before.{Earlier, Made, made_of}
-use Rattle.journal_spec.specs.Retaking.{Told, unread, misread, told, told_in}
-use Rattle.journal_spec.specs.Making.{has_script, told_next, Making, nothing, begun, made, damaged, other, began, first_setup, first_by, next_setup, next_by, second_by, made_in, with_body, with_bodies, book_of}
-use Rattle.journal_spec.specs.Bytes.{book_in_bytes}
-use Rattle.journal_spec.specs.Old.{book_of_format}
-use Rattle.journal_spec.specs.Opening.{opened_on}
-use Rattle.journal_spec.specs.Standing.{IsMadeBook, Makes, IsOneOf}
-use Rattle.journal_spec.specs.Keeping.{Keeps}
-use Rattle.journal_spec.specs.Whole.{IsWhole, HasWholeScripts}
-use Rattle.journal_spec.specs.Disks.{IsFit}
-use Rattle.journal_spec.proofs.Fitting.{made_fits}
-use Rattle.journal_spec.proofs.Between.{read_as}
-use Rattle.journal_spec.proofs.Standings.{settled_stands}
+use Rattle.book_recovery.specs.JournalSpec.Before.{Earlier, Made, made_of}
+use Rattle.book_recovery.specs.JournalSpec.Retaking.{Told, unread, misread, told, told_in}
+use Rattle.book_recovery.specs.JournalSpec.Making.{has_script, told_next, Making, nothing, waits, waited, begun, made, damaged, other, began, first_setup, first_by, start_by, fed_by, next_setup, promoted_by, next_by, second_by, made_in, with_body, with_bodies, book_of}
+use Rattle.book_recovery.specs.JournalSpec.Bytes.{book_in_bytes}
+use Rattle.book_recovery.specs.JournalSpec.Old.{book_of_format}
+use Rattle.book_recovery.specs.JournalSpec.Opening.{opened_on}
+use Rattle.book_recovery.specs.JournalSpec.Standing.{IsMadeBook, Makes, IsOneOf}
+use Rattle.book_recovery.specs.JournalSpec.Keeping.{Keeps}
+use Rattle.book_recovery.specs.JournalSpec.Whole.{IsWhole, HasWholeScripts}
+use Rattle.book_recovery.specs.JournalSpec.Disks.{IsFit}
+use Rattle.book_recovery.proofs.JournalSpec.Fitting.{made_fits}
+use Rattle.book_recovery.proofs.JournalSpec.Between.{read_as}
+use Rattle.book_recovery.proofs.JournalSpec.Standings.{settled_stands}
 use Rattle.shelf.proofs.Newest.{makes_so}
-use Rattle.instance_book.specs.declared.book.Book.{Book as RustBook}
-use Rattle.instance_book.specs.Views as views
-use Rattle.instance_book.specs.Views.{Beside}
-use Rattle.instance_book.proofs.Behind.{arena_again}
+use Rattle.book_recovery.specs.InstanceBook.declared.book.Book.{Book as RustBook}
+use Rattle.book_recovery.specs.InstanceBook.Views as views
+use Rattle.book_recovery.specs.InstanceBook.Views.{Beside}
+use Rattle.book_recovery.proofs.InstanceBook.Behind.{arena_again}
 use Rattle.book_recovery.specs.Found.{FindsBook, beside_file}
 use Rattle.shelf.specs.Files.{file_in, read_file}
 use Rattle.shelf.specs.Migrating.{making_now}
@@ -42,21 +42,41 @@ use Rattle.book_recovery.specs.Found.{HasToldStates}
 
 -- ---- what records make is nothing just where there is none
 
-module _ (shelf place n : ℕ) where
-  some_setup_first : (s : ℕ) (o : Option (List Named)) → first_setup shelf place n s o ≢ nothing
+module _ (fed : Bool) (shelf place n : ℕ) where
+  some_setup_first : (s : ℕ) (o : Option (List Named)) → first_setup fed shelf place n s o ≢ nothing
   some_setup_first s None = λ e. cc e
   some_setup_first s (Some scripts) = by_test (s == shelf)
     where
-      by_test : (t : Bool) → (if t then begun (began shelf n scripts) else other place) ≢ nothing
+      by_test : (t : Bool) → (if t then begun (began fed shelf place n scripts) else other place) ≢ nothing
       by_test true = λ e. cc e
       by_test false = λ e. cc e
 
-  pub some_first : (o : Option Record) → first_by texts shelf place n o ≢ nothing
+  pub some_first : (o : Option Record) → first_by texts fed shelf place n o ≢ nothing
   some_first None = λ e. cc e
   some_first (Some (changes c state)) = λ e. cc e
   some_first (Some (renews named)) = λ e. cc e
   some_first (Some (draws k)) = λ e. cc e
+  some_first (Some follows) = λ e. cc e
+  some_first (Some promotes) = λ e. cc e
   some_first (Some (begins s named)) = some_setup_first s (texts named)
+
+pub some_start : (shelf place n : ℕ) (o : Option Record) → start_by texts shelf place n o ≢ nothing
+some_start shelf place n None = λ e. cc e
+some_start shelf place n (Some (changes c state)) = λ e. cc e
+some_start shelf place n (Some (renews named)) = λ e. cc e
+some_start shelf place n (Some (draws k)) = λ e. cc e
+some_start shelf place n (Some follows) = λ e. cc e
+some_start shelf place n (Some promotes) = λ e. cc e
+some_start shelf place n (Some (begins s named)) = some_first false shelf place n (Some (begins s named))
+
+pub some_fed : (shelf place n : ℕ) (o : Option Record) → fed_by texts shelf place n o ≢ nothing
+some_fed shelf place n None = λ e. cc e
+some_fed shelf place n (Some (changes c state)) = λ e. cc e
+some_fed shelf place n (Some (renews named)) = λ e. cc e
+some_fed shelf place n (Some (draws k)) = λ e. cc e
+some_fed shelf place n (Some follows) = λ e. cc e
+some_fed shelf place n (Some promotes) = λ e. cc e
+some_fed shelf place n (Some (begins s named)) = some_first true shelf place n (Some (begins s named))
 
 module _ (place n : ℕ) (m : Made) where
   pub some_told : (x : Told) (c : _) → told_next place n m c x ≢ nothing
@@ -68,6 +88,10 @@ module _ (place n : ℕ) (m : Made) where
   some_setup None = λ e. cc e
   some_setup (Some scripts) = λ e. cc e
 
+  pub some_promoted : (fed : Bool) → promoted_by place n m fed ≢ nothing
+  some_promoted true = λ e. cc e
+  some_promoted false = λ e. cc e
+
   pub some_if : (t : Bool) (x : Making) → x ≢ nothing → (if t then x else damaged place) ≢ nothing
   some_if true x h = h
   some_if false x h = λ e. cc e
@@ -77,6 +101,8 @@ module _ (place n : ℕ) (m : Made) where
   some_next (Some (begins s named)) = λ e. cc e
   some_next (Some (draws k)) = λ e. cc e
   some_next (Some (renews named)) = some_setup (texts named)
+  some_next (Some follows) = λ e. cc e
+  some_next (Some promotes) = some_promoted m.book.follows
   some_next (Some (changes c state)) =
       some_if (has_script (length m.book.scripts) c) (told_next place n m c (told_in m.earlier m.book c state)) (some_told (told_in m.earlier m.book c state) c)
 
@@ -85,10 +111,14 @@ module _ (place n : ℕ) (m : Made) where
   some_second (Some (begins s named)) = λ e. cc e
   some_second (Some (draws k)) = λ e. cc e
   some_second (Some (renews named)) = some_setup (texts named)
+  some_second (Some follows) = λ e. cc e
+  some_second (Some promotes) = some_promoted m.book.follows
   some_second (Some (changes c state)) = some_next (Some (changes c state))
 
 some_body : (shelf place : ℕ) (body : List ℕ) (m : Making) → with_body texts shelf place body m ≢ nothing
-some_body shelf place body nothing = some_first shelf place (length body) (read_record body)
+some_body shelf place body nothing = some_start shelf place (length body) (read_record body)
+some_body shelf place body (waits s) = some_fed shelf place (length body) (read_record body)
+some_body shelf place body waited = some_first false shelf place (length body) (read_record body)
 some_body shelf place body (begun m) = some_second place (length body) m (read_record body)
 some_body shelf place body (made m) = some_next place (length body) m (read_record body)
 some_body shelf place body (damaged p) = λ e. cc e
@@ -105,10 +135,6 @@ none_read shelf (body ∷ bodies) is =
 
 pub not_nothing : (m : Making) (x : Made) → made_in m ≡ Some x → m ≢ nothing
 not_nothing m x is none = let no : ⊥ = cc (none, is) in no
-
--- a journal without records has a header and a gate
-pub nine : {D : Type 0} (view : D → View) (j : Journal D) → IsSettled view j → bodies_in view j ≡ [] → length_of j ≡ 9
-nine view j s none = omega (arith, s.end, ap (λ (bs : List (List ℕ)). length (at_rest bs)) none)
 
 -- each script that is kept can be run
 pub whole_named : (s : NamedScript) → IsScript s.script → IsWhole (named_of s)
@@ -141,13 +167,13 @@ made_there scripts shelf m n b same (seen, is) = (seen, ap (opened_on shelf scri
 
 -- ---- what is found of records can go on
 
-module _ {D : Type 0} (view : D → View) (shelf : ℕ) (j : Journal D) where
+module _ {D : Type 0} (view : D → View) (shelf : ℕ) (fed : Bool) (j : Journal D) where
   -- beside a book that was read of this journal
   abbrev pub read_beside : Beside
-  read_beside = record { length = length_of j; file = read_file view shelf j; down = None }
+  read_beside = record { length = length_of j; file = read_file view shelf j; down = None; follows = fed }
 
   -- what can go on, with the states that records told
-  pub found_fit : (b : Book) → AreRecordsExact → IsSettled view j → j.format ≡ newest → HasWholeScripts b → IsReadSetup b.scripts → Makes texts shelf (bodies_in view j) b → b ≡ reopened b → IsFit view texts shelf j b
+  pub found_fit : (b : Book) → AreRecordsExact → IsSettled view j → j.format ≡ newest → HasWholeScripts b → (b.follows ≡ false → IsReadSetup b.scripts) → Makes texts shelf (bodies_in view j) b → b ≡ reopened b → IsFit view texts shelf j b
   found_fit b x settled now whole read (seen, makes) again =
       let fits = made_fits x texts shelf (bodies_in view j) (made_of b seen) makes in
       let keeps : Keeps texts shelf (bodies_in view j) (reopened b) = record {
@@ -166,11 +192,11 @@ module _ {D : Type 0} (view : D → View) (shelf : ℕ) (j : Journal D) where
   abbrev pub there : RustBook → Library → Book
   there b lib = views.book_of lib read_beside b
 
-  module _ (b : RustBook) (lib : Library) (finds : FindsBook shelf (length_of j) b lib (making_of view shelf j)) where
+  module _ (b : RustBook) (lib : Library) (finds : FindsBook shelf (length_of j) fed b lib (making_of view shelf j)) where
     pub found_is : finds.whole.book ≡ there b lib
     found_is =
         let file : read_file view shelf j ≡ finds.whole.book.file = ap file_in finds.is in
-        finds.book ∙ ap (λ (f : File). views.book_of lib (beside_file (length_of j) f) b) (sym file)
+        finds.book ∙ ap (λ (f : File). views.book_of lib (beside_file fed (length_of j) f) b) (sym file)
 
     pub found_again : there b lib ≡ reopened (there b lib)
     found_again = sym found_is ∙ (finds.again ∙ ap reopened found_is)

@@ -1,16 +1,16 @@
 -- An opening finds and leaves own records.
 use Rattle.std.proofs.Common.{◌≡◌, ℕ, ◌+◌, ◌≤◌, ◌^◌, Bool, List, [], ◌∷◌, length, None, IsTrue, refl, sym, ◌∙◌, ap, subst, arith}
-use Rattle.setup_reader.specs.Texts.{setup_of_texts as texts}
+use Rattle.book_recovery.specs.SetupReader.Texts.{setup_of_texts as texts}
 use Rattle.web_disk.specs.View.{View, NoNewImage, Elapses, LeavesOnly}
-use Rattle.page_journal.specs.Records.{newest, format_of, stored}
+use Rattle.page_journal.specs.Records.{newest, format_of, stored, at_rest}
 use Rattle.page_journal.specs.Opened.{TellsFormat}
 use Rattle.page_journal.specs.Holding.{MayHold}
 use Rattle.page_journal.specs.Scanned.{IsQuiet}
 use Rattle.page_journal.specs.Settled.{IsSettled, view_of, bodies_in, length_of}
 use Rattle.page_journal.specs.declared.journal.Journal.{Journal}
 use Rattle.page_journal.proofs.Mending.{leaves_then}
-use Rattle.journal_spec.specs.Owning.{AreOwn, AreOwnIn}
-use Rattle.journal_spec.specs.Disks.{IsFit}
+use Rattle.book_recovery.specs.JournalSpec.Owning.{AreOwn, AreOwnIn}
+use Rattle.book_recovery.specs.JournalSpec.Disks.{IsFit}
 use Rattle.shelf.specs.declared.shelf.Shelf.{Shelf}
 use Rattle.shelf.specs.Views.{book_in, rules_of, IsOwnShelf}
 use Rattle.shelf.specs.Opening.{HasOwnRecords, OpensOwn}
@@ -19,7 +19,10 @@ use Rattle.shelf.proofs.Owned.{none_own, first_own, images_own, stored_own, with
 use Rattle.shelf.proofs.Newest.{own_in, now_own}
 use Rattle.shelf.proofs.Standing.{OnlyNow}
 use Rattle.shelf.proofs.Recorded.{measured_up}
-use Rattle.shelf.proofs.Openings.{nine}
+
+-- a journal without records has a header and a gate
+nine : {D : Type 0} (view : D → View) (j : Journal D) → IsSettled view j → bodies_in view j ≡ [] → length_of j ≡ 9
+nine view j s none = omega (arith, s.end, ap (λ (bs : List (List ℕ)). length (at_rest bs)) none)
 
 -- a journal without records, for whose first one room is made
 module _ {D : Type 0} (view : D → View) (shelf : ℕ) (j0 j1 : Journal D) (now_is : j0.format ≡ newest) (settled : IsSettled view j0) (none : bodies_in view j0 ≡ []) (only_now : OnlyNow (view_of view j0))

@@ -1,6 +1,6 @@
 -- Own records go on to be own, in what a crash leaves of them.
 use Rattle.std.proofs.Common.{◌≡◌, refl, inl, inr, ⊎_elim, ℕ, true, ◌≤◌, ◌^◌, List, [], ◌∷◌, ◌++◌, length, get_or, Some, sym, ◌∙◌, ap, subst, arith, append_assoc}
-use Rattle.setup_reader.specs.Texts.{setup_of_texts as texts}
+use Rattle.book_recovery.specs.SetupReader.Texts.{setup_of_texts as texts}
 use Rattle.web_disk.specs.View.{View, NoNewImage, Elapses, LeavesOnly}
 use Rattle.web_disk.proofs.Moments.{started, goes_on}
 use Rattle.page_journal.specs.Records.{Log, Damaged, Intact, is_format, newest, format_of, records, bodies_of, at_rest, stored}
@@ -8,11 +8,11 @@ use Rattle.page_journal.specs.Holding.{IsClosed, MayHold, Holdable, MayHoldNowAn
 use Rattle.page_journal.specs.Settled.{IsSettled, view_of, bodies_in}
 use Rattle.page_journal.specs.declared.journal.Journal.{Journal}
 use Rattle.page_journal.proofs.Holds.{settled_images, just_these, before_or_after}
-use Rattle.journal_spec.specs.Before.{Made}
-use Rattle.journal_spec.specs.Making.{made_in, book_of}
-use Rattle.journal_spec.specs.Owning.{AreOwn, AreOwnIn}
-use Rattle.journal_spec.specs.Standing.{Flight, still, adds, puts, with_flight, format_with, HasRoom, Hold}
-use Rattle.journal_spec.proofs.Between.{closed_format}
+use Rattle.book_recovery.specs.JournalSpec.Before.{Made}
+use Rattle.book_recovery.specs.JournalSpec.Making.{made_in, book_of}
+use Rattle.book_recovery.specs.JournalSpec.Owning.{AreOwn, AreOwnIn}
+use Rattle.book_recovery.specs.JournalSpec.Standing.{Flight, still, adds, puts, with_flight, format_with, HasRoom, Hold}
+use Rattle.book_recovery.proofs.JournalSpec.Between.{closed_format}
 use Rattle.shelf.specs.Owning.{IsOwnImage, OwnRecords, HoldOwn, HoldsOwnRecords, HasOwnImages, StaysOwnThroughout}
 use Rattle.shelf.proofs.Newest.{own_now}
 

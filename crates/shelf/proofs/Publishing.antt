@@ -6,17 +6,17 @@ use Rattle.script_value.specs.declared.outcome.Reply.{Reply}
 use Rattle.script_value.specs.declared.outcome.Reply.TheVariants as reply
 use Rattle.script_nodes.specs.Setup.{Library}
 use Rattle.page_names.specs.Names.{Destination}
-use Rattle.replay_spec.specs.Book.{Change, Doubt, Book, spend}
+use Rattle.replay_spec.specs.Book.{Change, Book, spend}
 use Rattle.replay_spec.specs.Admission.{or_else, refusal_of, admit}
 use Rattle.replay_spec.specs.Step as step
 use Rattle.replay_spec.specs.Step.{Decision, replies, records, compacts, publish_comes}
 use Rattle.journal_records.specs.Records.{changes, record_length}
-use Rattle.journal_spec.specs.Lengths.{state_told}
-use Rattle.instance_book.specs.declared.change.Change.{Change as RustChange}
+use Rattle.book_recovery.specs.JournalSpec.Lengths.{state_told}
+use Rattle.book_recovery.specs.InstanceBook.declared.change.Change.{Change as RustChange}
 use Rattle.book_visits.specs.declared.prepared.Prepared.{Prepared}
 use Rattle.book_visits.specs.declared.ticket.Ticket.{Ticket}
 use Rattle.book_visits.specs.Views.{ticket_of, reply_of}
-use Rattle.instance_book.specs.Changes.{change_of, inside_of}
+use Rattle.book_recovery.specs.InstanceBook.Changes.{change_of, inside_of}
 use Rattle.book_visits.specs.Changes.{decision_by}
 use Rattle.book_visits.specs.Prepares.{IsRecord, IsCarriedOut, Prepares}
 use Rattle.shelf.specs.declared.rules.Rules as limits_of
@@ -24,7 +24,7 @@ use Rattle.shelf.specs.Views.{unmeasured, rules_of, fate_by}
 use Rattle.shelf.specs.Preparing.{Decides, TellsOfRun}
 use Rattle.shelf.specs.Events.{TellsReply, TellsCount, no_publish}
 use Rattle.shelf.specs.Recording.{refusal_of_size, IsWritten}
-use Rattle.shelf.proofs.Steps.{Comes, replied, wanting, told_same, too_long}
+use Rattle.shelf.proofs.Steps.{IsBar, Comes, replied, wanting, told_same, too_long}
 
 module _ (l : Library) (r : limits_of.Rules) (b : Book) (t : Ticket) where
   abbrev before : Decision
@@ -49,6 +49,7 @@ module _ (l : Library) (r : limits_of.Rules) (b : Book) (t : Ticket) where
   answered (reply.JournalFull n) h = told (reply.JournalFull n) h
   answered (reply.DiskFault count) h = told (reply.DiskFault count) h
   answered (reply.Down count) h = told (reply.Down count) h
+  answered reply.Following h = told reply.Following h
   answered reply.Worn h = told reply.Worn h
   answered reply.Memory h = wanting r b (ticket_of t)
 
@@ -69,6 +70,7 @@ module _ (l : Library) (r : limits_of.Rules) (b : Book) (t : Ticket) where
     unwritten (reply.JournalFull n) h = long (reply.JournalFull n) h
     unwritten (reply.DiskFault count) h = long (reply.DiskFault count) h
     unwritten (reply.Down count) h = long (reply.Down count) h
+    unwritten reply.Following h = long reply.Following h
     unwritten reply.Worn h = long reply.Worn h
     unwritten reply.Memory h = wanting r b (ticket_of t)
 
@@ -108,15 +110,16 @@ told_answered l r b d (reply.Oversize n) h = told_as d _ h
 told_answered l r b d (reply.JournalFull n) h = told_as d _ h
 told_answered l r b d (reply.DiskFault count) h = told_as d _ h
 told_answered l r b d (reply.Down count) h = told_as d _ h
+told_answered l r b d reply.Following h = told_as d _ h
 told_answered l r b d reply.Worn h = told_as d _ h
 told_answered l r b d reply.Memory h = told_wanting d _ h
 
 -- why a publish is refused before its segment is looked at
-pub up_refusal : (b : Book) (x : Destination) → b.down ≡ None → no_publish b x ≡ step.refused_by (refusal_of (admit b x))
-up_refusal b x up = ap (λ (o : Option Doubt). or_else (step.down_by o) (step.refused_by (refusal_of (admit b x)))) up
+pub free_refusal : (b : Book) (x : Destination) → step.barred b ≡ None → no_publish b x ≡ step.refused_by (refusal_of (admit b x))
+free_refusal b x free = ap (λ (o : Option step.Reply). or_else o (step.refused_by (refusal_of (admit b x)))) free
 
-pub down_refusal : (b : Book) (x : Destination) (d : Doubt) → b.down ≡ Some d → no_publish b x ≡ Some (step.down d.count)
-down_refusal b x d is = ap (λ (o : Option Doubt). or_else (step.down_by o) (step.refused_by (refusal_of (admit b x)))) is
+pub barred_refusal : (b : Book) (x : Destination) (r : step.Reply) → step.barred b ≡ Some r → no_publish b x ≡ Some r
+barred_refusal b x r is = ap (λ (o : Option step.Reply). or_else o (step.refused_by (refusal_of (admit b x)))) is
 
 -- it is told where it was found, and there is none where something was prepared
 pub refused_ok : (o : Option Refusal) (result : Result Prepared Reply) (p : Prepared) → IfSome o (λ r. result ≡ Err (reply.Refused r)) → result ≡ Ok p → o ≡ None
@@ -149,6 +152,7 @@ no_count (reply.Oversize n) old now h = tt
 no_count (reply.JournalFull n) old now h = tt
 no_count (reply.DiskFault count) old now h = absurd (let no : ⊥ = cc h in no)
 no_count (reply.Down count) old now h = tt
+no_count reply.Following old now h = tt
 no_count reply.Worn old now h = tt
 no_count reply.Memory old now h = tt
 
@@ -164,8 +168,20 @@ plain_count (reply.Oversize n) old now h = tt
 plain_count (reply.JournalFull n) old now h = tt
 plain_count (reply.DiskFault count) old now h = absurd (let no : ⊥ = cc h in no)
 plain_count (reply.Down count) old now h = tt
+plain_count reply.Following old now h = tt
 plain_count reply.Worn old now h = tt
 plain_count reply.Memory old now h = tt
+
+-- nor does what bars a shelf
+pub bar_count : (x : Reply) (old now : ℕ) → IsBar (reply_of x) → TellsCount old now (reply_of x)
+bar_count (reply.Down count) old now h = tt
+bar_count reply.Following old now h = tt
+bar_count x old now h = absurd h
+
+pub bar_plain : (x : Reply) → IsBar (reply_of x) → fate_by (reply_of x) ≡ step.plain
+bar_plain (reply.Down count) h = refl
+bar_plain reply.Following h = refl
+bar_plain x h = absurd h
 
 pub not_wanting : (x : Reply) → fate_by (reply_of x) ≡ step.plain → x ≡ reply.Memory → ⊥
 not_wanting x plain e = let fate : step.no_memory ≡ step.plain = ap (λ (y : Reply). fate_by (reply_of y)) (sym e) ∙ plain in cc fate

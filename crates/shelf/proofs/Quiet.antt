@@ -4,8 +4,8 @@ use Rattle.script_value.specs.declared.outcome.Reply.{Reply}
 use Rattle.script_value.specs.declared.outcome.Reply.TheVariants as reply
 use Rattle.web_disk.specs.View.{View}
 use Rattle.replay_spec.specs.Step as step
-use Rattle.instance_book.specs.declared.change.Change.{Change}
-use Rattle.instance_book.specs.Changes.{change_of, inside_of}
+use Rattle.book_recovery.specs.InstanceBook.declared.change.Change.{Change}
+use Rattle.book_recovery.specs.InstanceBook.Changes.{change_of, inside_of}
 use Rattle.book_visits.specs.Changes.{decision_by}
 use Rattle.book_visits.specs.Prepares.{AnswersWithPage}
 use Rattle.book_visits.specs.Views.{reply_of}
@@ -28,6 +28,7 @@ alone (reply.Oversize n) left = left
 alone (reply.JournalFull n) left = left
 alone (reply.DiskFault count) left = tt
 alone (reply.Down count) left = left
+alone reply.Following left = left
 alone reply.Worn left = left
 alone reply.Memory left = left
 
@@ -45,6 +46,7 @@ module _ (old new : View) (c : Change) where
   paged (step.compacted n) h = absurd h
   paged (step.disk_failed count) h = absurd h
   paged (step.down count) h = absurd h
+  paged step.following h = absurd h
   paged (step.oversize n) h = absurd h
   paged (step.journal_full n) h = absurd h
   paged step.worn h = absurd h

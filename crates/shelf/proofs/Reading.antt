@@ -1,6 +1,6 @@
 -- An opening goes on behind the reading of a journal.
-use Rattle.std.proofs.Common.{◌≡◌, inl, inr, ⊎_elim, ℕ, Bool, List, ◌++◌, Some, Result, Err, IfOk, IsTrue, refl, sym, ◌∙◌, ap, subst, arith}
-use Rattle.setup_reader.specs.Texts.{setup_of_texts as texts}
+use Rattle.std.proofs.Common.{◌≡◌, inl, inr, ⊎_elim, ℕ, Bool, true, false, List, ◌++◌, Some, Result, Err, IfOk, IsTrue, refl, sym, ◌∙◌, ap, subst, arith}
+use Rattle.book_recovery.specs.SetupReader.Texts.{setup_of_texts as texts}
 use Rattle.script_nodes.specs.Setup.{Named, Library}
 use Rattle.script_nodes.specs.declared.library.Library as kept
 use Rattle.web_disk.specs.View.{View}
@@ -10,21 +10,25 @@ use Rattle.page_journal.specs.Scanned.{IsQuiet}
 use Rattle.page_journal.specs.Settled.{HasFailed, IsSettled, view_of, bodies_in, length_of}
 use Rattle.page_journal.specs.declared.journal.Journal.{Journal}
 use Rattle.page_journal.proofs.Mending.{leaves_then}
-use Rattle.journal_spec.specs.Before.{Made}
-use Rattle.journal_spec.specs.Reading.{AreAllBytes}
-use Rattle.journal_spec.specs.Old.{book_of_format, format_of_now}
-use Rattle.journal_spec.specs.Making.{Making, nothing, begun, made, damaged, other, made_in, book_of}
+use Rattle.book_recovery.specs.JournalSpec.Before.{Made}
+use Rattle.book_recovery.specs.JournalSpec.Reading.{AreAllBytes}
+use Rattle.book_recovery.specs.JournalSpec.Old.{book_of_format, format_of_now}
+use Rattle.book_recovery.specs.JournalSpec.Making.{Making, nothing, waits, waited, begun, made, damaged, other, waiting, made_in, book_of}
 use Rattle.file_copies.specs.OfFileNotes.declared.notes.FileNotes.{FileNotes}
 use Rattle.file_copies.specs.OfFileNotes.Files as noted
-use Rattle.book_recovery.specs.Noting.{marks_of, IsFileOf, NotesFile}
+use Rattle.book_recovery.specs.Noting.{marks_of, IsFileOf, WhereMade, NotesFile}
 use Rattle.shelf.specs.Files.{file_in, KnowsRead}
-use Rattle.journal_spec.specs.Opening.{opened_on}
-use Rattle.journal_spec.specs.Owning.{AreOwn}
-use Rattle.journal_spec.specs.Standing.{IsMadeBook, Hold, Held}
-use Rattle.journal_spec.proofs.Standings.{closed_holds}
-use Rattle.instance_book.specs.declared.book.Book.{Book as RustBook}
+use Rattle.book_recovery.specs.JournalSpec.Opening.{opened_on}
+use Rattle.book_recovery.specs.JournalSpec.Owning.{AreOwn}
+use Rattle.book_recovery.specs.JournalSpec.Standing.{IsMadeBook, Hold, Held}
+use Rattle.book_recovery.proofs.JournalSpec.Standings.{closed_holds}
+use Rattle.book_recovery.specs.InstanceBook.declared.book.Book.{Book as RustBook}
 use Rattle.book_recovery.specs.declared.found.Found.{Found}
+use Rattle.std.proofs.lemmas.Option.{same_Some}
+use Rattle.replay_spec.specs.Book.{Book}
+use Rattle.book_recovery.specs.InstanceBook.declared.in_order.InOrder.{InOrder}
 use Rattle.book_recovery.specs.Found.{FindsBook, Finds}
+use Rattle.book_recovery.specs.Reading.{IsMadeAs}
 use Rattle.shelf.specs.Opening.{making_of, opened_beside, added_by, HasOwnRecords, Opens, Renews, HasAdded}
 use Rattle.shelf.specs.Faults.{IsReadFault, IsReadFaultOf}
 use Rattle.shelf.specs.Owning.{HoldsOwnRecords, StaysOwnThroughout}
@@ -44,31 +48,31 @@ module _ {D : Type 0} (view : D → View) (tells : Bool) (scripts : List Named) 
   pub own_after : HasOwnRecords view shelf j0 → HasOwnRecords view shelf j1
   own_after own = subst (AreOwn texts shelf) (sym bodies_same) own
 
-  pub found_after : (b : RustBook) (lib : Library) → length_of j1 ≡ length_of j0 → FindsBook shelf (length_of j0) b lib (making_of view shelf j0) → FindsBook shelf (length_of j1) b lib (making_of view shelf j1)
-  found_after b lib len finds =
-      subst (λ (n : ℕ). FindsBook shelf n b lib (making_of view shelf j1)) (sym len) (subst (FindsBook shelf (length_of j0) b lib) (sym making_same) finds)
+  pub found_after : (fed : Bool) (b : RustBook) (lib : Library) → length_of j1 ≡ length_of j0 → FindsBook shelf (length_of j0) fed b lib (making_of view shelf j0) → FindsBook shelf (length_of j1) fed b lib (making_of view shelf j1)
+  found_after fed b lib len finds =
+      subst (λ (n : ℕ). FindsBook shelf n fed b lib (making_of view shelf j1)) (sym len) (subst (FindsBook shelf (length_of j0) fed b lib) (sym making_same) finds)
 
   own_read : IsTrue tells → HasOwnRecords view shelf j0 → StaysOwnThroughout shelf (view_of view j0) (view_of view j1)
   own_read told own = read_moments view shelf j0 j1 now_is (settled told) own quiet
 
   -- nothing was written, and nothing more is done
-  pub read_refused : (e : BeginFault) → (IsTrue tells → IsReadFaultOf scripts shelf (making_of view shelf j0) e) → (e ≡ fault.DiskFault → HasFailed (view_of view j0) (view_of view j1)) → Opens view tells scripts shelf j0 j1 (Err e)
-  read_refused e refused cause = record {
+  pub read_refused : (fed : Bool) (e : BeginFault) → (IsTrue tells → IsReadFaultOf scripts shelf (making_of view shelf j0) e) → (e ≡ fault.DiskFault → HasFailed (view_of view j0) (view_of view j1)) → Opens view tells scripts shelf fed j0 j1 (Err e)
+  read_refused fed e refused cause = record {
     begun = λ told. tt;
     fit = λ told. tt;
     told = λ told. tt;
     in_order = tt;
-    setup = tt;
+    setup = λ leads. tt;
     own_moments = λ told own. own_read told own;
     refused = refused;
-    quiet = λ told some. inl quiet;
+    quiet = λ told some other. inl quiet;
     keeps = λ told no. inl (refl, (quiet.seen, quiet.images));
     cause = λ h. cause (let is : e ≡ fault.DiskFault = cc h in is);
     later = quiet.faults;
   }
 
   -- what is done then
-  module _ (j2 : Journal D) (result : Result (RustBook × kept.Library) BeginFault) (next : Opens view tells scripts shelf j1 j2 result) where
+  module _ (fed : Bool) (j2 : Journal D) (result : Result (RustBook × kept.Library) BeginFault) (next : Opens view tells scripts shelf fed j1 j2 result) where
     adds_then : (more : List (List ℕ)) → HasAdded view more j1 j2 → HasAdded view more j0 j2
     adds_then more (inl (none, (seen, images))) = inl (none, (seen ∙ quiet.seen, λ image left. quiet.images image (images image left)))
     adds_then more (inr (ends, bodies)) = inr (ends, bodies ∙ ap (λ (bs : List (List ℕ)). bs ++ more) bodies_same)
@@ -83,9 +87,9 @@ module _ {D : Type 0} (view : D → View) (tells : Bool) (scripts : List Named) 
           moments = (k, r.moments.1, r.moments.2 ∙ bodies_same, quiet_leaves (view_of view j0) (view_of view j1) (view_of view j2) (Held k) quiet holds r.moments.3);
         }
 
-    pub opens_after : Opens view tells scripts shelf j0 j2 result
+    pub opens_after : Opens view tells scripts shelf fed j0 j2 result
     opens_after = record {
-      begun = λ told. subst (λ (m : Making). IfOk result (λ o. IsMadeBook (opened_on shelf scripts m) (opened_beside view shelf j2 o.1 o.0))) making_same (next.begun told);
+      begun = λ told. subst (λ (m : Making). IfOk result (λ o. IsMadeBook (opened_on shelf scripts m) (opened_beside view shelf fed j2 o.1 o.0))) making_same (next.begun told);
       fit = next.fit;
       told = next.told;
       in_order = next.in_order;
@@ -93,9 +97,9 @@ module _ {D : Type 0} (view : D → View) (tells : Bool) (scripts : List Named) 
       own_moments = λ told own.
           leaves_then (view_of view j0) (view_of view j1) (view_of view j2) (HoldsOwnRecords shelf) (own_read told own) (next.own_moments told (own_after own));
       refused = λ told. subst (λ (m : Making). IsReadFault scripts shelf m result) making_same (next.refused told);
-      quiet = λ told some.
+      quiet = λ told some other.
           ⊎_elim (λ q. inl (quiet_then (view_of view j0) (view_of view j1) (view_of view j2) quiet q)) (λ r. inr (renews_then told r))
-          (next.quiet told (λ none. some (sym making_same ∙ none)));
+          (next.quiet told (λ none. some (sym making_same ∙ none)) (λ none. other (sym making_same ∙ none)));
       keeps = λ told no. adds_then (added_by scripts shelf (making_of view shelf j0) result)
           (subst (λ (m : Making). HasAdded view (added_by scripts shelf m result) j1 j2) making_same (next.keeps told no));
       cause = λ h. omega (arith, next.cause h, quiet.faults);
@@ -103,30 +107,47 @@ module _ {D : Type 0} (view : D → View) (tells : Bool) (scripts : List Named) 
     }
 
 -- what is found of a journal of the newest format
-pub found_at : {D : Type 0} (view : D → View) (shelf : ℕ) (j : Journal D) → j.format ≡ newest → (f : Found) → Finds shelf (length_of j) f (book_of_format j.format texts shelf (bodies_in view j)) → Finds shelf (length_of j) f (making_of view shelf j)
-found_at view shelf j now f finds =
-    subst (Finds shelf (length_of j) f) (ap (λ (k : ℕ). book_of_format k texts shelf (bodies_in view j)) now ∙ format_of_now texts shelf (bodies_in view j)) finds
+pub found_at : {D : Type 0} (view : D → View) (shelf : ℕ) (j : Journal D) → j.format ≡ newest → (fed : Bool) (f : Found) → Finds shelf (length_of j) fed f (book_of_format j.format texts shelf (bodies_in view j)) → Finds shelf (length_of j) fed f (making_of view shelf j)
+found_at view shelf j now fed f finds =
+    subst (Finds shelf (length_of j) fed f) (ap (λ (k : ℕ). book_of_format k texts shelf (bodies_in view j)) now ∙ format_of_now texts shelf (bodies_in view j)) finds
+
+-- a book of a shelf that does not follow is none of one that waits
+pub none_waits : {D : Type 0} (view : D → View) (shelf : ℕ) (j : Journal D) (b : RustBook) (lib : Library) → FindsBook shelf (length_of j) false b lib (making_of view shelf j) → (s : ℕ) → making_of view shelf j ≡ waits s → ⊥
+none_waits view shelf j b lib finds s is =
+    let at : waiting s ≡ finds.whole = same_Some (waiting s) finds.whole (sym (ap made_in is) ∙ finds.is) in
+    let no : true ≡ false = ap (λ (m : Made). m.book.follows) at ∙ ap (λ (y : Book). y.follows) finds.book in
+    cc no
+
+-- nor is what records of a setup made
+pub none_waits_fed : {D : Type 0} (view : D → View) (shelf n : ℕ) (j : Journal D) (alone : Bool) (b : RustBook) (lib : Library) (seen : InOrder (Unit {0})) → IsMadeAs shelf n true alone b lib seen (making_of view shelf j)
+    → (s : ℕ) → making_of view shelf j ≡ waits s → ⊥
+none_waits_fed view shelf n j true b lib seen m s is = let no : begun m.whole ≡ waits s = sym m.is ∙ is in cc no
+none_waits_fed view shelf n j false b lib seen m s is = let no : made m.whole ≡ waits s = sym m.is ∙ is in cc no
 
 -- what is known of it, where its records make a book
-pub known_at : {D : Type 0} (view : D → View) (shelf : ℕ) (j : Journal D) (notes : FileNotes) → j.format ≡ newest → (b : RustBook) (lib : Library) → FindsBook shelf (length_of j) b lib (making_of view shelf j)
-    → NotesFile j.format shelf (bodies_in view j) notes (book_of_format j.format texts shelf (bodies_in view j)) → KnowsRead view shelf j notes
-known_at view shelf j notes now b lib finds known =
-    let bodies = bodies_in view j in
-    let is : book_of_format j.format texts shelf bodies ≡ making_of view shelf j = ap (λ (k : ℕ). book_of_format k texts shelf bodies) now ∙ format_of_now texts shelf bodies in
-    record {
-      records = record {
-        marks = known.marks ∙ ap (λ (k : ℕ). marks_of k texts shelf 8 bodies nothing) now;
-        bytes = known.bytes;
-      };
-      file = by_making (making_of view shelf j) finds.whole finds.is (subst (IsFileOf notes) is known.file) ∙ sym (ap file_in finds.is);
-    }
+pub known_file : {D : Type 0} (view : D → View) (shelf : ℕ) (j : Journal D) (notes : FileNotes) → {fed : Bool} (b : RustBook) (lib : Library) → FindsBook shelf (length_of j) fed b lib (making_of view shelf j) → ((s : ℕ) → making_of view shelf j ≡ waits s → ⊥)
+    → NotesFile newest shelf (bodies_in view j) notes (making_of view shelf j) → KnowsRead view shelf j notes
+known_file view shelf j notes b lib finds others known = record {
+  records = record { marks = known.marks; bytes = known.bytes };
+  file = by_making (making_of view shelf j) finds.whole finds.is others known.file ∙ sym (ap file_in finds.is);
+}
   where
-    by_making : (m : Making) (w : Made) → made_in m ≡ Some w → IsFileOf notes m → noted.file_in notes ≡ w.book.file
-    by_making nothing w made_is file = absurd (let no : ⊥ = cc made_is in no)
-    by_making (begun y) w made_is file = file ∙ ap (λ (z : Made). z.book.file) (let same : y ≡ w = cc made_is in same)
-    by_making (made y) w made_is file = file ∙ ap (λ (z : Made). z.book.file) (let same : y ≡ w = cc made_is in same)
-    by_making (damaged p) w made_is file = absurd (let no : ⊥ = cc made_is in no)
-    by_making (other p) w made_is file = absurd (let no : ⊥ = cc made_is in no)
+    by_making : (m : Making) (w : Made) → made_in m ≡ Some w → ((s : ℕ) → m ≡ waits s → ⊥) → IsFileOf notes m → noted.file_in notes ≡ w.book.file
+    by_making nothing w made_is others file = absurd (let no : ⊥ = cc made_is in no)
+    by_making waited w made_is others file = absurd (let no : ⊥ = cc made_is in no)
+    by_making (waits s) w made_is others file = absurd (others s refl)
+    by_making (begun y) w made_is others file = file ∙ ap (λ (z : Made). z.book.file) (let same : y ≡ w = cc made_is in same)
+    by_making (made y) w made_is others file = file ∙ ap (λ (z : Made). z.book.file) (let same : y ≡ w = cc made_is in same)
+    by_making (damaged p) w made_is others file = absurd (let no : ⊥ = cc made_is in no)
+    by_making (other p) w made_is others file = absurd (let no : ⊥ = cc made_is in no)
+
+-- what was read of a journal of the newest format
+pub noted_at : {D : Type 0} (view : D → View) (shelf : ℕ) (j : Journal D) (notes : FileNotes) (x : Found) → j.format ≡ newest → WhereMade x (NotesFile j.format shelf (bodies_in view j) notes (book_of_format j.format texts shelf (bodies_in view j)))
+    → WhereMade x (NotesFile newest shelf (bodies_in view j) notes (making_of view shelf j))
+noted_at view shelf j notes x now known =
+    let bodies = bodies_in view j in
+    let P : ℕ → Making → Type 0 = λ k m. WhereMade x (NotesFile k shelf bodies notes m) in
+    subst (P newest) (format_of_now texts shelf bodies) (subst (λ (k : ℕ). P k (book_of_format k texts shelf bodies)) now known)
 
 -- it goes on to be known behind a call that wrote nothing
 pub known_after : {D : Type 0} (view : D → View) (shelf : ℕ) (j0 j1 : Journal D) (notes : FileNotes) → IsQuiet (view_of view j0) (view_of view j1) → KnowsRead view shelf j0 notes → KnowsRead view shelf j1 notes

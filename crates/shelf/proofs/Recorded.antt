@@ -1,6 +1,6 @@
 -- How a shelf's disk goes on to stand for its book where an event leaves a record with the state of its own script.
 use Rattle.std.proofs.Common.{◌≡◌, ℕ, ◌+◌, ◌≤◌, ◌^◌, Bool, List, [], ◌∷◌, ◌++◌, length, Option, Some, None, option_map, refl, sym, ◌∙◌, ap, subst, arith}
-use Rattle.setup_reader.specs.Texts.{setup_of_texts as texts}
+use Rattle.book_recovery.specs.SetupReader.Texts.{setup_of_texts as texts}
 use Rattle.web_disk.specs.View.{View, LeavesOnly}
 use Rattle.page_journal.specs.Records.{newest, stored}
 use Rattle.page_journal.specs.Holding.{MayHold}
@@ -13,17 +13,17 @@ use Rattle.replay_spec.specs.Step.{Event, Fate, kept, recovered, step}
 use Rattle.replay_spec.specs.Runs.{lands, change_in, doubted}
 use Rattle.replay_spec.specs.Laws.{IsLawful}
 use Rattle.replay_spec.specs.Recovery.{of_length}
-use Rattle.journal_spec.specs.Lengths.{own_body}
-use Rattle.journal_spec.specs.Before.{made_of}
-use Rattle.journal_spec.specs.Owning.{AreOwn, IsOwnBefore}
-use Rattle.journal_spec.specs.Standing.{adds, flight_of, Between, Carries, if_kept, length_in, Throughout, HasRoom}
-use Rattle.journal_spec.specs.Whole.{CanBeWritten}
-use Rattle.journal_spec.specs.Events.{Gives}
-use Rattle.journal_spec.specs.Keeping.{AreOver, IsAppending, KeepsSetup, Keeps, KeepsDoubt, KeepsWith, landed_bodies, told_bodies, IsWritable, at_stake, stake_of}
-use Rattle.journal_spec.specs.Disks.{IsFit}
-use Rattle.journal_spec.specs.Laws.{MeasuresDoubt, EventsAreKept, EventsStandBetween}
-use Rattle.journal_spec.proofs.Telling.{own_before_is, own_are_told}
-use Rattle.journal_spec.proofs.Standings.{settled_stands, written, left_standing}
+use Rattle.book_recovery.specs.JournalSpec.Lengths.{own_body}
+use Rattle.book_recovery.specs.JournalSpec.Before.{made_of}
+use Rattle.book_recovery.specs.JournalSpec.Owning.{AreOwn, IsOwnBefore}
+use Rattle.book_recovery.specs.JournalSpec.Standing.{adds, flight_of, Between, Carries, if_kept, length_in, Throughout, HasRoom}
+use Rattle.book_recovery.specs.JournalSpec.Whole.{CanBeWritten}
+use Rattle.book_recovery.specs.JournalSpec.Events.{Gives}
+use Rattle.book_recovery.specs.JournalSpec.Keeping.{AreOver, IsAppending, KeepsSetup, Keeps, KeepsDoubt, KeepsWith, landed_bodies, told_bodies, IsWritable, at_stake, stake_of}
+use Rattle.book_recovery.specs.JournalSpec.Disks.{IsFit}
+use Rattle.book_recovery.specs.JournalSpec.Laws.{MeasuresDoubt, EventsAreKept, EventsStandBetween}
+use Rattle.book_recovery.proofs.JournalSpec.Telling.{own_before_is, own_are_told}
+use Rattle.book_recovery.proofs.JournalSpec.Standings.{settled_stands, written, left_standing}
 use Rattle.shelf.specs.Owning.{OwnRecords, HoldsOwnRecords, HasOwnImages, StaysOwnThroughout, StandsOwn}
 use Rattle.shelf.proofs.Owned.{images_own, own_seen, with_added, stays_own, quiet_run_own}
 use Rattle.shelf.proofs.Newest.{newest_images, makes_so, now_own}

@@ -27,18 +27,18 @@ use Rattle.machine_states.specs.declared.segment.Origin.TheVariants as origin
 use Rattle.machine_states.specs.declared.segment.Outcome.{Outcome}
 use Rattle.machine_states.specs.declared.segment.Outcome.TheVariants.{Shown, Finished, Ended, Faulted, Fuel}
 use Rattle.machine_states.specs.declared.segment.Segment.{Segment}
-use Rattle.visit_runs.specs.SendSuspend.Segments.{newest, FitsFrom, Replays, bindings_in, AreBindings, IsConsistent}
+use Rattle.book_recovery.specs.VisitRuns.SendSuspend.Segments.{newest, FitsFrom, Replays, bindings_in, AreBindings, IsConsistent}
 use Rattle.book_visits.specs.declared.ticket.Ticket.{Ticket}
 use Rattle.book_visits.specs.Views.{ticket_of}
 use Rattle.script_nodes.proofs.Scripts.{arena_again}
-use Rattle.instance_book.specs.Places.{arena_of}
-use Rattle.instance_book.specs.declared.book.Book as kept
-use Rattle.instance_book.specs.Swept.{cells_at}
+use Rattle.book_recovery.specs.InstanceBook.Places.{arena_of}
+use Rattle.book_recovery.specs.InstanceBook.declared.book.Book as kept
+use Rattle.book_recovery.specs.InstanceBook.Swept.{cells_at}
 use Rattle.book_visits.specs.Prepares.{HasItsScript, AreOnBy}
 use Rattle.book_visits.specs.Fits.{IsFor, IsRunnable}
-use Rattle.instance_book.specs.Fits.{FitsScript, IsStoredScript}
-use Rattle.visit_runs.specs.Likes.{IsLike}
-use Rattle.visit_runs.proofs.Visits.{runs_from}
+use Rattle.book_recovery.specs.InstanceBook.Fits.{FitsScript, IsStoredScript}
+use Rattle.book_recovery.specs.VisitRuns.Likes.{IsLike}
+use Rattle.book_recovery.proofs.VisitRuns.Visits.{runs_from}
 use Rattle.shelf.specs.Runs.{IsRunFrom, IsRunOver, IsRunAs}
 use Rattle.shelf.specs.Holding.{AreHeld, AreHeldBy, IsWhole, ShowsWholeFrom}
 

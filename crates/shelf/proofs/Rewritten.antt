@@ -10,7 +10,7 @@ use Rattle.page_journal.specs.Holding.{IsEither}
 use Rattle.page_journal.specs.Scanned.{IsQuiet}
 use Rattle.page_journal.specs.Settled.{IsSettled, view_of, bodies_in, length_of}
 use Rattle.page_journal.specs.declared.journal.Journal.{Journal}
-use Rattle.instance_book.specs.declared.book.Book.{Book}
+use Rattle.book_recovery.specs.InstanceBook.declared.book.Book.{Book}
 use Rattle.file_copies.specs.OfFileNotes.declared.notes.FileNotes.{FileNotes}
 use Rattle.file_copies.specs.declared.copying.CopyFault.TheVariants as copy
 use Rattle.shelf.specs.declared.compaction.CompactFault.{CompactFault}

@@ -3,8 +3,8 @@ use Rattle.std.proofs.Common.{◌≡◌, ◌≤◌, ◌<◌, ◌*◌, ◌^◌, �
 use Rattle.std.specs.List.{AllByRecursion}
 use Rattle.wire_bytes.specs.Spelling.{u32_bytes, byte_string}
 use Rattle.value_bytes.specs.Spelling.{list_bytes}
-use Rattle.setup_reader.proofs.Edited.{sound}
-use Rattle.setup_reader.specs.Texts.{IsReadSetup}
+use Rattle.book_recovery.proofs.SetupReader.Edited.{sound}
+use Rattle.book_recovery.specs.SetupReader.Texts.{IsReadSetup}
 use Rattle.journal_records.specs.Fields.{script_bytes, ScriptFits}
 use Rattle.journal_records.specs.Records.{IsInGrammar, begin_of, renewal_of, body_of}
 use Rattle.std.proofs.lemmas.Option.{same_Some}

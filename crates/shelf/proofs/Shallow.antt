@@ -5,7 +5,7 @@ use Rattle.std.proofs.lemmas.Grind.{reverse_onto}
 use Rattle.std.proofs.lemmas.List.Folds.{list_all-append}
 use Rattle.machine_states.specs.declared.frame.Frame.{Frame}
 use Rattle.machine_states.specs.Views.{frame_of, stack}
-use Rattle.journal_spec.specs.Lengths.{is_shallow_frame}
+use Rattle.book_recovery.specs.JournalSpec.Lengths.{is_shallow_frame}
 
 turned : (a b : Bool) → (a && (b && true)) ≡ (b && a)
 turned true true = refl

@@ -1,6 +1,6 @@
 -- What the calls of a shelf leave of it.
-use Rattle.std.proofs.Common.{◌≡◌, ◌∙◌, ap, sym, subst, refl, ℕ, ◌+◌, ◌≤◌, ◌^◌, ◌++◌, ◌∷◌, [], Bool, IsTrue, false, List, length, Option, Some, None, option_map}
-use Rattle.setup_reader.specs.Texts.{IsReadSetup, setup_of_texts as texts}
+use Rattle.std.proofs.Common.{◌≡◌, ◌∙◌, ap, sym, subst, refl, ℕ, ◌+◌, ◌≤◌, ◌^◌, ◌++◌, ◌∷◌, [], Bool, IsTrue, false, List, length, Option, Some, None, option_map, IfSome}
+use Rattle.book_recovery.specs.SetupReader.Texts.{IsReadSetup, setup_of_texts as texts}
 use Rattle.web_disk.specs.View.{View, LeavesOnly}
 use Rattle.page_journal.specs.Records.{newest, stored}
 use Rattle.page_journal.specs.Holding.{MayHold}
@@ -13,23 +13,23 @@ use Rattle.replay_spec.specs.Runs.{lands}
 use Rattle.replay_spec.specs.Step as step
 use Rattle.replay_spec.specs.Laws.{IsLawful}
 use Rattle.replay_spec.specs.Invariant.{IsOrderly}
-use Rattle.journal_spec.specs.Before.{States, state_at, Made}
-use Rattle.journal_spec.specs.Making as make
-use Rattle.journal_spec.specs.Making.{made_in}
-use Rattle.journal_spec.specs.Owning.{IsOwnBefore}
-use Rattle.journal_spec.specs.Standing.{if_kept, Throughout}
-use Rattle.journal_spec.specs.Events.{Gives}
-use Rattle.journal_spec.specs.Keeping.{IsAppending, KeepsSetup, told_bodies, stake_of}
-use Rattle.journal_spec.specs.Whole.{HasWholeScripts, CanBeWritten}
-use Rattle.journal_spec.specs.Lengths.{own_body}
-use Rattle.journal_spec.specs.Disks.{IsFit}
-use Rattle.journal_spec.specs.Spelling.{IsInRange, GivesTick}
-use Rattle.journal_spec.specs.Laws.{MeasuresDoubt, EventsAreKept, EventsStandBetween}
-use Rattle.instance_book.specs.Places.{given}
-use Rattle.instance_book.proofs.Given.{places_of}
-use Rattle.instance_book.specs.Makes.{HasSomeStates, HasItsStates, KeepsStates}
-use Rattle.instance_book.specs.declared.book.Book as kept
-use Rattle.instance_book.specs.Views.{book_of}
+use Rattle.book_recovery.specs.JournalSpec.Before.{States, state_at, Made}
+use Rattle.book_recovery.specs.JournalSpec.Making as make
+use Rattle.book_recovery.specs.JournalSpec.Making.{made_in}
+use Rattle.book_recovery.specs.JournalSpec.Owning.{IsOwnBefore}
+use Rattle.book_recovery.specs.JournalSpec.Standing.{if_kept, Throughout}
+use Rattle.book_recovery.specs.JournalSpec.Events.{Gives}
+use Rattle.book_recovery.specs.JournalSpec.Keeping.{IsAppending, KeepsSetup, told_bodies, stake_of}
+use Rattle.book_recovery.specs.JournalSpec.Whole.{HasWholeScripts, CanBeWritten}
+use Rattle.book_recovery.specs.JournalSpec.Lengths.{own_body}
+use Rattle.book_recovery.specs.JournalSpec.Disks.{IsFit}
+use Rattle.book_recovery.specs.JournalSpec.Spelling.{IsInRange, GivesTick}
+use Rattle.book_recovery.specs.JournalSpec.Laws.{MeasuresDoubt, EventsAreKept, EventsStandBetween}
+use Rattle.book_recovery.specs.InstanceBook.Places.{given}
+use Rattle.book_recovery.proofs.InstanceBook.Given.{places_of}
+use Rattle.book_recovery.specs.InstanceBook.Makes.{HasSomeStates, HasItsStates, KeepsStates}
+use Rattle.book_recovery.specs.InstanceBook.declared.book.Book as kept
+use Rattle.book_recovery.specs.InstanceBook.Views.{book_of}
 use Rattle.script_nodes.specs.Setup.{Named}
 use Rattle.script_nodes.specs.Views.{library_of}
 use Rattle.script_nodes.specs.declared.library.Library.{Library}
@@ -42,7 +42,7 @@ use Rattle.file_copies.specs.OfFileNotes.declared.notes.FileNotes.{FileNotes}
 use Rattle.file_copies.specs.OfFileNotes.Files.{file_in, IsNoted, StaysAsTold}
 use Rattle.shelf.specs.Files.{KnowsFile}
 use Rattle.shelf.proofs.Known.{known_quiet, known_doubted, may_newest}
-use Rattle.shelf.specs.Views.{rules_of, doubt_of, library_in, book_in, TellsStates, IsInOrder, IsOwnShelf}
+use Rattle.shelf.specs.Views.{rules_of, doubt_of, library_in, follows_in, book_in, TellsStates, IsFed, IsInOrder, IsOwnShelf}
 use Rattle.book_recovery.specs.Found.{HasToldStates}
 use Rattle.shelf.specs.Owning.{StandsOwn}
 use Rattle.shelf.specs.Events.{HasMoments, HasOwnMoments}
@@ -50,6 +50,7 @@ use Rattle.shelf.proofs.Standing.{OnlyNow, CountsNow, IsQuietCall, quiet_fit, qu
 use Rattle.shelf.proofs.Recorded as recorded
 use Rattle.shelf.proofs.Recorded.{recorded_moments, measured_moments, added_fit, doubted_fit, own_images, own_run}
 use Rattle.shelf.proofs.Owned.{quiet_run_own}
+use Rattle.shelf.proofs.Leads.{leads_in, unfed}
 use Rattle.shelf.proofs.Order.{order_behind}
 
 -- whatever states the pages had that records told, they have
@@ -79,13 +80,14 @@ module _ {D N : Type 0} (view : D → View) (tells : Bool) (s t : Shelf D N) (to
     still_up : t.down ≡ None → s.down ≡ None
     still_up up = not_doubted s.down (down ∙ (ap (λ (b : Book). b.down) (sym is) ∙ ap (λ (o : Option doubt_type.Doubt). option_map doubt_of o) up))
 
-    pub quiet_order : HasWholeScripts d → (t.down ≡ None → is_broken t.journal ≡ false) → IsNoted t.notes → StaysAsTold s.notes t.notes → IsInOrder view tells t
-    quiet_order scripts whole noted stays = order_behind view tells s t event fate x d order lawful tick some scripts is told_same limits stepped (record {
+    pub quiet_order : HasWholeScripts d → (t.down ≡ None → is_broken t.journal ≡ false) → IsNoted t.notes → StaysAsTold s.notes t.notes → t.follower ≡ s.follower → IfSome t.follower (IsFed view tells t) → IsInOrder view tells t
+    quiet_order scripts whole noted stays followed fed = order_behind view tells s t event fate x d order lawful tick some scripts is told_same limits followed stepped (record {
       sound = sound;
       whole = whole;
       fit = λ told. quiet_fit view tells s.rules.number (rules_of s.rules) (book_in view s) event fate s.journal refl appends gives tells_none lawful events d there none same down t.journal call told (order.fit told);
       told = λ told up m made_there. stay m.earlier.states (order.told told (still_up up) m (ap (λ (bs : List (List ℕ)). made_in (make.book_of texts s.rules.number bs)) (sym (ap stored call.seen)) ∙ made_there));
       knows = known_quiet view tells s.rules.number s.journal t.journal (s.down ≡ None) (t.down ≡ None) s.notes t.notes order.knows call stays noted still_up;
+      fed = fed;
     })
 
     pub quiet_run : IsTrue tells → OnlyNow (view s.journal.disk) → HasMoments view s t
@@ -167,23 +169,25 @@ module _ {D N : Type 0} (view : D → View) (tells : Bool) (s t : Shelf D N) (or
   module _ (some : HasSomeStates (library_in s).all s.book → HasSomeStates (library_in t).all t.book) (scripts : HasWholeScripts d) (sound : journal.IsSound t.journal) (tick : GivesTick event) where
     pub added_order : lands rules b event fate ≡ Some c → d.down ≡ None → is_broken t.journal ≡ false
         → (IsTrue tells → IsSettled view t.journal × (bodies_in view t.journal ≡ bodies_in view mid ++ own_body b c ∷ []))
-        → (IsTrue tells → (m : Made) → made_in (make.book_of texts s.rules.number (bodies_in view s.journal ++ own_body b c ∷ [])) ≡ Some m → HasToldStates (library_in t).all m.earlier.states t.book) → KnowsFile view tells s.rules.number t.journal (t.down ≡ None) t.notes → IsInOrder view tells t
-    added_order landed still whole added says knows = order_behind view tells s t event fate x d order lawful tick some scripts is told_same limits stepped (record {
+        → (IsTrue tells → (m : Made) → made_in (make.book_of texts s.rules.number (bodies_in view s.journal ++ own_body b c ∷ [])) ≡ Some m → HasToldStates (library_in t).all m.earlier.states t.book) → KnowsFile view tells s.rules.number t.journal (t.down ≡ None) t.notes → s.follower ≡ None → t.follower ≡ s.follower → IsInOrder view tells t
+    added_order landed still whole added says knows leads followed = order_behind view tells s t event fate x d order lawful tick some scripts is told_same limits followed stepped (record {
       sound = sound;
       whole = λ _. whole;
       fit = λ told. added_fit view tells s.rules.number rules b event s.journal order.knows.newest_is refl appends gives setup tells_none lawful events none_down c spelled room (order.fit told) (before told) mid t.journal knows.newest_is call fate d then_there landed still (added told).0 (added told).1;
       knows = knows;
+      fed = unfed view tells t (followed ∙ leads);
       told = λ told _ m made_there. says told m
           (ap (λ (bs : List (List ℕ)). made_in (make.book_of texts s.rules.number bs)) (ap (λ (bs : List (List ℕ)). bs ++ own_body b c ∷ []) (sym (ap stored call.seen)) ∙ sym (added told).1) ∙ made_there);
     })
 
-    pub doubted_order : EventsStandBetween → OnlyNow (view s.journal.disk) → stake_of rules b 0 event fate ≡ Some c → (d.down ≡ None → ⊥) → (t.down ≡ None → ⊥) → reopened b ≡ reopened d → t.journal.format ≡ newest → IsNoted t.notes → IsInOrder view tells t
-    doubted_order between only_now stake in_doubt in_doubt_there same now noted = order_behind view tells s t event fate x d order lawful tick some scripts is told_same limits stepped (record {
+    pub doubted_order : EventsStandBetween → OnlyNow (view s.journal.disk) → stake_of rules b 0 event fate ≡ Some c → (d.down ≡ None → ⊥) → (t.down ≡ None → ⊥) → reopened b ≡ reopened d → t.journal.format ≡ newest → IsNoted t.notes → s.follower ≡ None → t.follower ≡ s.follower → IsInOrder view tells t
+    doubted_order between only_now stake in_doubt in_doubt_there same now noted leads followed = order_behind view tells s t event fate x d order lawful tick some scripts is told_same limits followed stepped (record {
       sound = sound;
       whole = λ none. absurd (in_doubt_there none);
       fit = λ told. doubted_fit view tells s.rules.number rules b event s.journal order.knows.newest_is refl appends gives setup tells_none lawful events none_down c spelled room (order.fit told) (before told) mid t.journal call (run told) counts fate d then_there stake between only_now in_doubt same;
       told = λ told none. absurd (in_doubt_there none);
       knows = known_doubted view tells s.rules.number t.journal (t.down ≡ None) t.notes now noted (λ told. may_newest (view_of view mid) (view_of view t.journal) (bodies_in view mid) (own_body (book_in view s) c) counts (run told)) in_doubt_there;
+      fed = unfed view tells t (followed ∙ leads);
     })
 
   -- an own one goes on to be
@@ -203,8 +207,8 @@ module _ {D N : Type 0} (view : D → View) (tells : Bool) (s t : Shelf D N) (or
 
 -- a shelf whose book alone was made anew, the same
 pub same_order : {D N : Type 0} (view : D → View) (tells : Bool) (s t : Shelf D N) → IsInOrder view tells s → book_in view t ≡ book_in view s → HasSomeStates (library_in t).all t.book → StayTold s t → t.journal ≡ s.journal → t.notes ≡ s.notes → t.down ≡ s.down → t.library ≡ s.library
-    → t.rules ≡ s.rules → IsInOrder view tells t
-same_order view tells s t order is some stay journal_same notes_same down told_same limits = record {
+    → t.rules ≡ s.rules → s.follower ≡ None → t.follower ≡ s.follower → IsInOrder view tells t
+same_order view tells s t order is some stay journal_same notes_same down told_same limits leads followed = record {
   placed = places_of (library_in t).all t.book some;
   kept = some;
   orderly = subst IsOrderly (sym is) order.orderly;
@@ -212,7 +216,8 @@ same_order view tells s t order is some stay journal_same notes_same down told_s
   range = subst IsInRange (sym is) order.range;
   number = ap (λ (b : Book). b.shelf) is ∙ (order.number ∙ ap (λ (l : limits_of.Rules). l.number) (sym limits));
   limits = subst AreInRange (sym limits) order.limits;
-  read = subst (λ (l : Library). IsReadSetup (library_of l).setup) (sym told_same) order.read;
+  read = λ _. subst (λ (l : Library). IsReadSetup (library_of l).setup) (sym told_same) (order.read (leads_in s leads));
+  fed = unfed view tells t (followed ∙ leads);
   few = subst (λ (l : Library). HasFew (library_of l)) (sym told_same) order.few;
   sound = subst (λ (j : Journal _). journal.IsSound j) (sym journal_same) order.sound;
   whole = λ none. subst (λ (j : Journal _). is_broken j ≡ false) (sym journal_same) (order.whole (sym down ∙ none));
@@ -228,6 +233,6 @@ same_order view tells s t order is some stay journal_same notes_same down told_s
 
 -- what holds of the book beside the journal holds of a shelf's book where nothing is in doubt
 pub at_up : {D N : Type 0} (view : D → View) (s : Shelf D N) (P : Book → Type 0) → s.down ≡ None
-    → P (book_of (library_in s) (record { length = length_of s.journal; file = file_in s.notes; down = None }) s.book) → P (book_in view s)
+    → P (book_of (library_in s) (record { length = length_of s.journal; file = file_in s.notes; down = None; follows = follows_in s }) s.book) → P (book_in view s)
 at_up view s P up h =
-    subst (λ (o : Option doubt_type.Doubt). P (book_of (library_in s) (record { length = length_of s.journal; file = file_in s.notes; down = option_map doubt_of o }) s.book)) (sym up) h
+    subst (λ (o : Option doubt_type.Doubt). P (book_of (library_in s) (record { length = length_of s.journal; file = file_in s.notes; down = option_map doubt_of o; follows = follows_in s }) s.book)) (sym up) h

@@ -20,26 +20,26 @@ use Rattle.machine_states.specs.Views.{segment_of, origin_of, suspended_of, stat
 use Rattle.machine_states.specs.declared.segment.Outcome.{Outcome}
 use Rattle.machine_states.specs.declared.segment.Outcome.TheVariants.{Shown, Finished, Ended, Faulted, Fuel}
 use Rattle.machine_states.specs.declared.segment.Segment.{Segment}
-use Rattle.instance_book.specs.FrameCodec.Spelling.{StateHasBytes}
-use Rattle.instance_book.specs.FrameCodec.Forms.{RisesBefore}
-use Rattle.instance_book.specs.KeptStates.Links.{behind_at}
-use Rattle.journal_spec.specs.Before.{state_at, Earlier, links_behind, before_told}
-use Rattle.instance_book.specs.declared.book.Book as kept
-use Rattle.instance_book.specs.declared.in_order.InOrder.{InOrder}
-use Rattle.instance_book.specs.declared.instance.KeptInstance.{KeptInstance}
-use Rattle.instance_book.specs.declared.change.Opening.{Opening}
-use Rattle.instance_book.specs.declared.change.Extension.{Extension}
-use Rattle.instance_book.specs.declared.change.Change.{Change}
-use Rattle.instance_book.specs.declared.change.Change.TheVariants.{Opens, Extends, Ends, Finishes}
+use Rattle.book_recovery.specs.InstanceBook.FrameCodec.Spelling.{StateHasBytes}
+use Rattle.book_recovery.specs.InstanceBook.FrameCodec.Forms.{RisesBefore}
+use Rattle.book_recovery.specs.InstanceBook.KeptStates.Links.{behind_at}
+use Rattle.book_recovery.specs.JournalSpec.Before.{state_at, Earlier, links_behind, before_told}
+use Rattle.book_recovery.specs.InstanceBook.declared.book.Book as kept
+use Rattle.book_recovery.specs.InstanceBook.declared.in_order.InOrder.{InOrder}
+use Rattle.book_recovery.specs.InstanceBook.declared.instance.KeptInstance.{KeptInstance}
+use Rattle.book_recovery.specs.InstanceBook.declared.change.Opening.{Opening}
+use Rattle.book_recovery.specs.InstanceBook.declared.change.Extension.{Extension}
+use Rattle.book_recovery.specs.InstanceBook.declared.change.Change.{Change}
+use Rattle.book_recovery.specs.InstanceBook.declared.change.Change.TheVariants.{Opens, Extends, Ends, Finishes}
 use Rattle.book_visits.specs.declared.ticket.Ticket.{Ticket}
-use Rattle.instance_book.specs.KeptStates.Kept.{IsKeptFrom}
-use Rattle.instance_book.specs.Places.{given, arena_of, kept_at}
-use Rattle.instance_book.specs.Standing.{script_at}
-use Rattle.instance_book.specs.Views.{Beside, book_of, instances_of}
-use Rattle.instance_book.specs.Changes.{change_of, HasStateIn, OpensKept}
+use Rattle.book_recovery.specs.InstanceBook.KeptStates.Kept.{IsKeptFrom}
+use Rattle.book_recovery.specs.InstanceBook.Places.{given, arena_of, kept_at}
+use Rattle.book_recovery.specs.InstanceBook.Standing.{script_at}
+use Rattle.book_recovery.specs.InstanceBook.Views.{Beside, book_of, instances_of}
+use Rattle.book_recovery.specs.InstanceBook.Changes.{change_of, HasStateIn, OpensKept}
 use Rattle.book_visits.specs.Fits.{GoesOnGiven}
-use Rattle.instance_book.specs.Makes.{HasStatesFrom}
-use Rattle.instance_book.specs.Places.{IsNextAt}
+use Rattle.book_recovery.specs.InstanceBook.Makes.{HasStatesFrom}
+use Rattle.book_recovery.specs.InstanceBook.Places.{IsNextAt}
 use Rattle.book_visits.specs.Prepares.{OpensAs, ExtendsAs, OpensFrom, ExtendsFrom, extension_by, IsStartBy, IsAnswerBy, IsChangeBy, HasItsScript, KeepsStateOf, IsKeptOfTicket}
 use Rattle.book_visits.proofs.States.{first_kept, next_kept}
 use Rattle.shelf.specs.Holding.{IsWhole, IsWholeIn, IsWholeFrom, ShowsWhole, ShowsWholeFrom}

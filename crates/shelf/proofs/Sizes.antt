@@ -10,7 +10,7 @@ use Rattle.replay_spec.specs.Admission.{when, or_else}
 use Rattle.replay_spec.specs.Step as step
 use Rattle.replay_spec.specs.Step.{most_of_record, most_of_journal}
 use Rattle.journal_records.specs.Records.{changes, body_of, record_length}
-use Rattle.journal_spec.proofs.Brief.{length_short, short_measured}
+use Rattle.book_recovery.proofs.JournalSpec.Brief.{length_short, short_measured}
 use Rattle.book_visits.specs.Views.{reply_of}
 use Rattle.shelf.specs.Events.{TellsCount}
 use Rattle.shelf.specs.Recording.{refusal_of_size, IsShort, IsWritten}
@@ -47,5 +47,6 @@ unwritten_count journal c state (reply.Oversize n) old now h = tt
 unwritten_count journal c state (reply.JournalFull n) old now h = tt
 unwritten_count journal c state (reply.DiskFault count) old now h = size_count journal (record_length c state) (reply.DiskFault count) old now h
 unwritten_count journal c state (reply.Down count) old now h = tt
+unwritten_count journal c state reply.Following old now h = tt
 unwritten_count journal c state reply.Worn old now h = tt
 unwritten_count journal c state reply.Memory old now h = tt

@@ -1,7 +1,7 @@
 -- How a shelf's disk goes on to stand for its book.
 use Rattle.std.proofs.Common.{◌≡◌, ℕ, ◌≤◌, Bool, List, [], ◌++◌, Option, None, IsTrue, inl, refl, sym, ◌∙◌, ap, subst, arith}
 use Rattle.std.proofs.lemmas.List.{append-nil}
-use Rattle.setup_reader.specs.Texts.{setup_of_texts as texts}
+use Rattle.book_recovery.specs.SetupReader.Texts.{setup_of_texts as texts}
 use Rattle.web_disk.specs.View.{View, NoNewImage, Elapses}
 use Rattle.page_journal.specs.Records.{stored}
 use Rattle.page_journal.specs.Settled.{IsSettled, view_of, bodies_in}
@@ -11,14 +11,14 @@ use Rattle.replay_spec.specs.Rules.{Rules}
 use Rattle.replay_spec.specs.Step.{Event, Fate, kept, recovered, step}
 use Rattle.replay_spec.specs.Runs.{lands}
 use Rattle.replay_spec.specs.Laws.{IsLawful}
-use Rattle.journal_spec.specs.Standing.{Between, Held, HoldIn, if_kept, Stands, Throughout}
-use Rattle.journal_spec.specs.Keeping.{AreOver, IsAppending, Keeps, KeepsDoubt, IsOwnDoubt, KeepsWith, landed_bodies, told_bodies, IsWritable}
-use Rattle.journal_spec.specs.Events.{Gives}
-use Rattle.journal_spec.specs.Disks.{IsFit}
-use Rattle.journal_spec.specs.Laws.{MeasuresDoubt, EventsAreKept}
-use Rattle.journal_spec.specs.Owning.{IsOwnBefore}
-use Rattle.journal_spec.proofs.Between.{kept_alike, stand_alike}
-use Rattle.journal_spec.proofs.Standings.{any_less, carried, stays_then, stands_then}
+use Rattle.book_recovery.specs.JournalSpec.Standing.{Between, Held, HoldIn, if_kept, Stands, Throughout}
+use Rattle.book_recovery.specs.JournalSpec.Keeping.{AreOver, IsAppending, Keeps, KeepsDoubt, IsOwnDoubt, KeepsWith, landed_bodies, told_bodies, IsWritable}
+use Rattle.book_recovery.specs.JournalSpec.Events.{Gives}
+use Rattle.book_recovery.specs.JournalSpec.Disks.{IsFit}
+use Rattle.book_recovery.specs.JournalSpec.Laws.{MeasuresDoubt, EventsAreKept}
+use Rattle.book_recovery.specs.JournalSpec.Owning.{IsOwnBefore}
+use Rattle.book_recovery.proofs.JournalSpec.Between.{kept_alike, stand_alike}
+use Rattle.book_recovery.proofs.JournalSpec.Standings.{any_less, carried, stays_then, stands_then}
 use Rattle.shelf.specs.Owning.{StandsMeasured, StandsOwn}
 
 abbrev pub OnlyNow : View → Type 0

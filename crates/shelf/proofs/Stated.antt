@@ -26,24 +26,24 @@ use Rattle.machine_states.specs.Laws.{started, Stops, IsStateOf}
 use Rattle.machine_states.proofs.Halting.{script_stop}
 use Rattle.machine_states.proofs.Law.{page_is_inside}
 use Rattle.machine_states.proofs.Replay.{stops_as_run, one_state}
-use Rattle.instance_book.specs.KeptStates.Links.{links_at, behind_at}
+use Rattle.book_recovery.specs.InstanceBook.KeptStates.Links.{links_at, behind_at}
 use Rattle.machine_states.specs.Views.{Keeps, origin_of, segment_of, state_of}
 use Rattle.machine_states.specs.declared.segment.Outcome.{Outcome as StoredOutcome}
 use Rattle.machine_states.specs.declared.segment.Outcome.TheVariants.{Shown, Finished, Ended, Faulted, Fuel}
 use Rattle.machine_states.specs.declared.segment.Segment.{Segment}
-use Rattle.journal_spec.specs.Retaking.{arena_of}
-use Rattle.journal_spec.specs.Before.{links_behind}
-use Rattle.journal_spec.specs.Lengths.{kept_at, kept_by, state_over, state_by, chain_tape, own_state, own_before}
-use Rattle.journal_spec.specs.Whole.{IsWhole, HasWholeScripts}
-use Rattle.instance_book.specs.declared.book.Book as kept
-use Rattle.instance_book.specs.declared.change.Opening.{Opening}
-use Rattle.instance_book.specs.declared.change.Extension.{Extension}
-use Rattle.instance_book.specs.declared.change.Change.{Change}
-use Rattle.instance_book.specs.declared.change.Change.TheVariants.{Opens, Extends, Ends, Finishes}
+use Rattle.book_recovery.specs.JournalSpec.Retaking.{arena_of}
+use Rattle.book_recovery.specs.JournalSpec.Before.{links_behind}
+use Rattle.book_recovery.specs.JournalSpec.Lengths.{kept_at, kept_by, state_over, state_by, chain_tape, own_state, own_before}
+use Rattle.book_recovery.specs.JournalSpec.Whole.{IsWhole, HasWholeScripts}
+use Rattle.book_recovery.specs.InstanceBook.declared.book.Book as kept
+use Rattle.book_recovery.specs.InstanceBook.declared.change.Opening.{Opening}
+use Rattle.book_recovery.specs.InstanceBook.declared.change.Extension.{Extension}
+use Rattle.book_recovery.specs.InstanceBook.declared.change.Change.{Change}
+use Rattle.book_recovery.specs.InstanceBook.declared.change.Change.TheVariants.{Opens, Extends, Ends, Finishes}
 use Rattle.book_visits.specs.declared.ticket.Ticket.{Ticket}
-use Rattle.instance_book.specs.Views.{Beside, book_of}
+use Rattle.book_recovery.specs.InstanceBook.Views.{Beside, book_of}
 use Rattle.book_visits.specs.Views.{ticket_of}
-use Rattle.instance_book.specs.Changes.{change_of}
+use Rattle.book_recovery.specs.InstanceBook.Changes.{change_of}
 use Rattle.book_visits.specs.Fits.{IsStateBehind, GoesOnFrom, FitsAs}
 use Rattle.book_visits.specs.Laws.{KeepsStateAs}
 use Rattle.book_visits.specs.Prepares.{opening_by, extension_by, IsStartBy, IsAnswerBy, IsChangeBy, OpensFrom, ExtendsFrom, KeepsStateOf}

@@ -1,6 +1,6 @@
 -- What the events of a shelf come to.
-use Rattle.std.proofs.Common.{◌≡◌, ◌∙◌, ap, refl, ℕ, ◌^◌, ◌<◌, ◌≤◌, ◌==◌, nat_le, arith, Bool, true, false, List, [], Option, Some, None}
-use Rattle.std.specs.Prelude.{nat_lt}
+use Rattle.std.proofs.Common.{◌≡◌, ◌∙◌, ap, subst, refl, ℕ, ◌^◌, ◌<◌, ◌≤◌, ◌==◌, nat_le, arith, Bool, true, false, List, [], Option, Some, None}
+use Rattle.std.specs.Prelude.{nat_lt, ⊤}
 use Rattle.std.proofs.lemmas.Bool.Decides.{nat_tests}
 use Rattle.script_value.specs.Val.{Val}
 use Rattle.script_value.specs.declared.outcome.Refusal.{Refusal}
@@ -18,10 +18,16 @@ use Rattle.replay_spec.specs.Runs.{lands, recorded_under}
 use Rattle.replay_spec.specs.Remade.{through}
 use Rattle.replay_spec.proofs.Last.{last}
 use Rattle.journal_records.specs.Records.{record_length}
-use Rattle.journal_spec.specs.Lengths.{state_told}
+use Rattle.book_recovery.specs.JournalSpec.Lengths.{state_told}
 use Rattle.shelf.specs.declared.rules.Rules as limits_of
 use Rattle.shelf.specs.Views.{unmeasured, rules_of, fate_by}
 use Rattle.shelf.specs.Recording.{refusal_of_size}
+
+-- the reply tells what bars a shelf
+abbrev pub IsBar : step.Reply → Type 0
+IsBar (step.down count) = ⊤
+IsBar step.following = ⊤
+IsBar _ = ⊥
 
 -- what is told is the reply, whatever fate is read off it, and nothing is recorded
 pub record IsTold (rules : Rules) (b : Book) (x : step.Reply) : Type 0 where
@@ -42,6 +48,7 @@ told rs b (step.disk_failed count) = record { settled = refl; unrecorded = refl 
 told rs b (step.down count) = record { settled = refl; unrecorded = refl }
 told rs b (step.oversize n) = record { settled = refl; unrecorded = refl }
 told rs b (step.journal_full n) = record { settled = refl; unrecorded = refl }
+told rs b step.following = record { settled = refl; unrecorded = refl }
 told rs b step.worn = record { settled = refl; unrecorded = refl }
 told rs b step.memory = record { settled = refl; unrecorded = refl }
 told rs b (step.swept n) = record { settled = refl; unrecorded = refl }
@@ -102,9 +109,9 @@ module _ (r : limits_of.Rules) (b : Book) where
   unfolding step.step
   doubted t x c inside count is = record { step = λ nonce. ap (settle over (spend t.number b) (disk_fault count)) is; landed = refl }
 
-  -- a publish on a shelf that is down
-  pub down_publish : (t : next.Ticket) (d : Doubt) → b.down ≡ Some d → publish_comes over b t ≡ replies (step.down d.count)
-  down_publish t d is = ap (λ (o : Option Doubt). unless (step.down_by o) (decide over b t (admit b t.target))) is
+  -- a publish on a shelf that is barred
+  pub barred_publish : (t : next.Ticket) (x : step.Reply) → step.barred b ≡ Some x → publish_comes over b t ≡ replies x
+  barred_publish t x is = ap (λ (o : Option step.Reply). unless o (decide over b t (admit b t.target))) is
 
   -- a tick at or below the clock, and later ones
   pub early : (tick : ℕ) → nat_le tick b.clock ≡ true → Comes over b (step.sweep tick) plain (step.swept 0) b None
@@ -119,18 +126,17 @@ module _ (r : limits_of.Rules) (b : Book) where
       landed = rw late (ap (recorded_under (fate_by x)) is ∙ (told over b x).unrecorded);
     }
 
-    pub down_sweep : (d : Doubt) → b.down ≡ Some d → Comes over b (step.sweep tick) plain (step.down d.count) b None
-    down_sweep d is =
-        told_late (step.down d.count) (ap (λ (o : Option Doubt). unless (step.down_by o) (step.decide_sweep over tick b)) is)
+    pub barred_sweep : (x : step.Reply) → step.barred b ≡ Some x → Comes over b (step.sweep tick) (fate_by x) x b None
+    barred_sweep x is = told_late x (ap (λ (o : Option step.Reply). unless o (step.decide_sweep over tick b)) is)
 
     pub wanting_sweep : Comes over b (step.sweep tick) no_memory step.memory b None
     unfolding step.step
     wanting_sweep = record { step = λ nonce. rw late refl; landed = rw late refl }
 
-    module _ (up : b.down ≡ None) where
+    module _ (free : step.barred b ≡ None) where
       -- the body of a tick's record has nine bytes
       sweep_decided : sweep_comes over b tick ≡ unless (refusal_of_size b.length (record_length (sweeps tick) None)) (records (step.swept (freed tick b)) (sweeps tick) [])
-      sweep_decided = ap (λ (o : Option Doubt). unless (step.down_by o) (step.decide_sweep over tick b)) up
+      sweep_decided = ap (λ (o : Option step.Reply). unless o (step.decide_sweep over tick b)) free
 
       pub full_sweep : (x : step.Reply) → refusal_of_size b.length (record_length (sweeps tick) None) ≡ Some x → Comes over b (step.sweep tick) (fate_by x) x b None
       full_sweep x long =
@@ -162,14 +168,14 @@ module _ (r : limits_of.Rules) (b : Book) where
     landed = refl;
   }
 
-  pub down_compact : (d : Doubt) → b.down ≡ Some d → Comes over b step.compact plain (step.down d.count) b None
-  down_compact d is = told_compact (step.down d.count) (ap (λ (o : Option Doubt). unless (step.down_by o) (step.decide_compact over b)) is)
+  pub barred_compact : (x : step.Reply) → step.barred b ≡ Some x → Comes over b step.compact (fate_by x) x b None
+  barred_compact x is = told_compact x (ap (λ (o : Option step.Reply). unless o (step.decide_compact over b)) is)
 
   pub wanting_compact : Comes over b step.compact no_memory step.memory b None
   unfolding step.step
   wanting_compact = record { step = λ nonce. refl; landed = refl }
 
-  module _ (up : b.down ≡ None) where
+  module _ (free : step.barred b ≡ None) where
     abbrev pub compacted : ℕ
     compacted = file_length (compaction b)
 
@@ -177,7 +183,7 @@ module _ (r : limits_of.Rules) (b : Book) where
     too_far o = unless o (compacts (step.compacted compacted))
 
     compact_decided : step.compact_comes over b ≡ too_far (when (nat_lt step.most_of_journal compacted) (step.journal_full compacted))
-    compact_decided = ap (λ (o : Option Doubt). unless (step.down_by o) (step.decide_compact over b)) up
+    compact_decided = ap (λ (o : Option step.Reply). unless o (step.decide_compact over b)) free
 
     pub full_compact : 2 ^ 30 < compacted → Comes over b step.compact plain (step.journal_full compacted) b None
     full_compact long =
@@ -215,15 +221,35 @@ module _ (r : limits_of.Rules) (b : Book) where
   taken target answer nonce is = ap (λ (o : Option step.Reply). step.take_unless o b nonce) is
 
 -- why there is no take
-pub down_take : (b : Book) (x : Destination) (d : Doubt) → b.down ≡ Some d → step.no_take b x ≡ Some (step.down d.count)
-down_take b x d is =
-    ap (λ (o : Option Doubt). or_else (step.down_by o) (or_else (when (b.drawn == 2 ^ 62) step.worn) (step.refused_by (refusal_of (admit b x))))) is
+abbrev behind_bars : (b : Book) (x : Destination) → Option step.Reply → Option step.Reply
+behind_bars b x o = or_else o (or_else (when (b.drawn == 2 ^ 62) step.worn) (step.refused_by (refusal_of (admit b x))))
 
-pub worn_take : (b : Book) (x : Destination) → b.down ≡ None → (b.drawn == 2 ^ 62) ≡ true → step.no_take b x ≡ Some step.worn
-worn_take b x up is = rw (up, is) refl
+pub barred_take : (b : Book) (x : Destination) (r : step.Reply) → step.barred b ≡ Some r → step.no_take b x ≡ Some r
+barred_take b x r is = ap (behind_bars b x) is
 
-pub refused_take : (b : Book) (x : Destination) (r : Refusal) → b.down ≡ None → (b.drawn == 2 ^ 62) ≡ false → refusal_of (admit b x) ≡ Some r → step.no_take b x ≡ Some (step.refusal r)
-refused_take b x r up is not = rw (up, is, not) refl
+pub worn_take : (b : Book) (x : Destination) → step.barred b ≡ None → (b.drawn == 2 ^ 62) ≡ true → step.no_take b x ≡ Some step.worn
+worn_take b x free is = ap (behind_bars b x) free ∙ ap (λ (t : Bool). or_else (when t step.worn) (step.refused_by (refusal_of (admit b x)))) is
 
-pub free_take : (b : Book) (x : Destination) → b.down ≡ None → (b.drawn == 2 ^ 62) ≡ false → refusal_of (admit b x) ≡ None → step.no_take b x ≡ None
-free_take b x up is not = rw (up, is, not) refl
+-- on a shelf whose numbers are not used up
+free_is : (b : Book) (x : Destination) → step.barred b ≡ None → (b.drawn == 2 ^ 62) ≡ false → step.no_take b x ≡ step.refused_by (refusal_of (admit b x))
+free_is b x free not = ap (behind_bars b x) free ∙ ap (λ (t : Bool). or_else (when t step.worn) (step.refused_by (refusal_of (admit b x)))) not
+
+pub refused_take : (b : Book) (x : Destination) (r : Refusal) → step.barred b ≡ None → (b.drawn == 2 ^ 62) ≡ false → refusal_of (admit b x) ≡ Some r → step.no_take b x ≡ Some (step.refusal r)
+refused_take b x r free not is = free_is b x free not ∙ ap step.refused_by is
+
+pub free_take : (b : Book) (x : Destination) → step.barred b ≡ None → (b.drawn == 2 ^ 62) ≡ false → refusal_of (admit b x) ≡ None → step.no_take b x ≡ None
+free_take b x free not is = free_is b x free not ∙ ap step.refused_by is
+
+-- what bars a shelf that does not follow another one's journal and on which nothing is in doubt: nothing
+pub free_bars : (b : Book) → b.down ≡ None → b.follows ≡ false → step.barred b ≡ None
+free_bars b up leads =
+    ap (λ (o : Option Doubt). or_else (step.down_by o) (when b.follows step.following)) up ∙ ap (λ (t : Bool). or_else (step.down_by None) (when t step.following)) leads
+
+-- what bars a shelf is told as it is
+pub barred_by : (b : Book) (x : step.Reply) → step.barred b ≡ Some x → IsBar x
+barred_by b x is = by_both b.down b.follows x is
+  where
+    by_both : (o : Option Doubt) (t : Bool) (x : step.Reply) → or_else (step.down_by o) (when t step.following) ≡ Some x → IsBar x
+    by_both None true x e = subst IsBar (let same : step.following ≡ x = cc e in same) tt
+    by_both None false x e = absurd (let no : ⊥ = cc e in no)
+    by_both (Some d) t x e = subst IsBar (let same : step.down d.count ≡ x = cc e in same) tt

@@ -24,31 +24,31 @@ use Rattle.replay_spec.proofs.Admitted.{StandsAt, page_stands, page_is_no_start}
 use Rattle.machine_states.specs.Machine.{Suspended}
 use Rattle.machine_states.specs.Views.{segment_of, suspended_of}
 use Rattle.machine_states.specs.declared.segment.Segment.{Segment}
-use Rattle.instance_book.specs.FrameCodec.Spelling.{StateHasBytes}
-use Rattle.instance_book.specs.FrameCodec.Forms.{RisesBefore, BindsBefore}
-use Rattle.instance_book.proofs.FrameCodec.Formed.{forms_are_exact}
-use Rattle.journal_spec.specs.Retaking.{arena_of, Told, unread, misread, told, told_as, told_by, script_for, if_held, held}
-use Rattle.journal_spec.specs.Before.{Earlier, before_told}
-use Rattle.journal_spec.specs.Retaking as books
-use Rattle.journal_spec.specs.Lengths.{told_bytes, told_own}
-use Rattle.journal_spec.specs.Keeping.{IsTakenAs}
-use Rattle.journal_spec.proofs.Retaken.{held_fits}
-use Rattle.instance_book.specs.declared.book.Book as kept
-use Rattle.instance_book.specs.declared.change.Opening.{Opening}
-use Rattle.instance_book.specs.declared.change.Extension.{Extension}
-use Rattle.instance_book.specs.declared.change.Change.{Change}
-use Rattle.instance_book.specs.declared.change.Change.TheVariants.{Opens, Extends, Ends, Finishes}
+use Rattle.book_recovery.specs.InstanceBook.FrameCodec.Spelling.{StateHasBytes}
+use Rattle.book_recovery.specs.InstanceBook.FrameCodec.Forms.{RisesBefore, BindsBefore}
+use Rattle.book_recovery.proofs.InstanceBook.FrameCodec.Formed.{forms_are_exact}
+use Rattle.book_recovery.specs.JournalSpec.Retaking.{arena_of, Told, unread, misread, told, told_as, told_by, script_for, if_held, held}
+use Rattle.book_recovery.specs.JournalSpec.Before.{Earlier, before_told}
+use Rattle.book_recovery.specs.JournalSpec.Retaking as books
+use Rattle.book_recovery.specs.JournalSpec.Lengths.{told_bytes, told_own}
+use Rattle.book_recovery.specs.JournalSpec.Keeping.{IsTakenAs}
+use Rattle.book_recovery.proofs.JournalSpec.Retaken.{held_fits}
+use Rattle.book_recovery.specs.InstanceBook.declared.book.Book as kept
+use Rattle.book_recovery.specs.InstanceBook.declared.change.Opening.{Opening}
+use Rattle.book_recovery.specs.InstanceBook.declared.change.Extension.{Extension}
+use Rattle.book_recovery.specs.InstanceBook.declared.change.Change.{Change}
+use Rattle.book_recovery.specs.InstanceBook.declared.change.Change.TheVariants.{Opens, Extends, Ends, Finishes}
 use Rattle.book_visits.specs.declared.ticket.Ticket.{Ticket}
-use Rattle.instance_book.specs.Standing.{script_at}
-use Rattle.instance_book.specs.Swept.{cells_at}
-use Rattle.instance_book.specs.Views.{Beside, book_of, instance_of, instances_of}
-use Rattle.instance_book.specs.declared.numbered.Numbered.{Numbered}
-use Rattle.instance_book.specs.declared.in_order.InOrder.{InOrder}
-use Rattle.instance_book.specs.declared.instance.KeptInstance.{KeptInstance}
-use Rattle.instance_book.specs.Changes.{change_of, inside_of, gone_in, CanShowAt, HasRoomFor}
+use Rattle.book_recovery.specs.InstanceBook.Standing.{script_at}
+use Rattle.book_recovery.specs.InstanceBook.Swept.{cells_at}
+use Rattle.book_recovery.specs.InstanceBook.Views.{Beside, book_of, instance_of, instances_of}
+use Rattle.book_recovery.specs.InstanceBook.declared.numbered.Numbered.{Numbered}
+use Rattle.book_recovery.specs.InstanceBook.declared.in_order.InOrder.{InOrder}
+use Rattle.book_recovery.specs.InstanceBook.declared.instance.KeptInstance.{KeptInstance}
+use Rattle.book_recovery.specs.InstanceBook.Changes.{change_of, inside_of, gone_in, CanShowAt, HasRoomFor}
 use Rattle.book_visits.specs.Changes.{IsSpelledIn}
 use Rattle.book_visits.specs.Prepares.{opening_by, extension_by, ending_by, finish_by, IsStartBy, IsAnswerBy, IsChangeBy, OpensFrom, ExtendsFrom, KeepsStateOf, HasItsScript}
-use Rattle.instance_book.proofs.Seen.{instance_some, instance_none, cells_seen}
+use Rattle.book_recovery.proofs.InstanceBook.Seen.{instance_some, instance_none, cells_seen}
 use Rattle.shelf.specs.Holding.{AreHeld, AreHeldBy, IsWhole, IsWholeIn}
 use Rattle.shelf.specs.Recording.{state_in, behind_in, told_in, BindsIn}
 use Rattle.shelf.proofs.Now.{of_some}

@@ -5,7 +5,7 @@ use Rattle.replay_spec.specs.Admission.{when}
 use Rattle.std.proofs.lemmas.Bool.Decides.{nat_tests}
 use Rattle.script_value.specs.declared.outcome.TxName.{TxName}
 use Rattle.script_nodes.specs.Setup.{Named}
-use Rattle.setup_reader.specs.Texts.{setup_of_texts as texts}
+use Rattle.book_recovery.specs.SetupReader.Texts.{setup_of_texts as texts}
 use Rattle.page_journal.specs.Records.{frames}
 use Rattle.replay_spec.specs.Book.{Change, sweeps, Book}
 use Rattle.replay_spec.specs.Recovery.{number_in, with_number}
@@ -13,18 +13,18 @@ use Rattle.replay_spec.specs.Invariant.{Among}
 use Rattle.replay_spec.specs.Remade.{AreUsed}
 use Rattle.replay_spec.proofs.Stand.{among_of}
 use Rattle.machine_states.specs.Machine.{Suspended, inside_of}
-use Rattle.journal_records.specs.Records.{Record, begins, changes, renews, draws, IsInGrammar}
+use Rattle.journal_records.specs.Records.{Record, begins, changes, renews, draws, follows, promotes, IsInGrammar}
 use Rattle.journal_records.specs.Reading.{read_record}
 use Rattle.journal_records.specs.Laws.{AreRecordsExact}
-use Rattle.journal_spec.specs.Before.{States, state_at, Earlier, Made, made_of}
-use Rattle.journal_spec.specs.Retaking.{Told, unread, misread, told, told_in, held, landing, states_with, retaken}
-use Rattle.journal_spec.specs.Making.{Making, nothing, begun, made, damaged, other, has_script, began, first_setup, told_next, next_setup, first_by, next_by, second_by, with_body, with_bodies, made_in, book_of}
-use Rattle.journal_spec.specs.Keeping.{IsTakenAs, IsTaken, Keeps, body_by}
-use Rattle.journal_spec.proofs.Makings.{made_push}
-use Rattle.journal_spec.proofs.Retaken.{held_script}
-use Rattle.journal_spec.proofs.Taking.{IsNew, there, moved_in}
-use Rattle.instance_book.specs.declared.book.Book as kept
-use Rattle.instance_book.proofs.Given.{more_given}
+use Rattle.book_recovery.specs.JournalSpec.Before.{States, state_at, Earlier, Made, made_of}
+use Rattle.book_recovery.specs.JournalSpec.Retaking.{Told, unread, misread, told, told_in, held, landing, states_with, retaken}
+use Rattle.book_recovery.specs.JournalSpec.Making.{Making, nothing, waits, waited, begun, made, damaged, other, has_script, waiting, began, first_setup, told_next, next_setup, promoted_by, first_by, start_by, fed_by, next_by, second_by, with_body, with_bodies, made_in, book_of}
+use Rattle.book_recovery.specs.JournalSpec.Keeping.{IsTakenAs, IsTaken, Keeps, body_by}
+use Rattle.book_recovery.proofs.JournalSpec.Makings.{made_push}
+use Rattle.book_recovery.proofs.JournalSpec.Retaken.{held_script}
+use Rattle.book_recovery.proofs.JournalSpec.Taking.{IsNew, there, moved_in}
+use Rattle.book_recovery.specs.InstanceBook.declared.book.Book as kept
+use Rattle.book_recovery.proofs.InstanceBook.Given.{more_given}
 use Rattle.book_recovery.specs.Found.{HasToldStates}
 
 -- ---- states are told of numbers that were seen
@@ -61,10 +61,16 @@ known_setup : (place n : ℕ) (m : Made) (o : Option (List Named)) → Known m.e
 known_setup place n m None h = tt
 known_setup place n m (Some scripts) h = h
 
+known_promoted : (place n : ℕ) (m : Made) (fed : Bool) → Known m.earlier → IsKnown (promoted_by place n m fed)
+known_promoted place n m true h = h
+known_promoted place n m false h = tt
+
 known_next : (place n : ℕ) (m : Made) (r : Option Record) → Known m.earlier → IsKnown (next_by texts place n m r)
 known_next place n m None h = tt
 known_next place n m (Some (begins s named)) h = tt
 known_next place n m (Some (draws number)) h = tt
+known_next place n m (Some follows) h = tt
+known_next place n m (Some promotes) h = known_promoted place n m m.book.follows h
 known_next place n m (Some (renews named)) h = known_setup place n m (texts named) h
 known_next place n m (Some (changes c state)) h = by_test (has_script (length m.book.scripts) c)
   where
@@ -76,26 +82,50 @@ known_second : (place n : ℕ) (m : Made) (r : Option Record) → Known m.earlie
 known_second place n m None h = tt
 known_second place n m (Some (begins s named)) h = tt
 known_second place n m (Some (draws number)) h = h
+known_second place n m (Some follows) h = tt
+known_second place n m (Some promotes) h = known_promoted place n m m.book.follows h
 known_second place n m (Some (renews named)) h = known_setup place n m (texts named) h
 known_second place n m (Some (changes c state)) h = known_next place n m (Some (changes c state)) h
 
-known_began : (shelf place n s : ℕ) (o : Option (List Named)) → IsKnown (first_setup shelf place n s o)
-known_began shelf place n s None = tt
-known_began shelf place n s (Some scripts) = by_test (s == shelf)
+known_began : (fed : Bool) (shelf place n s : ℕ) (o : Option (List Named)) → IsKnown (first_setup fed shelf place n s o)
+known_began fed shelf place n s None = tt
+known_began fed shelf place n s (Some scripts) = by_test (s == shelf)
   where
-    by_test : (t : Bool) → IsKnown (if t then begun (began shelf n scripts) else other place)
+    by_test : (t : Bool) → IsKnown (if t then begun (began fed shelf place n scripts) else other place)
     by_test true = λ k d is. absurd (let no : ⊥ = cc in no)
     by_test false = tt
 
-known_first : (shelf place n : ℕ) (r : Option Record) → IsKnown (first_by texts shelf place n r)
-known_first shelf place n None = tt
-known_first shelf place n (Some (changes c state)) = tt
-known_first shelf place n (Some (renews named)) = tt
-known_first shelf place n (Some (draws number)) = tt
-known_first shelf place n (Some (begins s named)) = known_began shelf place n s (texts named)
+known_first : (fed : Bool) (shelf place n : ℕ) (r : Option Record) → IsKnown (first_by texts fed shelf place n r)
+known_first fed shelf place n None = tt
+known_first fed shelf place n (Some (changes c state)) = tt
+known_first fed shelf place n (Some (renews named)) = tt
+known_first fed shelf place n (Some (draws number)) = tt
+known_first fed shelf place n (Some follows) = tt
+known_first fed shelf place n (Some promotes) = tt
+known_first fed shelf place n (Some (begins s named)) = known_began fed shelf place n s (texts named)
+
+known_start : (shelf place n : ℕ) (r : Option Record) → IsKnown (start_by texts shelf place n r)
+known_start shelf place n None = tt
+known_start shelf place n (Some (changes c state)) = tt
+known_start shelf place n (Some (renews named)) = tt
+known_start shelf place n (Some (draws number)) = tt
+known_start shelf place n (Some follows) = tt
+known_start shelf place n (Some promotes) = tt
+known_start shelf place n (Some (begins s named)) = known_began false shelf place n s (texts named)
+
+known_fed : (shelf place n : ℕ) (r : Option Record) → IsKnown (fed_by texts shelf place n r)
+known_fed shelf place n None = tt
+known_fed shelf place n (Some (changes c state)) = tt
+known_fed shelf place n (Some (renews named)) = tt
+known_fed shelf place n (Some (draws number)) = tt
+known_fed shelf place n (Some follows) = tt
+known_fed shelf place n (Some promotes) = tt
+known_fed shelf place n (Some (begins s named)) = known_began true shelf place n s (texts named)
 
 known_body : (shelf place : ℕ) (body : List ℕ) (x : Making) → IsKnown x → IsKnown (with_body texts shelf place body x)
-known_body shelf place body nothing h = known_first shelf place (length body) (read_record body)
+known_body shelf place body nothing h = known_start shelf place (length body) (read_record body)
+known_body shelf place body (waits s) h = known_fed shelf place (length body) (read_record body)
+known_body shelf place body waited h = known_first false shelf place (length body) (read_record body)
 known_body shelf place body (begun m) h = known_second place (length body) m (read_record body) h
 known_body shelf place body (made m) h = known_next place (length body) m (read_record body) h
 known_body shelf place body (damaged p) h = tt
@@ -108,6 +138,8 @@ known_bodies shelf place (body ∷ bodies) x h =
 
 known_in : (x : Making) (m : Made) → made_in x ≡ Some m → IsKnown x → Known m.earlier
 known_in nothing m is h = absurd (let no : ⊥ = cc is in no)
+known_in waited m is h = absurd (let no : ⊥ = cc is in no)
+known_in (waits s) m is h = let same : waiting s ≡ m = cc is in subst (λ (y : Made). Known y.earlier) same (λ k d e. absurd (let no : ⊥ = cc e in no))
 known_in (begun k) m is h = let same : k ≡ m = cc is in subst (λ (y : Made). Known y.earlier) same h
 known_in (made k) m is h = let same : k ≡ m = cc is in subst (λ (y : Made). Known y.earlier) same h
 known_in (damaged p) m is h = absurd (let no : ⊥ = cc is in no)
@@ -142,11 +174,11 @@ told_then place n b earlier c inside (told d) m taken new is =
     ∙ ap (λ (o : Option (List TxName)). states_with o (number_in c) (told d) earlier.states) (there b earlier c names can new)
 
 pub told_landed : AreRecordsExact → (shelf : ℕ) (bodies : List (List ℕ)) (b : Book) (c : Change) (state : Option (List ℕ)) (inside : List TxName) (k : Keeps texts shelf bodies b)
-    → IsInGrammar (changes c state) → IsTaken k.earlier b c state inside → IsNew k.earlier.seen c → (m : Made) → made_in (book_of texts shelf (bodies ++ body_by c state ∷ [])) ≡ Some m
+    → IsInGrammar (changes c state) → IsTaken k.earlier b c state inside → IsNew k.earlier.seen c → b.follows ≡ false → (m : Made) → made_in (book_of texts shelf (bodies ++ body_by c state ∷ [])) ≡ Some m
     → m.earlier.states ≡ states_with (Some inside) (number_in c) (told_in k.earlier b c state) k.earlier.states
-told_landed exact shelf bodies b c state inside k fits taken new m is =
+told_landed exact shelf bodies b c state inside k fits taken new leads m is =
     let script : has_script (length b.scripts) c ≡ true = taken_script b c inside (told_in k.earlier b c state) taken in
-    let push = made_push exact texts shelf bodies (made_of b k.earlier) c state (told_in k.earlier b c state) k.makes fits script (moved_in k.earlier b b.logged [] None c state) in
+    let push = made_push exact texts shelf bodies (made_of b k.earlier) c state (told_in k.earlier b c state) k.makes leads fits script (moved_in k.earlier b b.logged [] None c state) in
     told_then (8 + length (frames bodies)) (length (body_by c state)) b k.earlier c inside (told_in k.earlier b c state) m taken new (ap made_in (sym push) ∙ is)
 
 -- ---- a number that is out was told of no state
@@ -174,11 +206,11 @@ module _ (b : Book) (k : ℕ) (out : Contains b.out k) (shelf : ℕ) (bodies : L
 
 -- ---- a sweep is told of no state
 
-pub swept_told : AreRecordsExact → (all : List Named) (shelf : ℕ) (bodies : List (List ℕ)) (b : Book) (tick : ℕ) → nat_le tick b.clock ≡ false → (k : Keeps texts shelf bodies b) → IsInGrammar (changes (sweeps tick) None)
+pub swept_told : AreRecordsExact → (all : List Named) (shelf : ℕ) (bodies : List (List ℕ)) (b : Book) (tick : ℕ) → nat_le tick b.clock ≡ false → (k : Keeps texts shelf bodies b) → IsInGrammar (changes (sweeps tick) None) → b.follows ≡ false
     → (m : Made) → made_in (book_of texts shelf (bodies ++ body_by (sweeps tick) None ∷ [])) ≡ Some m → (old new : kept.Book) → ((states : States) → HasToldStates all states old → HasToldStates all states new)
     → ((n : Made) → made_in (book_of texts shelf bodies) ≡ Some n → HasToldStates all n.earlier.states old) → HasToldStates all m.earlier.states new
-swept_told exact all shelf bodies b tick late k fits m is old new stay had =
+swept_told exact all shelf bodies b tick late k fits leads m is old new stay had =
     let over : nat_lt b.clock tick ≡ true = grind (arith, nat_tests, late) in
     let taken : IsTaken k.earlier b (sweeps tick) None [] = (ap (λ (t : Bool). when t []) over, refl) in
-    let same : m.earlier.states ≡ k.earlier.states = told_landed exact shelf bodies b (sweeps tick) None [] k fits taken (λ n e. absurd e) m is in
+    let same : m.earlier.states ≡ k.earlier.states = told_landed exact shelf bodies b (sweeps tick) None [] k fits taken (λ n e. absurd e) leads m is in
     subst (λ (states : States). HasToldStates all states new) (sym same) (stay k.earlier.states (had (made_of b k.earlier) k.makes))

@@ -1,27 +1,27 @@
 -- What a crash leaves at each moment of an opening, of a file of any format.
 use Rattle.std.proofs.Common.{◌≡◌, ◌≢◌, ◌⊎◌, inl, inr, ⊎_elim, ◌∙◌, ap, sym, subst, refl, ℕ, ◌==◌, Bool, true, false, List, Some, None, arith}
-use Rattle.setup_reader.specs.Texts.{setup_of_texts as texts}
+use Rattle.book_recovery.specs.SetupReader.Texts.{setup_of_texts as texts}
 use Rattle.script_nodes.specs.Setup.{Named}
 use Rattle.web_disk.specs.View.{View, LeavesOnly}
 use Rattle.page_journal.proofs.Mending.{leaves_then, leaves_map}
 use Rattle.replay_spec.specs.Book.{Book, reopened}
-use Rattle.journal_spec.specs.Standing.{Between, Held, HoldIn, HeldOpened, HoldsOpening, StaysThroughout, OpensThroughout}
-use Rattle.journal_spec.proofs.Between.{stand_alike}
-use Rattle.journal_spec.proofs.Standings.{carried}
+use Rattle.book_recovery.specs.JournalSpec.Standing.{Between, Held, HoldIn, HeldOpened, HoldsOpening, StaysThroughout, OpensThroughout}
+use Rattle.book_recovery.proofs.JournalSpec.Between.{stand_alike}
+use Rattle.book_recovery.proofs.JournalSpec.Standings.{carried}
 use Rattle.std.proofs.lemmas.Option.{same_Some}
 use Rattle.std.proofs.lemmas.Bool.Decides.{nat_tests}
 use Rattle.page_journal.specs.Records.{newest}
 use Rattle.page_journal.specs.Scanned.{IsQuiet}
 use Rattle.page_journal.specs.Settled.{view_of, bodies_in}
 use Rattle.page_journal.specs.declared.journal.Journal.{Journal}
-use Rattle.journal_spec.specs.Before.{Made, made_of}
-use Rattle.journal_spec.specs.Making.{nothing, made_in, book_of}
-use Rattle.journal_spec.specs.Old.{book_of_format}
-use Rattle.journal_spec.specs.Bytes.{book_in_bytes}
-use Rattle.journal_spec.specs.Opening.{opened_book}
-use Rattle.journal_spec.specs.Standing.{MakesIn}
-use Rattle.journal_spec.specs.Disks.{RecoveriesFindOne}
-use Rattle.journal_spec.proofs.Between.{make_books}
+use Rattle.book_recovery.specs.JournalSpec.Before.{Made, made_of}
+use Rattle.book_recovery.specs.JournalSpec.Making.{made_in, book_of}
+use Rattle.book_recovery.specs.JournalSpec.Old.{book_of_format}
+use Rattle.book_recovery.specs.JournalSpec.Bytes.{book_in_bytes}
+use Rattle.book_recovery.specs.JournalSpec.Opening.{opened_book}
+use Rattle.book_recovery.specs.JournalSpec.Standing.{MakesIn}
+use Rattle.book_recovery.specs.JournalSpec.Disks.{RecoveriesFindOne}
+use Rattle.book_recovery.proofs.JournalSpec.Between.{make_books}
 use Rattle.shelf.specs.Migrating.{bodies_now, Moves}
 use Rattle.shelf.specs.Opening.{making_of, IsRenewedAs, HoldsAnew, IsReadOrRenewed, Renews}
 use Rattle.shelf.proofs.Standing.{CountsNow}
@@ -107,13 +107,13 @@ module _ {D : Type 0} (view : D → View) (scripts : List Named) (shelf : ℕ) (
     pub opening_held : (w : Made) → (w.book ≡ reopened before) ⊎ (w.book ≡ reopened after) → (m : Moves view shelf j0 j1 w) → (j2 : Journal D) → CountsNow (view_of view j1) → making_of view shelf j1 ≡ book_of texts shelf (bodies_now j0.format shelf (bodies_in view j0))
         → IsReadOrRenewed view scripts shelf j1 j2 → LeavesOnly (view old) (view_of view j2) P
     opening_held w one m j2 counts_then is quiet =
-        leaves_then (view old) (view_of view j1) (view_of view j2) P (moving_held w one m) (⊎_elim behind_quiet behind_renewed (quiet some))
+        leaves_then (view old) (view_of view j1) (view_of view j2) P (moving_held w one m) (⊎_elim behind_quiet behind_renewed (quiet (λ none. some (ap made_in none)) (λ none. some (ap made_in none))))
       where
         there : made_in (making_of view shelf j1) ≡ Some m.anew
         there = ap made_in is ∙ m.makes
 
-        some : making_of view shelf j1 ≢ nothing
-        some none = let no : None ≡ Some m.anew = sym (ap made_in none) ∙ there in let never : ⊥ = cc no in never
+        some : made_in (making_of view shelf j1) ≢ None
+        some none = let no : None ≡ Some m.anew = sym none ∙ there in let never : ⊥ = cc no in never
 
         left_there : (image : List ℕ) → (view_of view j1).images image → P image
         left_there image left = to_held w one m.anew.book (renewed_of w m) m.between image (m.run.each image (counts_then (view_of view j0).moment image m.run.later left))

@@ -28,18 +28,18 @@ use Rattle.replay_spec.proofs.Orderly.{went, stepped}
 use Rattle.machine_states.specs.Machine.{Suspended}
 use Rattle.machine_states.specs.Views.{segment_of}
 use Rattle.machine_states.specs.declared.segment.Segment.{Segment}
-use Rattle.instance_book.specs.FrameCodec.Stored.{IsStored}
-use Rattle.instance_book.specs.KeptStates.Links.{links_at}
-use Rattle.instance_book.specs.declared.book.Book as kept
+use Rattle.book_recovery.specs.InstanceBook.FrameCodec.Stored.{IsStored}
+use Rattle.book_recovery.specs.InstanceBook.KeptStates.Links.{links_at}
+use Rattle.book_recovery.specs.InstanceBook.declared.book.Book as kept
 use Rattle.book_visits.specs.declared.ticket.Ticket.{Ticket}
-use Rattle.instance_book.specs.declared.change.Change.{Change}
-use Rattle.instance_book.specs.declared.change.Change.TheVariants.{Opens, Extends, Ends, Finishes}
-use Rattle.instance_book.specs.Places.{Source, given, arena_of}
-use Rattle.instance_book.specs.Makes.{HasStatesFrom, KeepsStates, Makes, StaysSame}
-use Rattle.instance_book.specs.Views.{no_journal, script_in}
-use Rattle.instance_book.specs.Changes.{change_of}
+use Rattle.book_recovery.specs.InstanceBook.declared.change.Change.{Change}
+use Rattle.book_recovery.specs.InstanceBook.declared.change.Change.TheVariants.{Opens, Extends, Ends, Finishes}
+use Rattle.book_recovery.specs.InstanceBook.Places.{Source, given, arena_of}
+use Rattle.book_recovery.specs.InstanceBook.Makes.{HasStatesFrom, KeepsStates, Makes, StaysSame}
+use Rattle.book_recovery.specs.InstanceBook.Views.{no_journal, script_in}
+use Rattle.book_recovery.specs.InstanceBook.Changes.{change_of}
 use Rattle.book_visits.specs.Fits.{GoesOnGiven}
-use Rattle.instance_book.specs.Standing.{book_under, script_at}
+use Rattle.book_recovery.specs.InstanceBook.Standing.{book_under, script_at}
 use Rattle.book_visits.specs.Admissions.{GoesOnFromPlace, GoesOnBy}
 use Rattle.book_visits.specs.Prepares.{KeepsStateOf, IsChangeBy}
 use Rattle.book_visits.proofs.One.{one_given}

@@ -8,24 +8,24 @@ use Rattle.std.proofs.lemmas.Bool.{and_from}
 use Rattle.std.proofs.lemmas.List.{reverse-reverse}
 use Rattle.script_value.specs.Val.{Val}
 use Rattle.value_bytes.specs.Spelling.{HasBytes}
-use Rattle.instance_book.specs.KeptStates.Kept.{Form, spelled, whole, bytes_of, IsKeptBy, KeptAreWritten}
-use Rattle.instance_book.specs.KeptStates.Links.{behind_at}
+use Rattle.book_recovery.specs.InstanceBook.KeptStates.Kept.{Form, spelled, whole, bytes_of, IsKeptBy, KeptAreWritten}
+use Rattle.book_recovery.specs.InstanceBook.KeptStates.Links.{behind_at}
 use Rattle.machine_states.specs.Machine.{Frame, in_binding, in_operand, in_body, in_seq, in_and, in_or, in_if, in_count, in_store, in_turn, in_isolate, in_call, in_task, in_page, in_finish, in_back, Suspended}
-use Rattle.instance_book.specs.FrameCodec.Forms.{form_bytes, BindsBefore}
-use Rattle.instance_book.specs.FrameCodec.Spelling.{FrameHasBytes, ShadowHasBytes, StateHasBytes}
-use Rattle.instance_book.proofs.FrameCodec.States.{all_reversed}
+use Rattle.book_recovery.specs.InstanceBook.FrameCodec.Forms.{form_bytes, BindsBefore}
+use Rattle.book_recovery.specs.InstanceBook.FrameCodec.Spelling.{FrameHasBytes, ShadowHasBytes, StateHasBytes}
+use Rattle.book_recovery.proofs.InstanceBook.FrameCodec.States.{all_reversed}
 use Rattle.journal_records.specs.Fields.{is_shallow}
 use Rattle.journal_records.proofs.Measured.{value_shallow}
-use Rattle.journal_spec.specs.Lengths.{is_shallow_frame, is_shallow_state, told_bytes}
+use Rattle.book_recovery.specs.JournalSpec.Lengths.{is_shallow_frame, is_shallow_state, told_bytes}
 use Rattle.machine_states.specs.Views.{suspended_of}
-use Rattle.instance_book.specs.declared.book.Book.{Book}
-use Rattle.instance_book.specs.declared.change.Change.{Change}
-use Rattle.instance_book.specs.declared.change.Change.TheVariants.{Opens, Extends, Ends, Finishes}
+use Rattle.book_recovery.specs.InstanceBook.declared.book.Book.{Book}
+use Rattle.book_recovery.specs.InstanceBook.declared.change.Change.{Change}
+use Rattle.book_recovery.specs.InstanceBook.declared.change.Change.TheVariants.{Opens, Extends, Ends, Finishes}
 use Rattle.book_visits.specs.declared.ticket.Ticket.{Ticket}
-use Rattle.instance_book.specs.Standing.{script_at}
+use Rattle.book_recovery.specs.InstanceBook.Standing.{script_at}
 use Rattle.book_visits.specs.Fits.{IsRunnable}
-use Rattle.instance_book.specs.Places.{arena_of}
-use Rattle.instance_book.specs.Views.{script_in, no_script}
+use Rattle.book_recovery.specs.InstanceBook.Places.{arena_of}
+use Rattle.book_recovery.specs.InstanceBook.Views.{script_in, no_script}
 use Rattle.shelf.specs.Holding.{IsWhole, IsWholeFrom, IsWholeIn, IsOfItsScript}
 use Rattle.shelf.specs.Recording.{IsKeptAs, WhereTold, lent}
 use Rattle.shelf.proofs.Now.{of_some, if_some}

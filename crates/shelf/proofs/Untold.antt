@@ -9,19 +9,19 @@ use Rattle.replay_spec.specs.Book as spec
 use Rattle.replay_spec.specs.Book.{instance_at, page_at}
 use Rattle.replay_spec.specs.Invariant.{Unused}
 use Rattle.machine_states.specs.Machine.{Suspended}
-use Rattle.instance_book.specs.declared.book.Book.{Book}
-use Rattle.instance_book.specs.declared.in_order.InOrder.{InOrder}
-use Rattle.instance_book.specs.declared.instance.KeptInstance.{KeptInstance}
-use Rattle.instance_book.specs.declared.change.Change.{Change}
+use Rattle.book_recovery.specs.InstanceBook.declared.book.Book.{Book}
+use Rattle.book_recovery.specs.InstanceBook.declared.in_order.InOrder.{InOrder}
+use Rattle.book_recovery.specs.InstanceBook.declared.instance.KeptInstance.{KeptInstance}
+use Rattle.book_recovery.specs.InstanceBook.declared.change.Change.{Change}
 use Rattle.book_visits.specs.declared.prepared.Prepared.{Prepared}
 use Rattle.book_visits.specs.declared.ticket.Ticket.{Ticket}
-use Rattle.instance_book.specs.Views.{instances_of}
-use Rattle.instance_book.specs.Places.{given}
-use Rattle.instance_book.specs.Makes.{KeepsStates, HasStatesFrom}
-use Rattle.instance_book.specs.Changes.{HasStateIn, HasStateFrom, HasRoomFor, KeepsStatesBy}
+use Rattle.book_recovery.specs.InstanceBook.Views.{instances_of}
+use Rattle.book_recovery.specs.InstanceBook.Places.{given}
+use Rattle.book_recovery.specs.InstanceBook.Makes.{KeepsStates, HasStatesFrom}
+use Rattle.book_recovery.specs.InstanceBook.Changes.{HasStateIn, HasStateFrom, HasRoomFor, KeepsStatesBy}
 use Rattle.book_visits.specs.Changes.{IsSpelledIn}
 use Rattle.book_visits.specs.Prepares.{HasItsScript}
-use Rattle.instance_book.proofs.Given.{other_given}
+use Rattle.book_recovery.proofs.InstanceBook.Given.{other_given}
 use Rattle.shelf.specs.declared.shelf.Shelf.{Shelf}
 use Rattle.shelf.specs.Views.{library_in, beside_of, book_in, IsInOrder}
 use Rattle.shelf.specs.Holding.{IsWholeIn}

@@ -1,7 +1,7 @@
 -- What is told before a state is written.
 use Rattle.std.proofs.Common.{refl}
-use Rattle.instance_book.specs.declared.change.Change.{Change}
-use Rattle.instance_book.specs.declared.change.Change.TheVariants.{Opens, Extends, Ends, Finishes}
+use Rattle.book_recovery.specs.InstanceBook.declared.change.Change.{Change}
+use Rattle.book_recovery.specs.InstanceBook.declared.change.Change.TheVariants.{Opens, Extends, Ends, Finishes}
 use Rattle.book_visits.specs.declared.ticket.Ticket.{Ticket}
 use Rattle.shelf.specs.Recording.{told_in, IsStateFor}
 

@@ -11,7 +11,8 @@ use Rattle.page_journal.specs.Settled.{IsSettled, view_of, bodies_in, length_of,
 use Rattle.page_journal.specs.declared.journal.Journal.{Journal}
 use Rattle.replay_spec.specs.Compaction.{file_length}
 use Rattle.journal_records.specs.Records.{draws, body_of}
-use Rattle.instance_book.specs.declared.book.Book.{Book}
+use Rattle.journal_records.specs.Roles.{behind_front}
+use Rattle.book_recovery.specs.InstanceBook.declared.book.Book.{Book}
 use Rattle.file_copies.specs.OfFileNotes.declared.notes.FileNotes.{FileNotes}
 use Rattle.file_copies.specs.OfFileNotes.Files.{file_in, total_in, compacted_of, IsNoted, IsPlanned, IsPicked, IsLonger}
 use Rattle.file_copies.specs.Copies.{copied, IsCopyOf}
@@ -94,9 +95,9 @@ pub record Replaces {D T : Type 0} (view : D → View) (tells : Bool) (old new :
   pub moments : IsTrue tells → LeavesOnly (view_of view old) (view_of view new) (IsEither old.format newest (bodies_in view old) (stored file))
   pub later : (view_of view old).faults ≤ (view_of view new).faults
 
--- the bodies of the compacted file of this book
+-- the bodies of the compacted file of this book: in front of them none tells any more that the shelf followed another one's journal
 abbrev pub copies_for : (plan : List Bool) → FileNotes → Book → List (List ℕ) → List (List ℕ)
-copies_for plan notes b bodies = copied plan notes.drawn (body_of (draws b.logged)) bodies
+copies_for plan notes b bodies = copied plan notes.drawn (body_of (draws b.logged)) (behind_front bodies)
 
 -- the compacted file took the place of the old one, and this is known of it
 pub record HasCompacted {D : Type 0} (view : D → View) (tells : Bool) (old new : Journal D) (notes : FileNotes) (b : Book) (library : Library) (plan : List Bool) (kept : FileNotes) : Type 0 where

@@ -4,25 +4,25 @@ use Rattle.script_value.specs.Views.{meaning}
 use Rattle.script_value.specs.declared.value.Value.{Value}
 use Rattle.script_value.specs.declared.outcome.Reply.{Reply}
 use Rattle.script_value.specs.declared.outcome.Reply.TheVariants as reply
-use Rattle.setup_reader.specs.Texts.{setup_of_texts}
+use Rattle.book_recovery.specs.SetupReader.Texts.{setup_of_texts}
 use Rattle.page_names.specs.Names.{Destination}
 use Rattle.page_names.specs.Views.{target_of}
 use Rattle.page_names.specs.declared.names.Target.{Target}
 use Rattle.machine_states.specs.declared.segment.Segment.{Segment}
 use Rattle.web_outside.specs.Causes.{Rose}
 use Rattle.web_disk.specs.View.{View, NoNewImage}
-use Rattle.journal_spec.specs.Standing.{if_kept, Throughout}
-use Rattle.journal_spec.specs.Laws.{MeasuresDoubt}
+use Rattle.book_recovery.specs.JournalSpec.Standing.{if_kept, Throughout}
+use Rattle.book_recovery.specs.JournalSpec.Laws.{MeasuresDoubt}
 use Rattle.shelf.specs.Owning.{StaysOwnThroughout}
 use Rattle.replay_spec.specs.Book as spec
 use Rattle.replay_spec.specs.Admission.{or_else, refusal_of, admit}
 use Rattle.replay_spec.specs.Step as step
-use Rattle.replay_spec.specs.Step.{Decision, replies, records, compacts, take, publish, sweep, compact, down_by, refused_by, no_take, publish_comes}
+use Rattle.replay_spec.specs.Step.{Decision, replies, records, compacts, take, publish, sweep, compact, barred, refused_by, no_take, publish_comes}
 use Rattle.book_visits.specs.declared.ticket.Ticket.{Ticket}
 use Rattle.book_visits.specs.declared.prepared.Prepared.{Prepared}
-use Rattle.instance_book.specs.declared.change.Change.{Change}
+use Rattle.book_recovery.specs.InstanceBook.declared.change.Change.{Change}
 use Rattle.book_visits.specs.Changes.{HasStateBy, IsSpelledBy}
-use Rattle.instance_book.specs.Views.{instances_of}
+use Rattle.book_recovery.specs.InstanceBook.Views.{instances_of}
 use Rattle.book_visits.specs.Views.{ticket_of, ticket_for, reply_of}
 use Rattle.book_visits.specs.Prepares.{IsCarriedOut}
 use Rattle.shelf.specs.declared.shelf.Shelf.{Shelf}
@@ -70,9 +70,9 @@ abbrev pub IsToldIfHeld : {D N : Type 0} → (D → View) → Shelf D N → Tick
 IsToldIfHeld view s t segment result =
     (r : Segment) → segment ≡ Some r → HoldNow (book_in view s) t r → TellsReply (decision_of view s t) (reply_of result)
 
--- why a publish is refused before its segment is looked at: the shelf is down, or the target is not admitted
+-- why a publish is refused before its segment is looked at: the shelf is down or follows another one's journal, or the target is not admitted
 abbrev pub no_publish : spec.Book → Destination → Option step.Reply
-no_publish b target = or_else (down_by b.down) (refused_by (refusal_of (admit b target)))
+no_publish b target = or_else (barred b) (refused_by (refusal_of (admit b target)))
 
 -- where a publish is refused before its segment is looked at, that is its answer, whatever memory there is
 abbrev pub TellsRefusal : {D N : Type 0} → (D → View) → Shelf D N → Target → Reply → Type 0

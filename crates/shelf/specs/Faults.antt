@@ -4,9 +4,9 @@ use Rattle.script_nodes.specs.Setup.{Named}
 use Rattle.page_journal.specs.declared.repair.JournalFault.{JournalFault}
 use Rattle.page_journal.specs.declared.repair.JournalFault.TheVariants as journal
 use Rattle.replay_spec.specs.Book.{are_same}
-use Rattle.journal_spec.specs.Before.{Made}
-use Rattle.journal_spec.specs.Making.{Making, damaged, made_in, other}
-use Rattle.journal_spec.specs.Opening.{opened_on}
+use Rattle.book_recovery.specs.JournalSpec.Before.{Made}
+use Rattle.book_recovery.specs.JournalSpec.Making.{Making, damaged, made_in, other}
+use Rattle.book_recovery.specs.JournalSpec.Opening.{opened_on}
 use Rattle.shelf.specs.declared.begin.BeginFault.{BeginFault}
 use Rattle.shelf.specs.declared.begin.BeginFault.TheVariants as fault
 

@@ -6,17 +6,17 @@ use Rattle.page_journal.specs.Settled.{bodies_in}
 use Rattle.page_journal.specs.declared.journal.Journal.{Journal}
 use Rattle.replay_spec.specs.Book.{File}
 use Rattle.replay_spec.specs.Rules.{first_file}
-use Rattle.journal_spec.specs.Before.{Made}
-use Rattle.journal_spec.specs.Making.{nothing, made_in, book_of}
-use Rattle.journal_spec.specs.Reading.{AreAllBytes}
-use Rattle.setup_reader.specs.Texts.{setup_of_texts}
+use Rattle.book_recovery.specs.JournalSpec.Before.{Made}
+use Rattle.book_recovery.specs.JournalSpec.Making.{nothing, made_in, book_of}
+use Rattle.book_recovery.specs.JournalSpec.Reading.{AreAllBytes}
+use Rattle.book_recovery.specs.SetupReader.Texts.{setup_of_texts}
 use Rattle.file_copies.specs.OfFileNotes.declared.notes.FileNotes.{FileNotes}
 use Rattle.file_copies.specs.OfFileNotes.Files as noted
 use Rattle.file_copies.specs.OfFileNotes.Files.{IsNoted, marks_in}
 use Rattle.script_nodes.specs.Setup.{Named}
 use Rattle.replay_spec.specs.Book.{renewed}
 use Rattle.replay_spec.specs.Change.{with_line}
-use Rattle.journal_spec.specs.Opening.{first_body, renewal_body}
+use Rattle.book_recovery.specs.JournalSpec.Opening.{first_body, renewal_body}
 use Rattle.book_recovery.specs.Noting.{marks_of}
 
 -- the file of what records make, and one without records where they make no book

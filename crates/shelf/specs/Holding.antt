@@ -13,17 +13,17 @@ use Rattle.instance_cells.specs.Views.{effect_of}
 use Rattle.machine_states.specs.Machine.{Suspended, inside_of}
 use Rattle.machine_states.specs.Views.{suspended_of, Keeps}
 use Rattle.machine_states.specs.declared.segment.Segment.{Segment}
-use Rattle.instance_book.specs.FrameCodec.Spelling.{StateHasBytes}
-use Rattle.instance_book.specs.FrameCodec.Stored.{IsStored}
-use Rattle.instance_book.specs.declared.book.Book.{Book}
-use Rattle.instance_book.specs.declared.change.Change.{Change}
-use Rattle.instance_book.specs.declared.change.Change.TheVariants.{Opens, Extends}
+use Rattle.book_recovery.specs.InstanceBook.FrameCodec.Spelling.{StateHasBytes}
+use Rattle.book_recovery.specs.InstanceBook.FrameCodec.Stored.{IsStored}
+use Rattle.book_recovery.specs.InstanceBook.declared.book.Book.{Book}
+use Rattle.book_recovery.specs.InstanceBook.declared.change.Change.{Change}
+use Rattle.book_recovery.specs.InstanceBook.declared.change.Change.TheVariants.{Opens, Extends}
 use Rattle.book_visits.specs.declared.ticket.Ticket.{Ticket}
 use Rattle.book_visits.specs.Admissions.{refusal_for, FitsIn}
-use Rattle.instance_book.specs.Standing.{script_at}
-use Rattle.instance_book.specs.Places.{arena_of}
-use Rattle.instance_book.specs.Views.{script_in}
-use Rattle.instance_book.specs.Swept.{cells_at}
+use Rattle.book_recovery.specs.InstanceBook.Standing.{script_at}
+use Rattle.book_recovery.specs.InstanceBook.Places.{arena_of}
+use Rattle.book_recovery.specs.InstanceBook.Views.{script_in}
+use Rattle.book_recovery.specs.InstanceBook.Swept.{cells_at}
 
 -- the target is admitted, and the ticket is for the visit of it
 pub record IsForItsVisit (library : Library) (b : Book) (t : Ticket) : Type 0 where

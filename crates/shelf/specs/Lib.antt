@@ -1,5 +1,8 @@
 pub mod Ranges
 pub mod Files
+pub mod Fed
+pub mod Following
+pub mod Reopening
 pub mod Present
 pub mod Owning
 pub mod Compacting
@@ -15,6 +18,12 @@ pub mod Preparing
 pub mod Recording
 pub mod Runs
 pub mod Visits
-pub use Rattle.journal_spec.specs as JournalSpec
-pub use Rattle.instance_book.specs as InstanceBook
+pub use Rattle.book_recovery.specs.JournalSpec
+pub use Rattle.book_recovery.specs.InstanceBook
 pub use Rattle.file_copies.specs.OfFileNotes
+pub use Rattle.web_outside.specs as WebOutside
+pub use Rattle.web_disk.specs as WebDisk
+pub use Rattle.wire_bytes.specs as WireBytes
+pub use Rattle.journal_records.specs as JournalRecords
+pub use Rattle.page_journal.specs as PageJournal
+pub use Rattle.book_recovery.specs.SetupReader

@@ -1,7 +1,7 @@
 -- What becomes of a journal of an older format.
 use Rattle.std.specs.Global.{Vec}
-use Rattle.std.specs.Prelude.{◌≡◌, ◌⊎◌, ◌<◌, ◌≤◌, ◌^◌, ℕ, Bool, false, IsTrue, List, [], ◌∷◌, length, Option, Some, None, Result, Ok, Err, OnOk, IsErrOf, is_ok, if◌then◌else◌, ◌==◌, ⊤}
-use Rattle.setup_reader.specs.Texts.{setup_of_texts}
+use Rattle.std.specs.Prelude.{◌≡◌, ◌⊎◌, ◌<◌, ◌≤◌, ◌^◌, ℕ, Bool, false, IsTrue, List, [], length, Option, Some, None, Result, Ok, Err, OnOk, IsErrOf, is_ok, if◌then◌else◌, ◌==◌, ⊤}
+use Rattle.book_recovery.specs.SetupReader.Texts.{setup_of_texts}
 use Rattle.web_disk.specs.View.{View, NoNewImage, LeavesOnly}
 use Rattle.page_journal.specs.Records.{newest, at_rest}
 use Rattle.page_journal.specs.Holding.{IsEither}
@@ -9,12 +9,12 @@ use Rattle.page_journal.specs.Replacing.{IsWholeFile}
 use Rattle.page_journal.specs.Settled.{HasFailed, IsSettled, view_of, bodies_in}
 use Rattle.page_journal.specs.declared.journal.Journal.{Journal}
 use Rattle.journal_records.specs.Records.{draws, body_of}
-use Rattle.journal_spec.specs.Before.{Made}
-use Rattle.journal_spec.specs.Making.{Making, damaged, other, made_in, book_of}
-use Rattle.journal_spec.specs.Old.{book_of_format}
-use Rattle.journal_spec.specs.Copying.{copies, IsMigrated}
-use Rattle.journal_spec.specs.Standing.{Between, Held}
-use Rattle.journal_spec.specs.Owning.{AreOwn, AreOwnIn}
+use Rattle.book_recovery.specs.JournalSpec.Before.{Made}
+use Rattle.book_recovery.specs.JournalSpec.Making.{Making, damaged, other, made_in, book_of}
+use Rattle.book_recovery.specs.JournalSpec.Old.{book_of_format}
+use Rattle.book_recovery.specs.JournalSpec.Copying.{copies, IsMigrated}
+use Rattle.book_recovery.specs.JournalSpec.Standing.{Between, Held}
+use Rattle.book_recovery.specs.JournalSpec.Owning.{AreOwn, AreOwnIn}
 use Rattle.shelf.specs.Owning.{StaysOwnThroughout}
 use Rattle.file_copies.specs.OfFileNotes.declared.notes.FileNotes.{FileNotes}
 use Rattle.file_copies.specs.OfFileNotes.Files.{IsPlanned}
@@ -30,8 +30,8 @@ use Rattle.shelf.specs.declared.migration.FileAnew.{FileAnew}
 
 -- the bodies that stay of these, in the newest format, where they make a book
 abbrev pub bodies_by : (format shelf : ℕ) → List (List ℕ) → Option Made → List (List ℕ)
-bodies_by format shelf (first ∷ bodies) (Some m) = copies format setup_of_texts shelf first bodies m
-bodies_by format shelf bodies o = bodies
+bodies_by format shelf bodies (Some m) = copies format setup_of_texts shelf bodies m
+bodies_by format shelf bodies None = bodies
 
 -- the bodies that an opening goes on with: of the newest format these, of an older one those that stay, in the newest
 abbrev pub bodies_now : (format shelf : ℕ) → List (List ℕ) → List (List ℕ)

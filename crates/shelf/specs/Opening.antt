@@ -1,10 +1,10 @@
 -- What opening a shelf finds.
-use Rattle.std.specs.Prelude.{◌≡◌, ◌≢◌, ◌⊎◌, ◌≤◌, ◌^◌, ℕ, Bool, List, [], ◌∷◌, ◌++◌, length, Some, None, Result, Ok, Err, IfOk, OnOk, IsErrOf, is_ok, IsTrue, ⊤}
+use Rattle.std.specs.Prelude.{◌≡◌, ◌≢◌, ◌⊎◌, ◌≤◌, ◌^◌, ℕ, Bool, false, List, [], ◌∷◌, ◌++◌, length, Option, Some, None, Result, Ok, Err, IfOk, IfSome, OnOk, IsErrOf, is_ok, IsTrue, ⊤}
 use Rattle.script_nodes.specs.Setup.{Named}
 use Rattle.script_nodes.specs.Setup as spec
 use Rattle.script_nodes.specs.Views.{library_of}
 use Rattle.script_nodes.specs.declared.library.Library.{Library}
-use Rattle.setup_reader.specs.Texts.{setup_of_texts}
+use Rattle.book_recovery.specs.SetupReader.Texts.{setup_of_texts, IsReadSetup}
 use Rattle.web_outside.specs.Causes.{Rose}
 use Rattle.web_disk.specs.View.{View, AreAmong, Only, NoNewImage, LeavesOnly}
 use Rattle.value_bytes.specs.Laws.{AreBytes}
@@ -15,27 +15,33 @@ use Rattle.page_journal.specs.Records.{Log, newest, records, format_of, at_rest_
 use Rattle.page_journal.specs.Scanned.{IsQuiet}
 use Rattle.page_journal.specs.Settled.{HasFailed, IsSettled, view_of, bodies_in, length_of, length_with}
 use Rattle.page_journal.specs.declared.journal.Journal.{Journal}
-use Rattle.replay_spec.specs.Book.{Book, reopened}
-use Rattle.replay_spec.specs.Invariant.{IsSound}
+use Rattle.replay_spec.specs.Book.{Book, File, reopened}
+use Rattle.replay_spec.specs.Invariant.{IsOrderly, IsSound}
 use Rattle.replay_spec.specs.Rules.{Rules}
 use Rattle.replay_spec.specs.Step.{crash, Fate, lost, kept, live, step}
-use Rattle.journal_spec.specs.Before.{Made}
-use Rattle.journal_spec.specs.Keeping.{AreOver}
-use Rattle.journal_spec.specs.Making.{Making, nothing, begun, made, damaged, other, made_in, book_of}
-use Rattle.journal_spec.specs.Bytes.{book_in_bytes}
-use Rattle.journal_spec.specs.Opening.{first_body, renewal_bodies, opened_book, opened_on}
-use Rattle.journal_spec.specs.Disks.{IsFit}
-use Rattle.journal_spec.specs.Owning.{AreOwn}
-use Rattle.journal_spec.specs.Standing.{IsMadeBook, Between, Held, HoldIn, HeldOpened, HoldsOpening, Stands, ThroughoutFrom, OpensThroughout, IsOneOf}
-use Rattle.instance_book.specs.declared.book.Book.{Book as RustBook}
-use Rattle.instance_book.specs.Views as views
-use Rattle.instance_book.specs.Makes.{HasItsStates}
-use Rattle.book_recovery.specs.Found.{FindsBook, IsBookInOrder}
+use Rattle.book_recovery.specs.JournalSpec.Before.{Made}
+use Rattle.book_recovery.specs.JournalSpec.Keeping.{AreOver}
+use Rattle.book_recovery.specs.JournalSpec.Making.{Making, nothing, waits, waited, begun, made, damaged, other, made_in, book_of}
+use Rattle.book_recovery.specs.JournalSpec.Bytes.{book_in_bytes}
+use Rattle.book_recovery.specs.JournalSpec.Opening as opening
+use Rattle.book_recovery.specs.JournalSpec.Opening.{first_body, opened_book, opened_on}
+use Rattle.book_recovery.specs.JournalSpec.Spelling.{IsInRange}
+use Rattle.book_recovery.specs.JournalSpec.Whole.{HasWholeScripts}
+use Rattle.book_recovery.specs.JournalSpec.Disks.{IsFit}
+use Rattle.book_recovery.specs.JournalSpec.Owning.{AreOwn}
+use Rattle.book_recovery.specs.JournalSpec.Standing.{IsMadeBook, Between, Held, HoldIn, HeldOpened, HoldsOpening, Stands, ThroughoutFrom, OpensThroughout, IsOneOf}
+use Rattle.book_recovery.specs.InstanceBook.declared.book.Book.{Book as RustBook}
+use Rattle.book_recovery.specs.InstanceBook.Views as views
+use Rattle.book_recovery.specs.InstanceBook.Makes.{HasPlaces, HasSomeStates, HasItsStates}
+use Rattle.book_visits.specs.Admissions.{HasFew}
+use Rattle.book_recovery.specs.Found.{beside_file, FindsBook, IsReopened}
+use Rattle.shelf.specs.Fed.{IsFedAs, IsFedBy, IsFedSome}
+use Rattle.shelf.specs.declared.follower.Follower.{Follower}
 use Rattle.shelf.specs.Files.{read_file}
 use Rattle.shelf.specs.Owning.{HasOwnImages, StaysOwnThroughout, StandsMeasured}
 use Rattle.shelf.specs.Migrating.{making_now, bodies_now, IsTooLongAnew}
 use Rattle.shelf.specs.Faults.{IsReadFaultOf, IsReadFault, IsTooLong}
-use Rattle.shelf.specs.Views.{TellsStates, IsOwnShelf, library_in, book_in}
+use Rattle.shelf.specs.Views.{TellsStates, IsOwnShelf, library_in, follows_in, book_in}
 use Rattle.shelf.specs.declared.begin.BeginFault.{BeginFault}
 use Rattle.shelf.specs.declared.begin.BeginFault.TheVariants as fault
 use Rattle.shelf.specs.declared.shelf.Shelf.{Shelf}
@@ -93,12 +99,14 @@ abbrev pub IsFault : {T : Type 0} → List Named → (shelf : ℕ) → View → 
 IsFault scripts shelf old (Ok x) = ⊤
 IsFault scripts shelf old (Err e) = IsFaultOf scripts shelf old e
 
--- the bodies that an opening with this setup adds to records that make this: the first one, where there is none; and that of the setup,
--- where it has other names or texts than the last one that was told
+-- the bodies that an opening with this setup adds to records that make this: the one that a journal begins with, where there is none; and that
+-- of the setup, where it has other names or texts than the last one that was told. A shelf that follows another one's journal adds none.
 abbrev pub opening_bodies : List Named → (shelf : ℕ) → Making → List (List ℕ)
 opening_bodies scripts shelf nothing = first_body scripts shelf ∷ []
-opening_bodies scripts shelf (begun m) = renewal_bodies scripts m.book.scripts
-opening_bodies scripts shelf (made m) = renewal_bodies scripts m.book.scripts
+opening_bodies scripts shelf waited = first_body scripts shelf ∷ []
+opening_bodies scripts shelf (waits s) = []
+opening_bodies scripts shelf (begun m) = opening.opening_bodies scripts m.book
+opening_bodies scripts shelf (made m) = opening.opening_bodies scripts m.book
 opening_bodies scripts shelf (damaged place) = []
 opening_bodies scripts shelf (other place) = []
 
@@ -109,14 +117,14 @@ added_by scripts shelf m (Err e) = []
 
 -- ---- of the journal
 
--- the book of these scripts beside a journal from which it was read, with nothing in doubt
-abbrev pub opened_beside : {D : Type 0} → (D → View) → (shelf : ℕ) → Journal D → Library → RustBook → Book
-opened_beside view shelf journal library b =
-    views.book_of (library_of library) (record { length = length_of journal; file = read_file view shelf journal; down = None }) b
+-- the book of these scripts beside a journal from which it was read, with nothing in doubt, on a shelf that follows or does not
+abbrev pub opened_beside : {D : Type 0} → (D → View) → (shelf : ℕ) → (fed : Bool) → Journal D → Library → RustBook → Book
+opened_beside view shelf fed journal library b =
+    views.book_of (library_of library) (record { length = length_of journal; file = read_file view shelf journal; down = None; follows = fed }) b
 
--- the book was made of the records of the journal, under this library
+-- the book was made of the records of the journal, under this library, on a shelf that does not follow
 abbrev pub WasFound : {D : Type 0} → (D → View) → (shelf : ℕ) → Journal D → RustBook → spec.Library → Type 0
-WasFound view shelf journal b library = FindsBook shelf (length_of journal) b library (making_of view shelf journal)
+WasFound view shelf journal b library = FindsBook shelf (length_of journal) false b library (making_of view shelf journal)
 
 -- the records of a journal are own ones
 abbrev pub HasOwnRecords : {D : Type 0} → (D → View) → (shelf : ℕ) → Journal D → Type 0
@@ -166,13 +174,37 @@ pub record IsLibraryOf (earlier scripts : List Named) (library : Library) : Type
   pub setup : (library_of library).setup ≡ scripts
 
 -- the book is the one that a shelf goes on with on these records, with this setup
-abbrev pub IsMadeOf : {D : Type 0} → (D → View) → List Named → (shelf : ℕ) → (old new : Journal D) → RustBook × Library → Type 0
-IsMadeOf view scripts shelf old new o =
-    IsMadeBook (opened_on shelf scripts (making_of view shelf old)) (opened_beside view shelf new o.1 o.0)
+abbrev pub IsMadeOf : {D : Type 0} → (D → View) → List Named → (shelf : ℕ) → (fed : Bool) → (old new : Journal D) → RustBook × Library → Type 0
+IsMadeOf view scripts shelf fed old new o =
+    IsMadeBook (opened_on shelf scripts (making_of view shelf old)) (opened_beside view shelf fed new o.1 o.0)
 
 -- the journal can go on with this book
-abbrev pub CanGoOnWith : {D : Type 0} → (D → View) → (shelf : ℕ) → Journal D → RustBook × Library → Type 0
-CanGoOnWith view shelf journal o = IsFit view setup_of_texts shelf journal (opened_beside view shelf journal o.1 o.0)
+abbrev pub CanGoOnWith : {D : Type 0} → (D → View) → (shelf : ℕ) → (fed : Bool) → Journal D → RustBook × Library → Type 0
+CanGoOnWith view shelf fed journal o = IsFit view setup_of_texts shelf journal (opened_beside view shelf fed journal o.1 o.0)
+
+-- A book that a shelf of this number can go on with under this library, whatever the records were. Where the shelf does not follow, the present
+-- setup is what its names and texts are read as.
+pub record IsOpenedBook (shelf : ℕ) (fed : Bool) (b : RustBook) (library : spec.Library) : Type 0 where
+  pub placed : HasPlaces library.all b
+  pub kept : HasSomeStates library.all b
+  pub shelf_is : b.shelf ≡ shelf
+  pub read : fed ≡ false → IsReadSetup library.setup
+  pub few : HasFew library
+  pub orderly : (length : ℕ) (file : File) → IsOrderly (views.book_of library (beside_file fed length file) b)
+  pub whole : (length : ℕ) (file : File) → HasWholeScripts (views.book_of library (beside_file fed length file) b)
+  pub range : (length : ℕ) (file : File) → IsInRange (views.book_of library (beside_file fed length file) b)
+  pub again : (length : ℕ) (file : File) → IsReopened (views.book_of library (beside_file fed length file) b)
+
+-- what a shelf keeps that was opened and follows is what the records of its journal fed it
+pub record IsFollowerOf {D : Type 0} (view : D → View) (tells : Bool) (shelf : ℕ) (journal : Journal D) (o : RustBook × Library) (f : Follower) : Type 0 where
+  pub standing : f.fallen ≡ None
+  pub fed : IsFedAs f.fed shelf f.seen o.0 (library_of o.1)
+  pub made : IsFedSome f.fed shelf f.seen o.0 (library_of o.1)
+  pub told : IsTrue tells → IsFedBy f.fed shelf f.seen o.0 (library_of o.1) (making_of view shelf journal)
+
+-- so it is of the shelf that was opened, if it follows
+abbrev pub IsFollowedBy : {D : Type 0} → (D → View) → Bool → (shelf : ℕ) → Journal D → Option Follower → Result (RustBook × Library) BeginFault → Type 0
+IsFollowedBy view tells shelf journal o result = IfOk result (λ x. IfSome o (IsFollowerOf view tells shelf journal x))
 
 -- the pages of the book have the states that the records of the journal told
 abbrev pub HasStatesTold : {D : Type 0} → (D → View) → (shelf : ℕ) → Journal D → RustBook × Library → Type 0
@@ -188,10 +220,10 @@ pub record Renews {D : Type 0} (view : D → View) (scripts : List Named) (shelf
   pub found : made_in (making_of view shelf old) ≡ Some made
   pub moments : ThroughoutFrom (bodies_in view old) setup_of_texts shelf made.book (opened_book shelf scripts made.book) (view_of view old) (view_of view new)
 
--- where there were records, nothing was written but the setup
+-- where there were records of the shelf, nothing was written but the setup
 abbrev pub IsReadOrRenewed : {D : Type 0} → (D → View) → List Named → (shelf : ℕ) → (old new : Journal D) → Type 0
 IsReadOrRenewed view scripts shelf old new =
-    making_of view shelf old ≢ nothing → IsQuiet (view_of view old) (view_of view new) ⊎ Renews view scripts shelf old new
+    making_of view shelf old ≢ nothing → making_of view shelf old ≢ waited → IsQuiet (view_of view old) (view_of view new) ⊎ Renews view scripts shelf old new
 
 -- these records of this format and a closed gate behind them are the whole of a disk, also after a crash
 abbrev pub HoldsAtRest : (format : ℕ) → List (List ℕ) → View → Type 0
@@ -219,13 +251,14 @@ abbrev pub KeepsUnlessFailed : {D T : Type 0} → (D → View) → List Named �
 KeepsUnlessFailed view scripts shelf old new result =
     (IsErrOf result fault.DiskFault → ⊥) → HasAdded view (added_by scripts shelf (making_of view shelf old) result) old new
 
--- what is made of a journal is a book, which can go on, with this setup, or it is told why it is not; nothing is written but the setup
-pub record Opens {D : Type 0} (view : D → View) (tells : Bool) (scripts : List Named) (shelf : ℕ) (old new : Journal D) (result : Result (RustBook × Library) BeginFault) : Type 0 where
-  pub begun : IsTrue tells → IfOk result (IsMadeOf view scripts shelf old new)
-  pub fit : IsTrue tells → IfOk result (CanGoOnWith view shelf new)
+-- what is made of a journal is a book, which can go on, with this setup, or it is told why it is not; nothing is written but the setup, and that
+-- not where the shelf follows
+pub record Opens {D : Type 0} (view : D → View) (tells : Bool) (scripts : List Named) (shelf : ℕ) (fed : Bool) (old new : Journal D) (result : Result (RustBook × Library) BeginFault) : Type 0 where
+  pub begun : IsTrue tells → IfOk result (IsMadeOf view scripts shelf fed old new)
+  pub fit : IsTrue tells → IfOk result (CanGoOnWith view shelf fed new)
   pub told : IsTrue tells → IfOk result (HasStatesTold view shelf new)
-  pub in_order : IfOk result (λ o. IsBookInOrder shelf o.0 (library_of o.1))
-  pub setup : IfOk result (λ o. (library_of o.1).setup ≡ scripts)
+  pub in_order : IfOk result (λ o. IsOpenedBook shelf fed o.0 (library_of o.1))
+  pub setup : fed ≡ false → IfOk result (λ o. (library_of o.1).setup ≡ scripts)
   pub own_moments : IsTrue tells → HasOwnRecords view shelf old → LeavesOwnRecords view shelf old new
   pub refused : IsTrue tells → TellsReadFault view scripts shelf old result
   pub quiet : IsTrue tells → IsReadOrRenewed view scripts shelf old new
@@ -263,14 +296,10 @@ MakesBook scripts shelf old b = IsMadeBook (opened_on shelf scripts (making_afte
 abbrev pub MakesShelf : {D N : Type 0} → (D → View) → List Named → (shelf : ℕ) → D → Result (Shelf D N) (BeginFault × D × N) → Type 0
 MakesShelf view scripts shelf disk result = IfOk result (λ s. MakesBook scripts shelf (view disk) (book_in view s))
 
--- a book is as after a crash
-abbrev pub IsReopened : Book → Type 0
-IsReopened b = b ≡ reopened b
-
--- the book of a shelf that was opened is as after a crash, and its setup is this one
+-- the book of a shelf that was opened is as after a crash, and its setup is this one, unless it follows another one's journal
 pub record IsOpenedAnew {D N : Type 0} (view : D → View) (scripts : List Named) (s : Shelf D N) : Type 0 where
   pub again : IsReopened (book_in view s)
-  pub setup : (library_in s).setup ≡ scripts
+  pub setup : follows_in s ≡ false → (library_in s).setup ≡ scripts
 
 -- the book of the shelf that was opened is one of the two between which the disk stood, with this setup
 abbrev pub OpensOneOf : {D N : Type 0} → (D → View) → List Named → (shelf : ℕ) → D → Result (Shelf D N) (BeginFault × D × N) → Type 0
@@ -280,9 +309,9 @@ OpensOneOf view scripts shelf disk result = IfOk result (λ s. IsOneOf setup_of_
 abbrev pub StandsThroughout : {D N : Type 0} → (D → View) → List Named → (shelf : ℕ) → D → Result (Shelf D N) (BeginFault × D × N) → Type 0
 StandsThroughout view scripts shelf disk result = OpensThroughout setup_of_texts shelf scripts (view disk) (view (disk_of result))
 
--- a book with another file, which begins with the same setup and tells the next number
+-- a book with another file, which begins with the same setup and tells the next number, and no shelf that follows
 pub record IsRenewedAs (b c : Book) : Type 0 where
-  pub book : c ≡ record b { length = c.length; file = c.file }
+  pub book : c ≡ record b { length = c.length; file = c.file; follows = false }
   pub first : c.file.scripts ≡ b.file.scripts
   pub drawn : c.file.drawn ≡ Some b.logged
 

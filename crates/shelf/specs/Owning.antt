@@ -2,12 +2,12 @@
 use Rattle.std.specs.Prelude.{◌≡◌, ℕ, true, List}
 use Rattle.web_disk.specs.View.{View, LeavesOnly}
 use Rattle.page_journal.specs.Records.{Intact, is_format, format_of, records}
-use Rattle.setup_reader.specs.Texts.{setup_of_texts}
+use Rattle.book_recovery.specs.SetupReader.Texts.{setup_of_texts}
 use Rattle.replay_spec.specs.Book.{Book}
 use Rattle.replay_spec.specs.Rules.{Rules}
-use Rattle.journal_spec.specs.Laws.{MeasuresDoubt}
-use Rattle.journal_spec.specs.Owning.{AreOwnIn}
-use Rattle.journal_spec.specs.Standing.{Flight, with_flight, format_with, HasRoom, Hold, Between, HoldIn, if_kept}
+use Rattle.book_recovery.specs.JournalSpec.Laws.{MeasuresDoubt}
+use Rattle.book_recovery.specs.JournalSpec.Owning.{AreOwnIn}
+use Rattle.book_recovery.specs.JournalSpec.Standing.{Flight, with_flight, format_with, HasRoom, Hold, Between, HoldIn, if_kept}
 
 -- the whole records of these bytes are own ones; an empty disk has none
 abbrev pub IsOwnImage : (shelf : ℕ) → List ℕ → Type 0

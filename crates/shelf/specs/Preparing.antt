@@ -8,13 +8,13 @@ use Rattle.page_names.specs.declared.names.Target.{Target}
 use Rattle.machine_states.specs.declared.segment.Segment.{Segment}
 use Rattle.replay_spec.specs.Book as spec
 use Rattle.replay_spec.specs.Rules as spec_rules
-use Rattle.replay_spec.specs.Step.{Decision, plain, publish_comes}
-use Rattle.instance_book.specs.declared.book.Book.{Book}
+use Rattle.replay_spec.specs.Step.{Decision, plain, barred, publish_comes}
+use Rattle.book_recovery.specs.InstanceBook.declared.book.Book.{Book}
 use Rattle.book_visits.specs.declared.ticket.Ticket.{Ticket}
 use Rattle.book_visits.specs.declared.prepared.Prepared.{Prepared}
-use Rattle.instance_book.specs.Standing.{book_under}
+use Rattle.book_recovery.specs.InstanceBook.Standing.{book_under}
 use Rattle.book_visits.specs.Admissions.{admission_for, refusal_for, FitsIn}
-use Rattle.instance_book.specs.Views.{instances_of, Beside, book_of}
+use Rattle.book_recovery.specs.InstanceBook.Views.{instances_of, Beside, book_of}
 use Rattle.book_visits.specs.Views.{ticket_of, reply_of}
 use Rattle.machine_states.specs.Views.{segment_of}
 use Rattle.book_visits.specs.Changes.{HasDeadlineBy, HasStateBy, IsSpelledBy}
@@ -33,16 +33,16 @@ abbrev pub Decides : Library → spec_rules.Rules → spec.Book → Decision →
 Decides library rules b d (Err reply.Memory) = ⊤
 Decides library rules b d result = Prepares library rules b d result
 
--- where nothing is in doubt, what a publish comes to is prepared, or its refusal is told; want of memory may stand for any
+-- where nothing bars it, what a publish comes to is prepared, or its refusal is told; want of memory may stand for any
 abbrev pub IsDecided : Library → Rules → Book → Ticket → Result Prepared Reply → Type 0
 IsDecided library rules b t result =
-    (beside : Beside) → beside.down ≡ None
+    (beside : Beside) → barred (book_of library beside b) ≡ None
     → Decides library (unmeasured rules) (book_of library beside b) (decision_beside library beside rules b t) result
 
 -- where no second run is due, want of memory is told only of what changes the book
 abbrev pub IsDecidedIfHeld : Library → Rules → Book → Ticket → Option Segment → Result Prepared Reply → Type 0
 IsDecidedIfHeld library rules b t segment result =
-    (r : Segment) → segment ≡ Some r → HoldNow (book_under library b) t r → (beside : Beside) → beside.down ≡ None
+    (r : Segment) → segment ≡ Some r → HoldNow (book_under library b) t r → (beside : Beside) → barred (book_of library beside b) ≡ None
     → Prepares library (unmeasured rules) (book_of library beside b) (decision_beside library beside rules b t) result
 
 -- the segment keeps the state of its visit, where the ticket is for the one that its target is admitted as

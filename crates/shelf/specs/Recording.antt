@@ -12,24 +12,24 @@ use Rattle.script_nodes.specs.Setup.{Library}
 use Rattle.replay_spec.specs.Book.{Change as SpecChange, opens, extends, ends, finishes, sweeps}
 use Rattle.replay_spec.specs.Admission.{Place}
 use Rattle.replay_spec.specs.Recovery.{page_of_numbers}
-use Rattle.instance_book.specs.declared.book.Book.{Book}
+use Rattle.book_recovery.specs.InstanceBook.declared.book.Book.{Book}
 use Rattle.book_visits.specs.declared.ticket.Ticket.{Ticket}
-use Rattle.instance_book.specs.declared.change.Change.{Change}
-use Rattle.instance_book.specs.declared.change.Change.TheVariants.{Opens, Extends, Ends, Finishes}
-use Rattle.instance_book.specs.Changes.{change_of}
+use Rattle.book_recovery.specs.InstanceBook.declared.change.Change.{Change}
+use Rattle.book_recovery.specs.InstanceBook.declared.change.Change.TheVariants.{Opens, Extends, Ends, Finishes}
+use Rattle.book_recovery.specs.InstanceBook.Changes.{change_of}
 use Rattle.book_visits.specs.Views.{reply_of}
-use Rattle.instance_book.specs.Places.{given, kept_at}
-use Rattle.instance_book.specs.Makes.{HasStatesFrom}
+use Rattle.book_recovery.specs.InstanceBook.Places.{given, kept_at}
+use Rattle.book_recovery.specs.InstanceBook.Makes.{HasStatesFrom}
 use Rattle.book_visits.specs.Prepares.{IsKeptOfTicket}
-use Rattle.instance_book.specs.Standing.{book_under}
+use Rattle.book_recovery.specs.InstanceBook.Standing.{book_under}
 use Rattle.book_visits.specs.Fits.{GoesOnGiven}
 use Rattle.machine_states.specs.Machine.{Suspended}
 use Rattle.std.specs.Borrow.{Bor}
 use Rattle.machine_states.specs.Views.{origin_of, suspended_of}
-use Rattle.instance_book.specs.FrameCodec.Forms.{BindsBefore}
-use Rattle.instance_book.specs.KeptStates.Kept.{Form, bytes_of, IsKeptFrom}
-use Rattle.instance_book.specs.KeptStates.Links.{behind_at}
-use Rattle.journal_spec.specs.Lengths.{is_shallow_state, told_bytes}
+use Rattle.book_recovery.specs.InstanceBook.FrameCodec.Forms.{BindsBefore}
+use Rattle.book_recovery.specs.InstanceBook.KeptStates.Kept.{Form, bytes_of, IsKeptFrom}
+use Rattle.book_recovery.specs.InstanceBook.KeptStates.Links.{behind_at}
+use Rattle.book_recovery.specs.JournalSpec.Lengths.{is_shallow_state, told_bytes}
 
 -- why a record of this length can't be added to a journal of this one
 abbrev pub refusal_of_size : (journal size : ℕ) → Option step.Reply

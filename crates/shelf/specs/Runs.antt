@@ -12,10 +12,10 @@ use Rattle.machine_states.specs.Machine.{inside_of}
 use Rattle.machine_states.specs.Fits.{Fits}
 use Rattle.machine_states.specs.Views.{segment_of, Keeps}
 use Rattle.machine_states.specs.declared.segment.Segment.{Segment}
-use Rattle.visit_runs.specs.SendSuspend.Segments.{newest, IsConsistent, Replays}
+use Rattle.book_recovery.specs.VisitRuns.SendSuspend.Segments.{newest, IsConsistent, Replays}
 use Rattle.book_visits.specs.declared.ticket.Ticket.{Ticket}
 use Rattle.book_visits.specs.Views.{ticket_of}
-use Rattle.instance_book.specs.Places.{arena_of}
+use Rattle.book_recovery.specs.InstanceBook.Places.{arena_of}
 use Rattle.book_visits.specs.Fits.{IsFor}
 use Rattle.book_visits.specs.Laws.{KeepsStateOver}
 

@@ -7,9 +7,9 @@ use Rattle.web_disk.specs.View.{View}
 use Rattle.replay_spec.specs.Book as spec
 use Rattle.replay_spec.specs.Invariant.{Unused}
 use Rattle.replay_spec.specs.Recovery.{page_of_numbers}
-use Rattle.instance_book.specs.declared.book.Book.{Book}
+use Rattle.book_recovery.specs.InstanceBook.declared.book.Book.{Book}
 use Rattle.book_visits.specs.declared.ticket.Ticket.{Ticket}
-use Rattle.instance_book.specs.Standing.{book_under}
+use Rattle.book_recovery.specs.InstanceBook.Standing.{book_under}
 use Rattle.book_visits.specs.Admissions.{GoesOnFromPlace}
 use Rattle.shelf.specs.declared.shelf.Shelf.{Shelf}
 use Rattle.shelf.specs.Views.{library_in, book_in}

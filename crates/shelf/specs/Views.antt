@@ -1,5 +1,5 @@
 -- What the program's shelf stands for in the definitions.
-use Rattle.std.specs.Prelude.{◌≡◌, ℕ, ◌+◌, Bool, false, IsTrue, List, [], map, length, Option, Some, None, option_map, IfSome, Contains, Result, Ok, Err, ⊤}
+use Rattle.std.specs.Prelude.{◌≡◌, ℕ, ◌+◌, Bool, false, IsTrue, List, [], map, length, Option, Some, None, option_map, is_some, IfSome, Contains, Result, Ok, Err, ⊤}
 use Rattle.script_value.specs.declared.outcome.Reply.{Reply}
 use Rattle.script_nodes.specs.Setup.{Named, Library}
 use Rattle.script_nodes.specs.Views.{library_of}
@@ -8,18 +8,18 @@ use Rattle.page_names.specs.Views.{target_of}
 use Rattle.page_names.specs.declared.names.Target.{Target}
 use Rattle.instance_cells.specs.Cells.{Effect, Holds}
 use Rattle.instance_cells.specs.Views.{effect_of}
-use Rattle.setup_reader.specs.Texts.{setup_of_texts, IsReadSetup}
+use Rattle.book_recovery.specs.SetupReader.Texts.{setup_of_texts, IsReadSetup}
 use Rattle.web_disk.specs.View.{View}
 use Rattle.page_journal.specs.Settled as journal
 use Rattle.page_journal.specs.Settled.{is_broken, bodies_in, length_of}
 use Rattle.page_journal.specs.declared.journal.Journal.{Journal}
-use Rattle.journal_spec.specs.Before.{Made}
-use Rattle.journal_spec.specs.Lengths.{journal_rules}
-use Rattle.journal_spec.specs.Making as make
-use Rattle.journal_spec.specs.Making.{made_in}
-use Rattle.journal_spec.specs.Whole.{HasWholeScripts}
-use Rattle.journal_spec.specs.Disks.{IsFit}
-use Rattle.journal_spec.specs.Spelling.{IsInRange}
+use Rattle.book_recovery.specs.JournalSpec.Before.{Made}
+use Rattle.book_recovery.specs.JournalSpec.Lengths.{journal_rules}
+use Rattle.book_recovery.specs.JournalSpec.Making as make
+use Rattle.book_recovery.specs.JournalSpec.Making.{made_in}
+use Rattle.book_recovery.specs.JournalSpec.Whole.{HasWholeScripts}
+use Rattle.book_recovery.specs.JournalSpec.Disks.{IsFit}
+use Rattle.book_recovery.specs.JournalSpec.Spelling.{IsInRange}
 use Rattle.machine_states.specs.Views.{segment_of}
 use Rattle.machine_states.specs.declared.segment.Segment as ran
 use Rattle.replay_spec.specs.Tape.{present}
@@ -34,26 +34,28 @@ use Rattle.replay_spec.specs.Runs as runs
 use Rattle.replay_spec.specs.Runs.{drawn_by, shelf_step}
 use Rattle.replay_spec.specs.Invariant.{IsOrderly}
 use Rattle.book_visits.specs.declared.ticket.Ticket.{Ticket}
-use Rattle.instance_book.specs.Views.{Beside, book_of}
+use Rattle.book_recovery.specs.InstanceBook.Views.{Beside, book_of}
 use Rattle.book_visits.specs.Views.{ticket_of, reply_of}
-use Rattle.instance_book.specs.declared.change.Change.{Change}
-use Rattle.instance_book.specs.Changes.{change_of, inside_of}
+use Rattle.book_recovery.specs.InstanceBook.declared.change.Change.{Change}
+use Rattle.book_recovery.specs.InstanceBook.Changes.{change_of, inside_of}
 use Rattle.book_recovery.specs.Found.{HasToldStates}
-use Rattle.instance_book.specs.Makes.{HasPlaces, HasSomeStates, HasItsStates}
-use Rattle.instance_book.specs.Swept.{cells_in}
+use Rattle.book_recovery.specs.InstanceBook.Makes.{HasPlaces, HasSomeStates, HasItsStates}
+use Rattle.book_recovery.specs.InstanceBook.Swept.{cells_in}
 use Rattle.book_visits.specs.Fits.{FitsAs}
-use Rattle.instance_book.specs.Makes.{rules_with}
+use Rattle.book_recovery.specs.InstanceBook.Makes.{rules_with}
 use Rattle.book_visits.specs.Prepares.{HasItsScript}
 use Rattle.book_visits.specs.Admissions.{HasFew}
 use Rattle.book_visits.specs.Laws.{KeepsStateAs}
-use Rattle.instance_book.specs.declared.book.Book as kept
+use Rattle.book_recovery.specs.InstanceBook.declared.book.Book as kept
 use Rattle.shelf.specs.Runs.{IsRunOver}
 use Rattle.shelf.specs.declared.doubt.Doubt.{Doubt}
 use Rattle.shelf.specs.declared.doubt.Work.{Work}
 use Rattle.shelf.specs.declared.doubt.Work.TheVariants.{Visits, Sweeps, Compacts}
+use Rattle.shelf.specs.declared.follower.Follower.{Follower}
 use Rattle.shelf.specs.declared.rules.Rules.{Rules}
 use Rattle.shelf.specs.declared.shelf.Shelf.{Shelf}
 use Rattle.file_copies.specs.OfFileNotes.Files as noted
+use Rattle.shelf.specs.Fed.{IsFedAs, IsFedBy, IsFedSome}
 use Rattle.shelf.specs.Files.{KnowsFile}
 use Rattle.shelf.specs.Ranges.{AreInRange}
 use Rattle.shelf.specs.Owning.{StandsOwn}
@@ -81,9 +83,19 @@ abbrev pub doubt_by : (count : ℕ) → Option Change → Option spec.Doubt
 doubt_by count None = None
 doubt_by count (Some c) = Some (record { count = count; work = spec.landing (change_of c) (inside_of c) })
 
--- what stands beside the book of a shelf: its journal, seen through this view of the disk, and what is in doubt
+-- whether a shelf follows another one's journal
+abbrev pub follows_in : {D N : Type 0} → Shelf D N → Bool
+follows_in s = is_some s.follower
+
+-- nothing is in doubt on a shelf, and it does not follow another one's journal
+pub record IsFree {D N : Type 0} (s : Shelf D N) : Type 0 where
+  pub up : s.down ≡ None
+  pub leads : s.follower ≡ None
+
+-- what stands beside the book of a shelf: its journal, seen through this view of the disk, what is in doubt, and whether it follows
 abbrev pub beside_of : {D N : Type 0} → (D → View) → Shelf D N → Beside
-beside_of view s = record { length = length_of s.journal; file = noted.file_in s.notes; down = option_map doubt_of s.down }
+beside_of view s =
+    record { length = length_of s.journal; file = noted.file_in s.notes; down = option_map doubt_of s.down; follows = follows_in s }
 
 -- what a journal told a shelf of: the scripts of all setups, and those of the last one
 abbrev pub library_in : {D N : Type 0} → Shelf D N → Library
@@ -106,16 +118,28 @@ abbrev pub TellsStates : {D : Type 0} → (D → View) → List Named → (shelf
 TellsStates view all shelf j b =
     (m : Made) → made_in (make.book_of setup_of_texts shelf (bodies_in view j)) ≡ Some m → HasToldStates all m.earlier.states b
 
+-- What a shelf keeps that follows another one's journal is what it was fed; its book is as after a crash, nothing is in doubt, and no call of
+-- the disk has failed when a record was added.
+pub record IsFed {D N : Type 0} (view : D → View) (tells : Bool) (s : Shelf D N) (f : Follower) : Type 0 where
+  pub standing : f.fallen ≡ None
+  pub up : s.down ≡ None
+  pub again : book_in view s ≡ spec.reopened (book_in view s)
+  pub fed : IsFedAs f.fed s.rules.number f.seen s.book (library_in s)
+  pub made : IsFedSome f.fed s.rules.number f.seen s.book (library_in s)
+  pub told : IsTrue tells
+      → IsFedBy f.fed s.rules.number f.seen s.book (library_in s) (make.book_of setup_of_texts s.rules.number (bodies_in view s.journal))
+
 -- What holds of a shelf between its calls, on a disk of this view, whoever left the journal: each instance is of a script that the journal
 -- told, and each page has a state that fits it; the book is orderly, of whole scripts and of numbers that records tell, and of the shelf's
--- number; the setup is what its names and texts are read as; the limits are in their ranges; where nothing is in doubt, the journal can go
--- on; where the disk tells its bytes, it stands for the book, whose pages have the states that the records told; and the journal's file is known.
+-- number; the setup is what its names and texts are read as, unless the shelf follows another one's journal; the limits are in their ranges;
+-- where nothing is in doubt, the journal can go on; where the disk tells its bytes, it stands for the book, whose pages have the states that
+-- the records told; the journal's file is known; and where the shelf follows, so is how far.
 pub record IsInOrder {D N : Type 0} (view : D → View) (tells : Bool) (s : Shelf D N) : Type 0 where
   pub placed : HasPlaces (library_in s).all s.book
   pub kept : HasSomeStates (library_in s).all s.book
   pub orderly : IsOrderly (book_in view s)
   pub scripts_are : HasWholeScripts (book_in view s)
-  pub read : IsReadSetup (library_in s).setup
+  pub read : follows_in s ≡ false → IsReadSetup (library_in s).setup
   pub range : IsInRange (book_in view s)
   pub number : s.book.shelf ≡ s.rules.number
   pub limits : AreInRange s.rules
@@ -125,6 +149,7 @@ pub record IsInOrder {D N : Type 0} (view : D → View) (tells : Bool) (s : Shel
   pub fit : IsTrue tells → IsFit view setup_of_texts s.rules.number s.journal (book_in view s)
   pub told : IsTrue tells → s.down ≡ None → TellsStates view (library_in s).all s.rules.number s.journal s.book
   pub knows : KnowsFile view tells s.rules.number s.journal (s.down ≡ None) s.notes
+  pub fed : IfSome s.follower (IsFed view tells s)
 
 -- What this program's own shelves have besides: each page has the state of its chain; and where the disk tells its bytes, so has each
 -- record that a crash may leave there, and what is in doubt is measured as its record is.

@@ -1,38 +1,41 @@
-ghost use Rattle.std.specs.Prelude.{◌≡◌, ◌≤◌, ◌<◌, ◌^◌, [], false, length, IsTrue, IfOk, OnOk};
+ghost use Rattle.std.specs.Prelude.{◌≡◌, ◌≤◌, ◌<◌, ◌^◌, [], false, length, None, is_some, IsTrue, IfOk, OnOk};
 ghost use Rattle.script_nodes.specs.Views.{named_of, scripts_of, library_of};
-ghost use Rattle.setup_reader.specs.Texts.{IsReadSetup};
+ghost use Rattle.book_recovery.specs.SetupReader.Texts.{IsReadSetup};
 ghost use Rattle.disk_trio.specs.Trio.{trio_view};
 ghost use Rattle.page_journal.specs.Records.{newest};
 ghost use Rattle.page_journal.specs.Settled.{IsSettled, IsSound, length_with, is_broken};
 ghost use Rattle.journal_records.specs.Records.{IsInGrammar, begin_of, renewal_of, body_of};
 ghost use Rattle.journal_records.specs.Views.{recorded_of};
-ghost use Rattle.journal_spec.specs.Opening.{first_body, renewal_body};
-ghost use Rattle.journal_spec.specs.Whole.{IsWhole, AreWhole};
-ghost use Rattle.instance_book.specs.Makes.{HasItsStates};
+ghost use Rattle.book_recovery.specs.JournalSpec.Opening.{first_body, renewal_body};
+ghost use Rattle.book_recovery.specs.JournalSpec.Whole.{IsWhole, AreWhole};
+ghost use Rattle.book_recovery.specs.InstanceBook.Makes.{HasItsStates};
 ghost use Rattle.book_recovery.specs.Found.{IsBookInOrder};
 ghost use Rattle.shelf.specs.Faults.{begin_fault};
-ghost use Rattle.shelf.specs.Opening.{HasOwnRecords, OpensOwn, Opens, TellsSetup, TellsFull, IsLibraryOf, with_book, WasFound};
+ghost use Rattle.shelf.specs.Opening.{HasOwnRecords, OpensOwn, Opens, IsFollowedBy, TellsSetup, TellsFull, IsLibraryOf, with_book, WasFound};
 ghost use Rattle.file_copies.specs.OfFileNotes.Files.{IsNoted};
 ghost use Rattle.shelf.specs.Files.{KnowsRead, NotesBegun, NotesRenewed};
 ghost use Rattle.shelf.specs.Ranges.{AreInRange};
 
+use crate::fed::{follower_of, go_on_fed};
+use crate::follower::Follower;
 use crate::migration::migrated;
 use crate::present::is_present;
 use crate::recording::added;
 use crate::rules::Rules;
 use crate::shelf::Shelf;
+use book_recovery::books::Book;
+use book_recovery::journal_laws::{
+    a_setup_is_its_texts, openings_stay, recoveries_find_one, renewals_are_kept,
+    renewals_stand_between,
+};
 use book_recovery::{Found, ReadBook, read_book};
 use disk_trio::Disks;
 use file_copies::FileNotes;
-use instance_book::Book;
 use journal_records::{Recorded, body_length, encode, records_are_exact};
-use journal_spec::{
-    a_setup_is_its_texts, fresh_journals_are_kept, openings_stay, recoveries_find_one,
-    renewals_are_kept, renewals_stand_between,
-};
 use page_journal::{Journal, JournalFault, MAX_LEN};
 use script_nodes::{Library, NamedScript, Setup};
 use std::alloc::Global;
+use std::snapshot::Snapshot;
 use web_disk::Disk;
 use web_outside::Nonces;
 
@@ -51,7 +54,7 @@ pub enum BeginFault {
     Memory,
 }
 
-fn fault_by(fault: JournalFault) -> BeginFault
+pub(crate) fn fault_by(fault: JournalFault) -> BeginFault
     ensures { result ≡ begin_fault fault }
 {
     match fault {
@@ -196,7 +199,7 @@ fn renew<D: Disk>(
     }
     match tell(alloc, journal, &line) {
         Ok(()) => {
-            notes.renew(setup, long(&line) as u32);
+            notes.renew(Snapshot::of(setup), long(&line) as u32);
             Ok(())
         }
         Err(fault) => Err(fault),
@@ -225,7 +228,7 @@ fn go_on<D: Disk>(
     requires found { IsTrue D.tells
         → WasFound D.view number journal.old book.now (library_of library.old) }
     requires in_order { IsBookInOrder number book.now (library_of library.old) }
-    ensures opened { Opens D.view D.tells (scripts_of setup.now) number journal.old journal.new
+    ensures opened { Opens D.view D.tells (scripts_of setup.now) number false journal.old journal.new
         (with_book book.now library.new result) }
     ensures own { IsTrue D.tells → HasOwnRecords D.view number journal.old
         → HasItsStates (library_of library.old).all book.now
@@ -247,13 +250,15 @@ fn go_on<D: Disk>(
     }
 }
 
-// Makes the book of the records; a journal without records gets its first one, and one of another setup that of this one.
+// Makes the book of the records; a journal without records gets its first one, and one of another setup that of this one, unless the shelf
+// follows another one's journal.
 fn open<D: Disk>(
     alloc: Global,
     journal: &mut Journal<D>,
     setup: &Setup,
     number: u32,
     notes: &mut FileNotes,
+    follower: &mut Option<Follower>,
 ) -> Result<(Book, Library), BeginFault>
     requires sound { IsSound journal.old }
     requires newest { journal.old.format ≡ newest }
@@ -262,7 +267,10 @@ fn open<D: Disk>(
     requires settled { IsTrue D.tells → IsSettled D.view journal.old }
     requires read { IsReadSetup (scripts_of setup.now) }
     requires begins { IsInGrammar (begin_of number (scripts_of setup.now)) }
-    ensures opened { Opens D.view D.tells (scripts_of setup.now) number journal.old journal.new result }
+    requires leads { follower.old ≡ None }
+    ensures opened { Opens D.view D.tells (scripts_of setup.now) number (is_some follower.new)
+        journal.old journal.new result }
+    ensures follows { IsFollowedBy D.view D.tells number journal.new follower.new result }
     ensures own { IsTrue D.tells → HasOwnRecords D.view number journal.old
         → IfOk result (OpensOwn D.view number journal.new) }
     ensures known { IsTrue D.tells → OnOk result (KnowsRead D.view number journal.new notes.new) }
@@ -272,7 +280,6 @@ fn open<D: Disk>(
     ensures whole { OnOk result (is_broken journal.new ≡ false) }
 {
     records_are_exact();
-    fresh_journals_are_kept();
     scripts_are_whole(setup);
     let Ok(read) = read_book(alloc, journal, number) else {
         return Err(BeginFault::DiskFault);
@@ -281,7 +288,14 @@ fn open<D: Disk>(
         found,
         notes: known,
         anew: _,
+        follows,
+        seen,
+        alone,
     } = read;
+    if follows {
+        *follower = Some(follower_of(&found, alone, seen));
+        return go_on_fed(alloc, number, found, known, notes);
+    }
     *notes = known;
     match found {
         Found::Made { book, library } => {
@@ -328,7 +342,8 @@ impl<F: Disk, N: Nonces + Drop> Shelf<Disks<F>, N> {
     /// as after a crash. Disks without a record get the first, which tells the shelf's number and its scripts. A journal of an older
     /// format gives place to one of the newest, with the records of live instances and the setups. Where the setup has
     /// other names or texts than the last one that the journal tells, it is told behind the others; instances go on with the scripts
-    /// with which they began. Disks that are refused are handed back, with what stands on them, but where one of their calls failed.
+    /// with which they began. A shelf whose journal tells that it follows another one's is told no setup, and goes on to follow: nothing is
+    /// written. Disks that are refused are handed back, with what stands on them, but where one of their calls failed.
     /// Where the records that are read are own ones, as those of empty disks are, the shelf is an own one; on disks that tell no bytes
     /// it is where its book has no instance. Where disks hold own records, a crash at any moment of the opening leaves some.
     ///
@@ -383,7 +398,15 @@ impl<F: Disk, N: Nonces + Drop> Shelf<Disks<F>, N> {
         match migrated(alloc, &mut journal, rules.number) {
             Ok(()) => {
                 let mut notes = FileNotes::none(alloc);
-                match open(alloc, &mut journal, setup, rules.number, &mut notes) {
+                let mut follower = None;
+                match open(
+                    alloc,
+                    &mut journal,
+                    setup,
+                    rules.number,
+                    &mut notes,
+                    &mut follower,
+                ) {
                     Ok((book, library)) => Ok(Shelf {
                         journal,
                         book,
@@ -392,6 +415,7 @@ impl<F: Disk, N: Nonces + Drop> Shelf<Disks<F>, N> {
                         nonces,
                         rules,
                         notes,
+                        follower,
                     }),
                     Err(fault) => Err((fault, journal.close(), nonces)),
                 }

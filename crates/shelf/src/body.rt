@@ -6,9 +6,9 @@ ghost use Rattle.file_copies.specs.OfFileNotes.Files.{IsNoted, HasRoom, StaysAsT
 ghost use Rattle.shelf.specs.Recording.{CanBeTold, IsToldBody, IsKeptIn, BindsIn};
 
 use crate::recording::{recorded, told_state, written};
+use book_recovery::books::Change;
 use book_visits::Ticket;
 use file_copies::FileNotes;
-use instance_book::Change;
 use page_journal::Journal;
 use script_value::{Bytes, Reply};
 use std::alloc::Global;

@@ -11,13 +11,13 @@ ghost use Rattle.shelf.specs.Compacting.{IsPlanOf, IsPlannedFor, IsTooLongFor, I
 
 use crate::doubt::{Doubt, Work};
 use crate::shelf::Shelf;
-use disk_trio::Disks;
-use file_copies::{CopyFault, FileNotes, compacted_file};
-use instance_book::Book;
-use journal_records::{Recorded, encode, records_are_exact};
-use journal_spec::{
+use book_recovery::books::Book;
+use book_recovery::journal_laws::{
     books_stand_alike, compactions_stand_between, copies_are_own, copies_make_the_book,
 };
+use disk_trio::Disks;
+use file_copies::{CopyFault, FileNotes, compacted_file};
+use journal_records::{Recorded, encode, records_are_exact};
 use page_journal::{Journal, MAX_LEN};
 use script_nodes::Library;
 use script_value::Reply;
@@ -187,9 +187,10 @@ impl<F: Disk, N: Nonces + Drop> Shelf<Disks<F>, N> {
     /// Puts a file in the place of the journal's that has the records of live instances and the setups alone, with the number that is
     /// drawn next. It tells how long that is.
     ///
-    /// A shelf that is down is told first, and then a file that would be too long, which leaves the shelf as it was. Where the disk fails,
-    /// the one file stands there or the other, and the shelf is down until it is opened again. Want of memory changes nothing. A reply
-    /// that tells neither a compaction nor a fault of the disk leaves the disk alone.
+    /// A shelf that is down is told first, then one that follows another one's journal, and then a file that would be too long, which
+    /// leaves the shelf as it was. Where the disk fails, the one file stands there or the other, and the shelf is down until it is
+    /// opened again. Want of memory changes nothing. A reply that tells neither a compaction nor a fault of the disk leaves the disk
+    /// alone.
     pub fn compact(&mut self, alloc: Global) -> Result<u64, Reply>
         requires in_order { IsInOrder trio_view F.tells self.old }
         ensures event { IsCompaction trio_view N.nonce self.old self.new result }
@@ -212,8 +213,8 @@ impl<F: Disk, N: Nonces + Drop> Shelf<Disks<F>, N> {
         copies_are_own();
         copies_make_the_book();
         records_are_exact();
-        if let Some(doubt) = &self.down {
-            return Err(Reply::Down(doubt.count));
+        if let Some(reply) = self.barred() {
+            return Err(reply);
         }
         match rewritten(
             alloc,

@@ -1,7 +1,7 @@
 ghost use Rattle.std.specs.Prelude.{◌≡◌, option_map};
 
+use book_recovery::books::Change;
 use book_visits::Prepared;
-use instance_book::Change;
 
 /// Work on the journal in which the disk failed.
 #[derive(Drop)]

@@ -5,16 +5,22 @@ ghost use Rattle.std.specs.Prelude.{IsTrue};
 ghost use Rattle.shelf.specs.Going.{TicketsGoOnToFit};
 ghost use Rattle.shelf.specs.Opening.{AReopenedShelfHasCrashed, AReopenedShelfIsSound, AStandingDiskOpens};
 
+mod adopt;
 mod begin;
 mod body;
 mod compaction;
 mod doubt;
+mod each;
+mod fed;
+mod follower;
 mod migration;
 mod nesting;
 mod prepare;
 mod present;
+mod promote;
 mod publish;
 mod recording;
+mod reopen;
 mod rules;
 mod run;
 mod second;
@@ -22,16 +28,22 @@ mod shelf;
 mod sweep;
 mod take;
 
+pub use adopt::AdoptFault;
 pub use begin::BeginFault;
+pub use book_recovery::journal_laws::images_make_books;
+pub use book_recovery::runs::Segment;
 pub use book_visits::Ticket;
 pub use doubt::{Doubt, Work};
-pub use journal_spec::images_make_books;
+pub use follower::{Fed, Follower};
+pub use journal_records::is_role;
+pub use page_journal::Take;
 use replay_spec::{orderly_books_stay, pages_stay};
 pub use rules::Rules;
 pub use run::run_ticket;
 pub use shelf::Shelf;
-pub use visit_runs::Segment;
-use web_disk::Disk;
+pub use web_disk::Disk;
+pub use web_outside::{Failed, Sink, Source, write_all};
+pub use wire_bytes::{u32_from_wire, u32_to_wire};
 
 /// A ticket that fits the book of its take goes on to fit: a page that was shown stays as it is while its instance lives, so
 /// what `publish` asks of a ticket is kept by every lawful event of the shelf, whatever stands in its journal.

@@ -6,11 +6,13 @@ ghost use Rattle.shelf.specs.Migrating.{StaysOf, IsNoBook, HasLow, anew_by, IsFi
 
 use crate::begin::BeginFault;
 use crate::compaction::replaced;
+use book_recovery::journal_laws::{
+    copies_are_own, migrations_make_the_book, migrations_stand_between,
+};
 use book_recovery::{Found, ReadBook, read_book};
 use disk_trio::Disks;
 use file_copies::{CopyFault, file_of, sizes_of};
 use journal_records::{Recorded, encode, records_are_exact};
-use journal_spec::{copies_are_own, migrations_make_the_book, migrations_stand_between};
 use page_journal::{Journal, MAX_LEN, NEWEST_FORMAT};
 use script_value::Bytes;
 use std::alloc::Global;

@@ -4,7 +4,7 @@ ghost use Rattle.script_value.specs.Views.{meaning};
 ghost use Rattle.web_cells.specs.Views.{pair_of};
 ghost use Rattle.machine_states.specs.Views.{frame_of, suspended_of};
 ghost use Rattle.journal_records.specs.Fields.{is_shallow};
-ghost use Rattle.journal_spec.specs.Lengths.{is_shallow_frame, is_shallow_state};
+ghost use Rattle.book_recovery.specs.JournalSpec.Lengths.{is_shallow_frame, is_shallow_state};
 ghost use Rattle.shelf.specs.Recording.{is_shallow_shadow};
 
 use machine_states::{Frame, Suspended};

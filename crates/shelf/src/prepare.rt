@@ -2,23 +2,23 @@ ghost use Rattle.std.specs.Prelude.{◌≤◌, IfOk, Contains};
 ghost use Rattle.script_nodes.specs.Views.{library_of};
 ghost use Rattle.server_limits.specs.Limits.{most_fuel, most_life};
 ghost use Rattle.replay_spec.specs.Invariant.{IsOrderly};
-ghost use Rattle.instance_book.specs.Standing.{book_under};
+ghost use Rattle.book_recovery.specs.InstanceBook.Standing.{book_under};
 ghost use Rattle.book_visits.specs.Admissions.{FitsIn};
-ghost use Rattle.instance_book.specs.Changes.{HasRoomFor};
+ghost use Rattle.book_recovery.specs.InstanceBook.Changes.{HasRoomFor};
 ghost use Rattle.book_visits.specs.Fits.{IsRunnable};
-ghost use Rattle.instance_book.specs.Makes.{HasPlaces, StaysSame, KeepsPlaces, KeepsStates};
+ghost use Rattle.book_recovery.specs.InstanceBook.Makes.{HasPlaces, StaysSame, KeepsPlaces, KeepsStates};
 ghost use Rattle.shelf.specs.Views.{IsRunIfAny, HasTargetScript};
 ghost use Rattle.shelf.specs.Tickets.{GoesOnIfThere};
 ghost use Rattle.shelf.specs.Preparing.{IsDecided, IsDecidedIfHeld, IsRefused, WantsMemory, CanBeLanded, ShowsState, TellsOfRun};
 
 use crate::rules::Rules;
 use crate::second::segment_now;
+use book_recovery::books::Book;
+use book_recovery::runs::Segment;
 use book_visits::{Prepared, Ticket, a_shown_page_has_its_state, admit, prepare};
-use instance_book::Book;
 use script_nodes::Library;
 use script_value::Reply;
 use std::alloc::Global;
-use visit_runs::Segment;
 
 /// What the publish of a ticket is prepared as, or answered, on a shelf that is not down, before its record is measured.
 ///

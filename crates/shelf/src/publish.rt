@@ -1,6 +1,6 @@
 ghost use Rattle.std.specs.Prelude.{◌≡◌, None, IsTrue};
 ghost use Rattle.script_nodes.specs.Views.{library_of};
-ghost use Rattle.instance_book.specs.Changes.{HasRoomFor};
+ghost use Rattle.book_recovery.specs.InstanceBook.Changes.{HasRoomFor};
 ghost use Rattle.book_visits.specs.Fits.{IsRunnable};
 ghost use Rattle.book_visits.specs.Views.{reply_of};
 
@@ -9,14 +9,14 @@ use crate::doubt::Doubt;
 use crate::prepare::prepared;
 use crate::recording::added;
 use crate::shelf::Shelf;
-use book_visits::{Prepared, Ticket, install};
-use journal_records::records_are_exact;
-use journal_spec::{
+use book_recovery::journal_laws::{
     events_are_kept, events_stand_between, landings_are_kept, landings_stand_between,
 };
+use book_recovery::runs::Segment;
+use book_visits::{Prepared, Ticket, install};
+use journal_records::records_are_exact;
 use script_value::Reply;
 use std::alloc::Global;
-use visit_runs::Segment;
 use web_disk::Disk;
 use web_outside::Nonces;
 
@@ -36,9 +36,9 @@ impl<D: Disk, N: Nonces + Drop> Shelf<D, N> {
     /// neither a page nor a fault of the disk leaves the disk alone. Where the disk fails, the change may stand there or not, and the
     /// shelf is down until it is opened again.
     ///
-    /// A shelf that is down and a target that is not admitted are told whatever memory there is, and so is, where no second run
-    /// is due, any reply that changes nothing, but for the length of a record. Want of memory changes nothing else than that
-    /// the number is spent.
+    /// A shelf that is down or follows another one's journal and a target that is not admitted are told whatever memory there is, and
+    /// so is, where no second run is due, any reply that changes nothing, but for the length of a record. Want of memory changes
+    /// nothing else than that the number is spent.
     ///
     /// It asks for a number that is out, for a ticket that can be run and that goes on from its page, as a take gave it, and for the
     /// segment of its run over its own cells. On an own shelf, where the ticket is for the visit of its target wherever that is
@@ -76,10 +76,9 @@ impl<D: Disk, N: Nonces + Drop> Shelf<D, N> {
         ensures rules { self.new.rules ≡ self.old.rules }
     {
         events_are_kept();
-        if let Some(doubt) = &self.down {
-            let count = doubt.count;
+        if let Some(reply) = self.barred() {
             self.book.spend(ticket.number);
-            return Reply::Down(count);
+            return reply;
         }
         match prepared(
             alloc,

@@ -8,17 +8,17 @@ ghost use Rattle.page_journal.specs.Settled.{IsSettled, IsReady, IsSound, view_o
 ghost use Rattle.journal_records.specs.Records.{changes};
 ghost use Rattle.journal_records.specs.Views.{recorded_of};
 ghost use Rattle.book_visits.specs.Views.{reply_of};
-ghost use Rattle.instance_book.specs.Changes.{change_of};
+ghost use Rattle.book_recovery.specs.InstanceBook.Changes.{change_of};
 ghost use Rattle.book_visits.specs.Changes.{IsSpelledIn};
-ghost use Rattle.instance_book.specs.KeptStates.Kept.{kept_of};
+ghost use Rattle.book_recovery.specs.InstanceBook.KeptStates.Kept.{kept_of};
 ghost use Rattle.machine_states.specs.Views.{suspended_of};
 ghost use Rattle.file_copies.specs.OfFileNotes.Files.{IsNoted, HasRoom, StaysAsTold};
 ghost use Rattle.shelf.specs.Recording.{refusal_of_size, CanBeWritten, IsWritten, IsStateFor, IsLentAs, IsKeptIn, WhereTold, BindsIn, told_in, lent};
 
 use crate::nesting::nests_shallow;
+use book_recovery::books::{Change, KeptState, kept_are_written};
 use book_visits::Ticket;
 use file_copies::FileNotes;
-use instance_book::{Change, KeptState, kept_are_written};
 use journal_records::{Recorded, encode, record_length};
 use machine_states::Suspended;
 use page_journal::{AppendFault, Journal, MAX_LEN};

@@ -4,12 +4,12 @@ ghost use Rattle.script_nodes.specs.Views.{library_of};
 ghost use Rattle.book_visits.specs.Fits.{IsRunnable};
 ghost use Rattle.shelf.specs.Runs.{IsRunOver, IsRunOfItsVisit};
 
+use book_recovery::runs::{Segment, run_from};
 use book_visits::Ticket;
 use instance_cells::Cells;
 use replay_spec::effects_are_on_cells;
 use script_nodes::Library;
 use std::alloc::{AllocError, Global};
-use visit_runs::{Segment, run_from};
 
 /// Runs the segment of a ticket over these cells, from the state that the ticket goes on from.
 ///

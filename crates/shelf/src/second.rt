@@ -1,7 +1,7 @@
 ghost use Rattle.std.specs.Prelude.{◌≡◌, ◌<◌, ◌^◌, None, IfOk, IfErr, Ok, map};
 ghost use Rattle.script_nodes.specs.Views.{library_of};
 ghost use Rattle.instance_cells.specs.Views.{effect_of};
-ghost use Rattle.instance_book.specs.Standing.{book_under};
+ghost use Rattle.book_recovery.specs.InstanceBook.Standing.{book_under};
 ghost use Rattle.book_visits.specs.Admissions.{refusal_for};
 ghost use Rattle.book_visits.specs.Fits.{IsRunnable};
 ghost use Rattle.book_visits.specs.Prepares.{AreOnCells};
@@ -10,14 +10,14 @@ ghost use Rattle.shelf.specs.Tickets.{GoesOnIfThere};
 ghost use Rattle.shelf.specs.Holding.{AreHeldNow, IsForItsVisit, IsWantOfMemory, ShowsWholeFrom};
 
 use crate::run_ticket;
+use book_recovery::books::Book;
+use book_recovery::runs::Segment;
 use book_visits::Ticket;
-use instance_book::Book;
 use page_names::Target;
 use replay_spec::effects_hold_run_same;
 use script_nodes::Library;
 use script_value::Reply;
 use std::alloc::{AllocError, Global};
-use visit_runs::Segment;
 
 /// What the segment of a ticket comes to over the cells of now: the first run's result where its effects hold over them, and
 /// else that of a second run. A start's cells are its own, so it is never run again.

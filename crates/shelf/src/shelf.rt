@@ -1,11 +1,13 @@
-ghost use Rattle.std.specs.Prelude.{◌≡◌, ◌<◌, ◌^◌};
+ghost use Rattle.std.specs.Prelude.{◌≡◌, ◌<◌, ◌^◌, None, option_map};
 
 use crate::doubt::Doubt;
+use crate::follower::Follower;
 use crate::rules::Rules;
+use book_recovery::books::Book;
 use file_copies::FileNotes;
-use instance_book::Book;
 use page_journal::Journal;
 use script_nodes::Library;
+use script_value::Reply;
 use web_disk::Disk;
 
 /// One shelf: its book in memory, and on a disk the journal of what made it.
@@ -21,19 +23,31 @@ pub struct Shelf<D: Disk, N> {
     pub(crate) rules: Rules,
     // What is known of the journal's file.
     pub(crate) notes: FileNotes,
+    // What is kept where the shelf follows another one's journal.
+    pub(crate) follower: Option<Follower>,
 }
 
 // What stands in memory is let go.
-fn forget(book: Book, library: Library, down: Option<Doubt>, notes: FileNotes) {
+fn forget(
+    book: Book,
+    library: Library,
+    down: Option<Doubt>,
+    notes: FileNotes,
+    follower: Option<Follower>,
+) {
     drop(book);
     drop(library);
     drop(down);
     drop(notes);
+    drop(follower);
 }
 
 impl<D: Disk, N> Shelf<D, N> {
     ghost use Rattle.page_journal.specs.Settled.{IsSound, view_of, length_of};
-    ghost use Rattle.instance_book.specs.Makes.{count_of};
+    ghost use Rattle.book_recovery.specs.InstanceBook.Makes.{count_of};
+    ghost use Rattle.replay_spec.specs.Step.{barred};
+    ghost use Rattle.book_visits.specs.Views.{reply_of};
+    ghost use Rattle.shelf.specs.Views.{follows_in, book_in, IsFree};
 
     /// The book of the shelf.
     pub fn book(&self) -> &Book
@@ -47,6 +61,27 @@ impl<D: Disk, N> Shelf<D, N> {
         ensures { result.now ≡ self.now.library }
     {
         &self.library
+    }
+
+    /// Whether the shelf follows another one's journal: then it makes no visit.
+    pub fn follows(&self) -> bool
+        ensures { result ≡ follows_in self.now }
+    {
+        self.follower.is_some()
+    }
+
+    // What bars each event but a sweep at or below the clock: the shelf is down, or it follows another one's journal.
+    pub(crate) fn barred(&self) -> Option<Reply>
+        ensures barred { option_map reply_of result ≡ barred (book_in D.view self.now) }
+        ensures free { result ≡ None → IsFree self.now }
+    {
+        if let Some(doubt) = &self.down {
+            return Some(Reply::Down(doubt.count));
+        }
+        if self.follows() {
+            return Some(Reply::Following);
+        }
+        None
     }
 
     /// How many instances are live.
@@ -92,8 +127,9 @@ impl<D: Disk, N> Shelf<D, N> {
             nonces,
             rules: _,
             notes,
+            follower,
         } = self;
-        forget(book, library, down, notes);
+        forget(book, library, down, notes, follower);
         (journal.close(), nonces)
     }
 }

@@ -3,8 +3,8 @@ ghost use Rattle.std.specs.Prelude.{◌≡◌, ◌<◌, ◌^◌, IsTrue};
 use crate::doubt::{Doubt, Work};
 use crate::recording::{added, written};
 use crate::shelf::Shelf;
+use book_recovery::journal_laws::{events_are_kept, events_stand_between};
 use journal_records::{Recorded, records_are_exact};
-use journal_spec::{events_are_kept, events_stand_between};
 use script_value::Reply;
 use std::alloc::Global;
 use web_disk::Disk;
@@ -42,8 +42,8 @@ impl<D: Disk, N: Nonces + Drop> Shelf<D, N> {
         if tick <= self.book.clock() {
             return Ok(0);
         }
-        if let Some(doubt) = &self.down {
-            return Err(Reply::Down(doubt.count));
+        if let Some(reply) = self.barred() {
+            return Err(reply);
         }
         let record = Recorded::Sweep { clock: tick };
         let body = match written(alloc, &mut self.journal, &mut self.notes, &record) {

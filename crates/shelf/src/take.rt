@@ -2,11 +2,11 @@ ghost use Rattle.std.specs.Prelude.{◌≡◌, IfOk};
 ghost use Rattle.script_nodes.specs.Views.{library_of};
 ghost use Rattle.book_visits.specs.Admissions.{HasCellsBy};
 ghost use Rattle.book_visits.specs.Fits.{IsRunnable};
-ghost use Rattle.instance_book.specs.Makes.{HasItsStates};
+ghost use Rattle.book_recovery.specs.InstanceBook.Makes.{HasItsStates};
 
 use crate::shelf::Shelf;
+use book_recovery::journal_laws::events_are_kept;
 use book_visits::{Ticket, admit, take_ticket};
-use journal_spec::events_are_kept;
 use page_names::Target;
 use script_value::{Reply, Value};
 use std::alloc::Global;
@@ -23,8 +23,8 @@ impl<D: Disk, N: Nonces + Drop> Shelf<D, N> {
 
     /// Takes the next number and nonce for a visit of the target. It does not touch the disk.
     ///
-    /// A shelf that is down, one whose numbers are used up, and a target that is not admitted are told whatever memory there
-    /// is. A take that is refused, or finds no memory, changes nothing and draws no nonce.
+    /// A shelf that is down, one that follows another one's journal, one whose numbers are used up, and a target that is not admitted
+    /// are told whatever memory there is. A take that is refused, or finds no memory, changes nothing and draws no nonce.
     ///
     /// The ticket can be run, and that of an answer goes on from its page, as do those that were taken before. Where each page of the
     /// shelf has the state of its chain, it is for the visit of the target.
@@ -48,8 +48,8 @@ impl<D: Disk, N: Nonces + Drop> Shelf<D, N> {
         ensures rules { self.new.rules ≡ self.old.rules }
     {
         events_are_kept();
-        if let Some(doubt) = &self.down {
-            return Err(Reply::Down(doubt.count));
+        if let Some(reply) = self.barred() {
+            return Err(reply);
         }
         if self.book.drawn() == NUMBERS {
             return Err(Reply::Worn);

@@ -1,7 +1,7 @@
 use Rattle.std.proofs.Common.{◌≡◌, ◌∙◌, ◌+◌, ap, ℕ, length}
 use Rattle.script_nodes.specs.Views.{scripts_of}
 use Rattle.replay_spec.specs.Rules.{first_file}
-use Rattle.journal_spec.specs.Opening.{first_body}
+use Rattle.book_recovery.specs.JournalSpec.Opening.{first_body}
 use Rattle.shelf.proofs.Setups.{begin_short}
 use Rattle.shelf.proofs.begin.start.Goals as goal
 

@@ -2,7 +2,7 @@ use Rattle.std.proofs.Common.{◌≡◌, ◌∙◌, ap, subst, [], Bool, List, l
 use Rattle.replay_spec.specs.Book.{File}
 use Rattle.replay_spec.specs.Compaction.{file_length}
 use Rattle.script_nodes.specs.Views.{library_of}
-use Rattle.instance_book.specs.Views.{instances_of}
+use Rattle.book_recovery.specs.InstanceBook.Views.{instances_of}
 use Rattle.file_copies.specs.OfFileNotes.Files.{IsPicked}
 use Rattle.file_copies.proofs.OfFileNotes.Plans.{plan_length}
 use Rattle.shelf.specs.Compacting.{length_for}

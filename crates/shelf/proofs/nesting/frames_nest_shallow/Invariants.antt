@@ -1,7 +1,7 @@
 use Rattle.std.proofs.Common.{◌≡◌, map, drop}
 use Rattle.std.specs.List.{list_all}
 use Rattle.machine_states.specs.Views.{frame_of}
-use Rattle.journal_spec.specs.Lengths.{is_shallow_frame}
+use Rattle.book_recovery.specs.JournalSpec.Lengths.{is_shallow_frame}
 use Rattle.shelf.proofs.nesting.frames_nest_shallow.Given as goal
 
 abbrev pub invariant-loop-frame : goal.invariant-loop-frame

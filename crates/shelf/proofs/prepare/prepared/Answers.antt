@@ -1,17 +1,16 @@
 use Rattle.std.proofs.Common.{◌≡◌, ◌∙◌, ap, sym, subst, refl, None, Option, Result, IfOk}
-use Rattle.script_value.specs.declared.outcome.Reply.{Reply}
+use Rattle.script_value.specs.declared.outcome.Reply.{Reply as RustReply}
 use Rattle.script_nodes.specs.Views.{library_of}
 use Rattle.page_names.specs.Views.{target_of}
 use Rattle.machine_states.specs.Views.{segment_of}
 use Rattle.replay_spec.specs.Admission.{refusal_of, admit}
-use Rattle.replay_spec.specs.Book.{Doubt}
-use Rattle.replay_spec.specs.Step.{Decision, unless, down_by, decide, publish_comes}
+use Rattle.replay_spec.specs.Step.{Decision, Reply, unless, barred, decide, publish_comes}
 use Rattle.book_visits.specs.declared.prepared.Prepared.{Prepared}
-use Rattle.instance_book.specs.Standing.{book_under}
+use Rattle.book_recovery.specs.InstanceBook.Standing.{book_under}
 use Rattle.book_visits.specs.Admissions.{FitsIn}
 use Rattle.book_visits.specs.Changes.{HasDeadlineBy}
 use Rattle.book_visits.specs.Prepares.{Prepares, IsPrepared, KeepsItsState}
-use Rattle.instance_book.specs.Views.{Beside, no_journal, book_of}
+use Rattle.book_recovery.specs.InstanceBook.Views.{Beside, no_journal, book_of}
 use Rattle.book_visits.specs.Views.{ticket_of}
 use Rattle.shelf.specs.Views.{unmeasured}
 use Rattle.shelf.proofs.Replayed.{if_ok}
@@ -37,10 +36,10 @@ returns-in-Ok-clause-landed c =
     })
 
 -- where the ticket is for its visit, that is prepared
-prepares : (c : In-Ok) (beside : Beside) → let l = library_of c.args.library.now in FitsIn l c.args.book.now c.args.ticket.now.target c.args.ticket.now → let b = book_of l beside c.args.book.now in beside.down ≡ None
-    → (result : Result Prepared Reply) → IsPrepared c.args.book.now c.args.ticket.now (segment_of c.in-Ok.segment) c.args.rules.instances c.args.rules.pages c.args.rules.life result
+prepares : (c : In-Ok) (beside : Beside) → let l = library_of c.args.library.now in FitsIn l c.args.book.now c.args.ticket.now.target c.args.ticket.now → let b = book_of l beside c.args.book.now in barred b ≡ None
+    → (result : Result Prepared RustReply) → IsPrepared c.args.book.now c.args.ticket.now (segment_of c.in-Ok.segment) c.args.rules.instances c.args.rules.pages c.args.rules.life result
     → Prepares l (unmeasured c.args.rules) b (publish_comes (unmeasured c.args.rules) b (ticket_of c.args.ticket.now)) result
-prepares c beside fits up result decided =
+prepares c beside fits free result decided =
     let l = library_of c.args.library.now in
     let r = c.args.rules in
     let kept = c.args.book.now in
@@ -50,18 +49,18 @@ prepares c beside fits up result decided =
     let now = c.in-Ok.ensures.segment (record { admitted = c.in_default.ensures.admitted; fits = fits }) in
     let there = prepares_by l r.fuel r.life r.instances r.pages b t (admit b x) (segment_of c.in-Ok.segment) result (segment_at l no_journal beside kept r.fuel t x (segment_of c.in-Ok.segment) now)
     (decided l beside r.fuel (admit b x) refl (ap refusal_of (admit_same l beside no_journal kept x) ∙ c.in_default.ensures.admitted) (fits_at l no_journal beside kept t x fits)) in
-    let same : publish_comes (unmeasured r) b (ticket_of t) ≡ decide (unmeasured r) b (ticket_of t) (admit b x) = ap (λ (o : Option Doubt). unless (down_by o) (decide (unmeasured r) b (ticket_of t) (admit b x))) up in
+    let same : publish_comes (unmeasured r) b (ticket_of t) ≡ decide (unmeasured r) b (ticket_of t) (admit b x) = ap (λ (o : Option Reply). unless o (decide (unmeasured r) b (ticket_of t) (admit b x))) free in
     subst (λ (d : Decision). Prepares l (unmeasured r) b d result) (sym same) there
 
 pub returns-in-Ok-clause-held : goal.returns-in-Ok-clause-held
-returns-in-Ok-clause-held c fits first is held beside up = prepares (goal.at.returns-in-Ok-clause-held c).In-Ok beside fits up c.prepare.result c.prepare.ensures.decided
+returns-in-Ok-clause-held c fits first is held beside free = prepares (goal.at.returns-in-Ok-clause-held c).In-Ok beside fits free c.prepare.result c.prepare.ensures.decided
 
 pub returns-in-Ok-clause-decided : goal.returns-in-Ok-clause-decided
-returns-in-Ok-clause-decided c fits beside up =
+returns-in-Ok-clause-decided c fits beside free =
     let l = library_of c.args.library.now in
     let r = c.args.rules in
     let b = book_of l beside c.args.book.now in
-    decides l r b (publish_comes (unmeasured r) b (ticket_of c.args.ticket.now)) c.prepare.result (prepares (goal.at.returns-in-Ok-clause-decided c).In-Ok beside fits up c.prepare.result c.prepare.ensures.decided)
+    decides l r b (publish_comes (unmeasured r) b (ticket_of c.args.ticket.now)) c.prepare.result (prepares (goal.at.returns-in-Ok-clause-decided c).In-Ok beside fits free c.prepare.result c.prepare.ensures.decided)
 
 pub returns-in-Ok-clause-tells : goal.returns-in-Ok-clause-tells
 returns-in-Ok-clause-tells c = tells_of_run c.prepare.result c.prepare.ensures.reply c.prepare.ensures.refused
@@ -85,7 +84,7 @@ prepare-requires-clause-unused c =
 -- a target that is not admitted
 
 pub returns-in-Err-clause-decided : goal.returns-in-Err-clause-decided
-returns-in-Err-clause-decided c fits beside up = refused_beside (library_of c.args.library.now) beside c.args.rules c.args.book.now c.args.ticket.now c.in-Err.refusal c.in-Err.ensures.refused up
+returns-in-Err-clause-decided c fits beside free = refused_beside (library_of c.args.library.now) beside c.args.rules c.args.book.now c.args.ticket.now c.in-Err.refusal c.in-Err.ensures.refused free
 
 pub returns-in-Err-clause-held : goal.returns-in-Err-clause-held
-returns-in-Err-clause-held c fits r is held beside up = refused_beside (library_of c.args.library.now) beside c.args.rules c.args.book.now c.args.ticket.now c.in-Err.refusal c.in-Err.ensures.refused up
+returns-in-Err-clause-held c fits r is held beside free = refused_beside (library_of c.args.library.now) beside c.args.rules c.args.book.now c.args.ticket.now c.in-Err.refusal c.in-Err.ensures.refused free

@@ -1,7 +1,7 @@
 use Rattle.std.proofs.Common.{◌≡◌, sym, subst, IfOk}
 use Rattle.machine_states.specs.Views.{origin_of, suspended_of}
-use Rattle.instance_book.specs.Places.{kept_at}
-use Rattle.instance_book.specs.declared.change.Change.{Change}
+use Rattle.book_recovery.specs.InstanceBook.Places.{kept_at}
+use Rattle.book_recovery.specs.InstanceBook.declared.change.Change.{Change}
 use Rattle.std.specs.Prelude.{None}
 use Rattle.shelf.specs.Recording.{IsKeptIn, told_in, lent}
 use Rattle.shelf.proofs.Replayed.{if_ok}

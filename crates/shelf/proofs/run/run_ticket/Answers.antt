@@ -5,8 +5,8 @@ use Rattle.script_nodes.specs.Setup.{Named}
 use Rattle.script_nodes.specs.Views.{library_of, named_of}
 use Rattle.machine_states.specs.Machine.{Suspended}
 use Rattle.machine_states.specs.Views.{origin_of}
-use Rattle.instance_book.specs.Places.{arena_of}
-use Rattle.instance_book.specs.Fits.{FitsScript}
+use Rattle.book_recovery.specs.InstanceBook.Places.{arena_of}
+use Rattle.book_recovery.specs.InstanceBook.Fits.{FitsScript}
 use Rattle.shelf.specs.Runs.{IsRunFrom}
 use Rattle.shelf.proofs.Replayed.{arena_is, fits_from, run_alike, run_as, if_ok, for_all}
 use Rattle.shelf.proofs.run.run_ticket.Goals as goal

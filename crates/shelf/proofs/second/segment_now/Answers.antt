@@ -12,12 +12,12 @@ use Rattle.instance_cells.specs.Views.{effect_of}
 use Rattle.instance_cells.specs.declared.effect.Effect as rust
 use Rattle.replay_spec.specs.Book.{Instance, Book}
 use Rattle.replay_spec.specs.Admission.{refusal_of, admit}
-use Rattle.instance_book.specs.Standing.{book_under}
-use Rattle.instance_book.specs.Swept.{cells_in, cells_at}
-use Rattle.instance_book.specs.declared.book.Book as kept
+use Rattle.book_recovery.specs.InstanceBook.Standing.{book_under}
+use Rattle.book_recovery.specs.InstanceBook.Swept.{cells_in, cells_at}
+use Rattle.book_recovery.specs.InstanceBook.declared.book.Book as kept
 use Rattle.book_visits.specs.declared.ticket.Ticket.{Ticket}
-use Rattle.instance_book.specs.Views.{no_journal, script_in, no_script}
-use Rattle.instance_book.proofs.Seen.{cells_seen}
+use Rattle.book_recovery.specs.InstanceBook.Views.{no_journal, script_in, no_script}
+use Rattle.book_recovery.proofs.InstanceBook.Seen.{cells_seen}
 use Rattle.shelf.specs.Holding.{AreHeld}
 use Rattle.shelf.specs.Tickets.{GoesOnWhere}
 use Rattle.shelf.specs.Views.{HoldIn, HaveTheirCells}

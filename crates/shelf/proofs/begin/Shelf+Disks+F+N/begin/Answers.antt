@@ -1,16 +1,16 @@
 use Rattle.std.proofs.Common.{◌≡◌, ◌∙◌, ap, refl, sym, subst, ⊎_elim, IsTrue, []}
 use Rattle.std.specs.Prelude.{None, Err}
-use Rattle.setup_reader.specs.Texts.{setup_of_texts}
+use Rattle.book_recovery.specs.SetupReader.Texts.{setup_of_texts}
 use Rattle.script_nodes.specs.Views.{scripts_of}
 use Rattle.disk_trio.specs.Trio.{trio_view}
 use Rattle.disk_trio.specs.Laws.{counts_left, reads_left}
 use Rattle.disk_trio.specs.declared.trio.Disks.{Disks}
 use Rattle.page_journal.proofs.Mending.{leaves_then}
 use Rattle.page_journal.specs.declared.journal.Journal.{Journal}
-use Rattle.journal_spec.proofs.Standings.{stays_by}
+use Rattle.book_recovery.proofs.JournalSpec.Standings.{stays_by}
 use Rattle.page_journal.specs.Settled.{bodies_in}
 use Rattle.shelf.specs.Opening.{making_on, making_after, opening_bodies, HasAdded}
-use Rattle.journal_spec.specs.Making.{Making}
+use Rattle.book_recovery.specs.JournalSpec.Making.{Making}
 use Rattle.shelf.specs.Owning.{HoldsOwnRecords}
 use Rattle.shelf.specs.Faults.{begin_fault}
 use Rattle.shelf.specs.declared.begin.BeginFault.TheVariants.{DiskFault, Full}
@@ -18,13 +18,13 @@ use Rattle.shelf.proofs.Owned.{recovery_own}
 use Rattle.shelf.proofs.OwnOpenings.{records_found, records_left}
 use Rattle.shelf.proofs.Openings.{one_of_there, made_there}
 use Rattle.shelf.proofs.Opened.{opened_makes, opened_again, opened_order, opened_is_own, opens_all, keeps_read, keeps_as_read, full_still, anew_still, never_full}
-use Rattle.journal_spec.specs.Standing.{StaysThroughout}
+use Rattle.book_recovery.specs.JournalSpec.Standing.{StaysThroughout}
 use Rattle.shelf.specs.Migrating.{IsMigrationFault}
 use Rattle.shelf.proofs.Migrated.{bodies_there, fits_there, making_there, on_now, first_now, refused_there, refused_moving, bytes_make}
 use Rattle.web_disk.specs.View.{LeavesOnly}
 use Rattle.replay_spec.specs.Book.{Book}
-use Rattle.journal_spec.specs.Making.{book_of}
-use Rattle.journal_spec.specs.Standing.{Between, HoldIn, OpensThroughout}
+use Rattle.book_recovery.specs.JournalSpec.Making.{book_of}
+use Rattle.book_recovery.specs.JournalSpec.Standing.{Between, HoldIn, OpensThroughout}
 use Rattle.shelf.specs.Opening.{IsOfNow}
 use Rattle.shelf.proofs.Throughout.{HeldAnew, recovery_leaves, found_there, still_held, moving_held, opening_held, all_held}
 use Rattle.shelf.specs.Views.{book_in}
@@ -42,6 +42,7 @@ opened g c = record {
   nonces = c.args.nonces;
   rules = c.args.rules;
   notes = c.open.new.notes;
+  follower = c.open.new.follower;
 }
 
 -- ---- the journal was not opened
@@ -137,7 +138,7 @@ returns-in-Ok-open-clause-migration g c = λ told before after k held. moving g 
 pub returns-in-Ok-open-clause-in_order : goal.returns-in-Ok-open-clause-in_order
 returns-in-Ok-open-clause-in_order g c =
     let o = c.in-Ok-open.ensures.opened in
-    opened_order trio_view g.F.Disk.tells (opened g c) refl c.in-Ok-open.ensures.noted c.in-Ok-open.ensures.newest c.in-Ok-open.ensures.known o.in_order c.requires.range c.open.ensures.sound c.in-Ok-open.ensures.whole o.fit o.told
+    opened_order trio_view g.F.Disk.tells (opened g c) refl c.in-Ok-open.ensures.noted c.in-Ok-open.ensures.newest c.in-Ok-open.ensures.known o.in_order c.requires.range c.open.ensures.sound c.in-Ok-open.ensures.whole o.fit o.told c.in-Ok-open.ensures.follows
 
 pub returns-in-Ok-open-clause-own : goal.returns-in-Ok-open-clause-own
 returns-in-Ok-open-clause-own g c = λ told own.

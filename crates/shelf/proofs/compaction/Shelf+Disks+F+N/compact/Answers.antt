@@ -1,15 +1,18 @@
-use Rattle.std.proofs.Common.{◌∙◌, ap, sym, subst, refl, ℕ, Option, Some, option_map}
+use Rattle.std.proofs.Common.{◌≡◌, ◌∙◌, ap, sym, subst, ℕ, Option, Some, option_map}
 use Rattle.disk_trio.specs.Trio.{trio_view}
 use Rattle.disk_trio.specs.Laws.{only_left, counts_left, reads_left}
 use Rattle.page_journal.specs.Settled.{length_of}
 use Rattle.replay_spec.specs.Step as step
-use Rattle.shelf.specs.declared.doubt.Doubt as doubt_type
+use Rattle.script_value.specs.declared.outcome.Reply.{Reply}
+use Rattle.book_visits.specs.Views.{reply_of}
 use Rattle.shelf.specs.declared.compaction.CompactFault.{CompactFault}
 use Rattle.shelf.specs.declared.compaction.CompactFault.TheVariants as fault
 use Rattle.shelf.specs.Compacting.{Rewrites}
-use Rattle.shelf.specs.Views.{library_in, book_in, doubt_of, IsEvent}
-use Rattle.shelf.proofs.Quiet.{untouched}
-use Rattle.shelf.proofs.Steps.{down_compact}
+use Rattle.shelf.specs.Views.{library_in, book_in, IsEvent}
+use Rattle.shelf.proofs.Order.{quiet}
+use Rattle.shelf.proofs.Quiet.{untouched, alone}
+use Rattle.shelf.proofs.Steps.{barred_by, barred_compact}
+use Rattle.shelf.proofs.Publishing.{bar_count}
 use Rattle.shelf.proofs.Compacting.{Compacts, Laws, landed_compacts, doubted_compacts}
 use Rattle.std.specs.Prelude.{Err}
 use Rattle.shelf.specs.declared.doubt.Work.TheVariants.{Compacts as DoubtedCompacts}
@@ -17,14 +20,16 @@ use Rattle.shelf.proofs.Compacted.{kept_back, too_long, wanting, full_disk, want
 use Rattle.shelf.proofs.compaction.Shelf+Disks+F+N.compact.Goals as goal
 use Rattle.shelf.proofs.compaction.Shelf+Disks+F+N.compact.Goals.{In-Some, In-Ok, In-Err-DiskFault, In-Err-TooLong, In-Err-Memory}
 
--- a shelf that is down
+-- a shelf that is barred
 
-turned : (g : _) (c : In-Some g) → Compacts trio_view g.F.Disk.tells g.N.Nonces.nonce c.args.self.now c.args.self.now (step.down c.in-Some.doubt.count)
+bars : (g : _) (c : In-Some g) → step.barred (book_in trio_view c.args.self.now) ≡ Some (reply_of c.in-Some.reply)
+bars g c = sym c.barred.ensures.barred ∙ ap (λ (o : Option Reply). option_map reply_of o) c.in-Some.is
+
+turned : (g : _) (c : In-Some g) → Compacts trio_view g.F.Disk.tells g.N.Nonces.nonce c.args.self.now c.args.self.now (reply_of c.in-Some.reply)
 turned g c =
     let s = c.args.self.now in
-    let down = ap (λ (o : Option doubt_type.Doubt). option_map doubt_of o) c.in-Some.is in
-    kept_back trio_view g.F.Disk.tells g.N.Nonces.nonce s c.requires.in_order (only_left g.F.Disk s.journal.disk) (step.down c.in-Some.doubt.count) (λ given. refl)
-    (down_compact s.rules (book_in trio_view s) (doubt_of c.in-Some.doubt) down)
+    let r = c.in-Some.reply in
+    kept_back trio_view g.F.Disk.tells g.N.Nonces.nonce s c.requires.in_order (only_left g.F.Disk s.journal.disk) (reply_of r) (λ given. quiet r given) (barred_compact s.rules (book_in trio_view s) (reply_of r) (bars g c))
 
 pub returns-in-Some-clause-event : goal.returns-in-Some-clause-event
 returns-in-Some-clause-event g c = (turned g (goal.at.returns-in-Some-clause-event g c).In-Some).event
@@ -39,7 +44,12 @@ pub returns-in-Some-clause-own_moments : goal.returns-in-Some-clause-own_moments
 returns-in-Some-clause-own_moments g c = (turned g (goal.at.returns-in-Some-clause-own_moments g c).In-Some).own_moments
 
 pub returns-in-Some-clause-quiet : goal.returns-in-Some-clause-quiet
-returns-in-Some-clause-quiet g c = untouched (trio_view c.args.self.now.journal.disk)
+returns-in-Some-clause-quiet g c = alone c.in-Some.reply (untouched (trio_view c.args.self.now.journal.disk))
+
+pub returns-in-Some-clause-cause : goal.returns-in-Some-clause-cause
+returns-in-Some-clause-cause g c =
+    let b = book_in trio_view c.args.self.now in
+    bar_count c.in-Some.reply _ _ (barred_by b (reply_of c.in-Some.reply) (bars g (goal.at.returns-in-Some-clause-cause g c).In-Some))
 
 -- the new file took the place of the old one
 
@@ -48,7 +58,7 @@ landed g c =
     let s = c.args.self.now in
     let done = c.in-Ok.ensures.rewritten.becomes in
     let laws : Laws = record { books = c.copies_make_the_book.ensures; own = c.copies_are_own.ensures; between = c.compactions_stand_between.ensures } in
-    landed_compacts trio_view g.F.Disk.tells g.N.Nonces.nonce s c.requires.in_order c.in_default.is laws done.0.plan done.0.planned c.rewritten.new.journal c.in-Ok.notes done.1 done.2 c.rewritten.ensures.sound done.0.moments
+    landed_compacts trio_view g.F.Disk.tells g.N.Nonces.nonce s c.requires.in_order (c.barred.ensures.free c.in_default.is) laws done.0.plan done.0.planned c.rewritten.new.journal c.in-Ok.notes done.1 done.2 c.rewritten.ensures.sound done.0.moments
     (only_left g.F.Disk s.journal.disk) (λ told. reads_left g.F.Disk g.met.F.Disk.reads_image s.journal.disk told)
 
 pub returns-in-Ok-clause-event : goal.returns-in-Ok-clause-event
@@ -86,7 +96,7 @@ doubted g c count =
     let done = (faulted g c).becomes in
     let failed = done.1 in
     let laws : Laws = record { books = c.copies_make_the_book.ensures; own = c.copies_are_own.ensures; between = c.compactions_stand_between.ensures } in
-    doubted_compacts trio_view g.F.Disk.tells g.N.Nonces.nonce s c.requires.in_order c.in_default.is laws done.0.plan done.0.planned c.rewritten.new.journal count failed.len (failed.format ∙ c.requires.in_order.knows.newest_is) done.2 c.rewritten.ensures.sound
+    doubted_compacts trio_view g.F.Disk.tells g.N.Nonces.nonce s c.requires.in_order (c.barred.ensures.free c.in_default.is) laws done.0.plan done.0.planned c.rewritten.new.journal count failed.len (failed.format ∙ c.requires.in_order.knows.newest_is) done.2 c.rewritten.ensures.sound
     done.0.moments (only_left g.F.Disk s.journal.disk) (counts_left g.F.Disk c.rewritten.new.journal.disk) (λ told. reads_left g.F.Disk g.met.F.Disk.reads_image s.journal.disk told)
 
 pub returns-in-Err-DiskFault-clause-event : goal.returns-in-Err-DiskFault-clause-event
@@ -121,7 +131,7 @@ too_long_there g c =
 too_long_so : (g : _) (c : In-Err-TooLong g) → Compacts trio_view g.F.Disk.tells g.N.Nonces.nonce c.args.self.now (record c.args.self.now { journal = c.rewritten.new.journal }) (step.journal_full c.in-Err-TooLong.len)
 too_long_so g c =
     let s = c.args.self.now in
-    too_long trio_view g.F.Disk.tells g.N.Nonces.nonce s c.requires.in_order c.in_default.is (only_left g.F.Disk s.journal.disk) c.rewritten.new.journal c.rewritten.ensures.sound c.in-Err-TooLong.len (too_long_there g c)
+    too_long trio_view g.F.Disk.tells g.N.Nonces.nonce s c.requires.in_order (c.barred.ensures.free c.in_default.is) (only_left g.F.Disk s.journal.disk) c.rewritten.new.journal c.rewritten.ensures.sound c.in-Err-TooLong.len (too_long_there g c)
 
 pub returns-in-Err-TooLong-clause-event : goal.returns-in-Err-TooLong-clause-event
 returns-in-Err-TooLong-clause-event g c = (too_long_so g (goal.at.returns-in-Err-TooLong-clause-event g c).In-Err-TooLong).event
@@ -157,7 +167,7 @@ wanting_there g c =
 wanting_so : (g : _) (c : In-Err-Memory g) → Compacts trio_view g.F.Disk.tells g.N.Nonces.nonce c.args.self.now (record c.args.self.now { journal = c.rewritten.new.journal }) step.memory
 wanting_so g c =
     let s = c.args.self.now in
-    wanting trio_view g.F.Disk.tells g.N.Nonces.nonce s c.requires.in_order c.in_default.is (only_left g.F.Disk s.journal.disk) c.rewritten.new.journal c.rewritten.ensures.sound (wanting_there g c)
+    wanting trio_view g.F.Disk.tells g.N.Nonces.nonce s c.requires.in_order (c.barred.ensures.free c.in_default.is) (only_left g.F.Disk s.journal.disk) c.rewritten.new.journal c.rewritten.ensures.sound (wanting_there g c)
 
 pub returns-in-Err-Memory-clause-event : goal.returns-in-Err-Memory-clause-event
 returns-in-Err-Memory-clause-event g c = (wanting_so g (goal.at.returns-in-Err-Memory-clause-event g c).In-Err-Memory).event

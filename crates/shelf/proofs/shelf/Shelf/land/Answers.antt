@@ -5,10 +5,10 @@ use Rattle.web_disk.specs.View.{LeavesOnly}
 use Rattle.page_journal.specs.Holding.{MayHold}
 use Rattle.page_journal.specs.Settled.{length_of, bodies_in}
 use Rattle.journal_records.specs.Records.{changes, record_length}
-use Rattle.instance_book.specs.Makes.{shelf_from}
+use Rattle.book_recovery.specs.InstanceBook.Makes.{shelf_from}
 use Rattle.book_visits.specs.Views.{reply_of}
-use Rattle.instance_book.specs.Views.{instances_of}
-use Rattle.instance_book.specs.Changes.{change_of, HasStateFrom}
+use Rattle.book_recovery.specs.InstanceBook.Views.{instances_of}
+use Rattle.book_recovery.specs.InstanceBook.Changes.{change_of, HasStateFrom}
 use Rattle.replay_spec.specs.Book.{changed, File}
 use Rattle.replay_spec.specs.Change.{with_line}
 use Rattle.page_journal.specs.Records.{newest}
@@ -43,7 +43,7 @@ idle g c =
     let p = c.args.prepared in
     let q = c.requires in
     let is = landing.idle_book view tells s q.in_order t p q.up q.out q.script q.landed q.room c.spend.new.self c.install.new.book c.spend.ensures.book c.install.ensures.book c.in_default.is in
-    spent_publishes view tells g.N.Nonces.nonce s (record s { book = c.install.new.book }) t c.install.result q.in_order c.events_are_kept.ensures (g.met.D.Disk.only_now s.journal.disk) q.out is refl refl refl (no_call view tells s.journal)
+    spent_publishes view tells g.N.Nonces.nonce s (record s { book = c.install.new.book }) t c.install.result q.in_order c.events_are_kept.ensures (g.met.D.Disk.only_now s.journal.disk) q.out is refl refl refl refl (no_call view tells s.journal)
     q.in_order.knows.noted (told_still s.notes) q.in_order.sound q.in_order.whole
     (λ source all. c.install.ensures.states source l.all (subst (HasStateFrom l.all (shelf_from source c.spend.new.self.shelf) (instances_of l.all c.spend.new.self.instances)) (sym c.in_default.is) tt) (c.spend.ensures.states source l.all all))
     (λ own. landing.idle_comes view tells s q.in_order t p q.up q.out q.script q.landed q.room c.install.result c.install.ensures.reply c.in_default.is (q.decided own))
@@ -118,7 +118,7 @@ unwritten g c =
     let is =
     ap (λ (f : File). record (book_in view u) { file = f }) told.told.file
     ∙ landing.spent_book view tells s q.in_order t p q.up q.out q.script q.landed q.room c.spend.new.self (length_of c.told_body.new.journal) c.spend.ensures.book told.len in
-    spent_publishes view tells g.N.Nonces.nonce s u t c.in-Err.reply q.in_order c.events_are_kept.ensures (g.met.D.Disk.only_now s.journal.disk) q.out is refl refl refl
+    spent_publishes view tells g.N.Nonces.nonce s u t c.in-Err.reply q.in_order c.events_are_kept.ensures (g.met.D.Disk.only_now s.journal.disk) q.out is refl refl refl refl
     (record { settled = λ tells settled. told.settled tells; format = told.format; seen = told.seen; images = told.images; time = told.time }) told.noted told.told told.sound (λ none. told.whole ∙ q.in_order.whole none) (λ source. c.spend.ensures.states source l.all)
     (λ own. landing.unwritten_comes view tells s q.in_order t p q.up q.out q.script q.landed q.room c.in-Some.change c.in-Some.is own.fits (q.decided own) c.in-Err.reply c.in-Err.ensures.written)
 

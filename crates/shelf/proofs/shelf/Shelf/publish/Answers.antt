@@ -6,17 +6,19 @@ use Rattle.replay_spec.specs.Admission.{refusal_of, admit}
 use Rattle.replay_spec.specs.Step as step
 use Rattle.book_visits.specs.Admissions.{refusal_for, FitsIn}
 use Rattle.book_visits.specs.Fits.{FitsAs}
-use Rattle.instance_book.specs.Views.{no_journal, book_of}
+use Rattle.book_recovery.specs.InstanceBook.Views.{no_journal, book_of}
 use Rattle.book_visits.specs.Views.{ticket_of, reply_of}
 use Rattle.book_visits.specs.Prepares.{IsCarriedOut}
 use Rattle.shelf.specs.declared.doubt.Doubt as doubt_type
 use Rattle.shelf.specs.Views.{unmeasured, library_in, beside_of, book_in, doubt_of, FitsNow}
+use Rattle.script_value.specs.declared.outcome.Reply.{Reply}
+use Rattle.shelf.proofs.Leads.{bars_none}
 use Rattle.shelf.specs.Events.{decision_of, TellsReply, no_publish}
 use Rattle.shelf.proofs.Beside.{admit_same, fits_at, holds_at, orderly_at}
-use Rattle.shelf.proofs.Steps.{replied, down_publish}
+use Rattle.shelf.proofs.Steps.{replied, barred_by, barred_publish}
 use Rattle.shelf.proofs.Standing.{no_call}
 use Rattle.shelf.proofs.Shelves.{same_order, kept_told, some_kept}
-use Rattle.shelf.proofs.Publishing.{answered, told_answered, no_count, up_refusal, down_refusal, refused_ok, refused_err, not_refused_by, same_error}
+use Rattle.shelf.proofs.Publishing.{answered, told_answered, no_count, bar_count, free_refusal, barred_refusal, refused_ok, refused_err, not_refused_by, same_error}
 use Rattle.shelf.proofs.Fitting.{shown_at, landed_at}
 use Rattle.shelf.proofs.Leaving.{Publishes, spent_publishes, visit_anew, publishes_from}
 use Rattle.shelf.proofs.Now.{if_none}
@@ -26,23 +28,24 @@ use Rattle.shelf.proofs.Known.{told_still}
 use Rattle.shelf.proofs.shelf.Shelf.publish.Goals as goal
 use Rattle.shelf.proofs.shelf.Shelf.publish.Goals.{After-spend, After-prepared, After-land, After-spend-in-Err}
 
--- a shelf that is down
+-- a shelf that is barred
 
-down : (g : _) (c : After-spend g) → option_map doubt_of c.args.self.now.down ≡ Some (doubt_of c.in-Some.doubt)
-down g c = ap (λ (o : Option doubt_type.Doubt). option_map doubt_of o) c.in-Some.is
+bars : (g : _) (c : After-spend g) → step.barred (book_in g.D.Disk.view c.args.self.now) ≡ Some (reply_of c.in-Some.reply)
+bars g c = sym c.barred.ensures.barred ∙ ap (λ (o : Option Reply). option_map reply_of o) c.in-Some.is
 
 turned : (g : _) (c : After-spend g)
-    → Publishes g.D.Disk.view g.D.Disk.tells g.N.Nonces.nonce c.args.self.now (record c.args.self.now { book = c.spend.new.self }) c.args.ticket (reply.Down c.in-Some.doubt.count)
+    → Publishes g.D.Disk.view g.D.Disk.tells g.N.Nonces.nonce c.args.self.now (record c.args.self.now { book = c.spend.new.self }) c.args.ticket c.in-Some.reply
 turned g c =
     let view = g.D.Disk.view in
     let tells = g.D.Disk.tells in
     let l = library_in c.args.self.now in
     let s = c.args.self.now in
     let t = c.args.ticket in
+    let r = c.in-Some.reply in
     let order = c.requires.in_order in
-    let answer = replied s.rules (book_in g.D.Disk.view s) (ticket_of t) (step.down c.in-Some.doubt.count) (down_publish s.rules (book_in g.D.Disk.view s) (ticket_of t) (doubt_of c.in-Some.doubt) (down g c)) in
-    spent_publishes view tells g.N.Nonces.nonce s (record s { book = c.spend.new.self }) t (reply.Down c.in-Some.doubt.count) order c.events_are_kept.ensures (g.met.D.Disk.only_now s.journal.disk) c.requires.out
-    (c.spend.ensures.book l (beside_of view s)) refl refl refl (no_call view tells s.journal) order.knows.noted (told_still s.notes) order.sound order.whole (λ source. c.spend.ensures.states source l.all) (λ own. answer)
+    let answer = replied s.rules (book_in g.D.Disk.view s) (ticket_of t) (reply_of r) (barred_publish s.rules (book_in g.D.Disk.view s) (ticket_of t) (reply_of r) (bars g c)) in
+    spent_publishes view tells g.N.Nonces.nonce s (record s { book = c.spend.new.self }) t r order c.events_are_kept.ensures (g.met.D.Disk.only_now s.journal.disk) c.requires.out
+    (c.spend.ensures.book l (beside_of view s)) refl refl refl refl (no_call view tells s.journal) order.knows.noted (told_still s.notes) order.sound order.whole (λ source. c.spend.ensures.states source l.all) (λ own. answer)
 
 pub returns-in-Some-clause-event : goal.returns-in-Some-clause-event
 returns-in-Some-clause-event g c = (turned g (goal.at.returns-in-Some-clause-event g c).After-spend).event
@@ -68,12 +71,13 @@ returns-in-Some-clause-own_moments g c = (turned g (goal.at.returns-in-Some-clau
 pub returns-in-Some-clause-refused : goal.returns-in-Some-clause-refused
 returns-in-Some-clause-refused g c =
     let b = book_in g.D.Disk.view c.args.self.now in
-    subst (λ (o : Option step.Reply). IfSome o (λ r. step.down c.in-Some.doubt.count ≡ r)) (sym (down_refusal b (target_of c.args.ticket.target) (doubt_of c.in-Some.doubt) (down g (goal.at.returns-in-Some-clause-refused g c).After-spend))) refl
+    let r = reply_of c.in-Some.reply in
+    subst (λ (o : Option step.Reply). IfSome o (λ y. r ≡ y)) (sym (barred_refusal b (target_of c.args.ticket.target) r (bars g (goal.at.returns-in-Some-clause-refused g c).After-spend))) refl
 
 pub returns-in-Some-clause-none : goal.returns-in-Some-clause-none
 returns-in-Some-clause-none g c no_segment free =
     let b = book_in g.D.Disk.view c.args.self.now in
-    let told = sym (down_refusal b (target_of c.args.ticket.target) (doubt_of c.in-Some.doubt) (down g (goal.at.returns-in-Some-clause-none g c).After-spend)) ∙ free in
+    let told = sym (barred_refusal b (target_of c.args.ticket.target) (reply_of c.in-Some.reply) (bars g (goal.at.returns-in-Some-clause-none g c).After-spend)) ∙ free in
     absurd (let no : ⊥ = cc told in no)
 
 pub returns-in-Some-clause-held : goal.returns-in-Some-clause-held
@@ -82,13 +86,18 @@ returns-in-Some-clause-held g c own r is held =
     let s = c.args.self.now in
     let b = book_in g.D.Disk.view s in
     let t = c.args.ticket in
-    subst (λ (d : step.Decision). TellsReply d (step.down c.in-Some.doubt.count)) (sym (ap (λ (o : Option _). step.unless (step.down_by o) (step.decide (unmeasured s.rules) b (ticket_of t) (admit b (target_of t.target)))) (down g (goal.at.returns-in-Some-clause-held g c).After-spend))) refl
+    subst (λ (d : step.Decision). TellsReply d (reply_of c.in-Some.reply)) (sym (ap (λ (o : Option step.Reply). step.unless o (step.decide (unmeasured s.rules) b (ticket_of t) (admit b (target_of t.target)))) (bars g (goal.at.returns-in-Some-clause-held g c).After-spend))) refl
 
 pub returns-in-Some-clause-memory : goal.returns-in-Some-clause-memory
 returns-in-Some-clause-memory g c = (turned g (goal.at.returns-in-Some-clause-memory g c).After-spend).memory
 
 pub returns-in-Some-clause-quiet : goal.returns-in-Some-clause-quiet
-returns-in-Some-clause-quiet g c = untouched (g.D.Disk.view c.args.self.now.journal.disk)
+returns-in-Some-clause-quiet g c = alone c.in-Some.reply (untouched (g.D.Disk.view c.args.self.now.journal.disk))
+
+pub returns-in-Some-clause-cause : goal.returns-in-Some-clause-cause
+returns-in-Some-clause-cause g c =
+    let b = book_in g.D.Disk.view c.args.self.now in
+    bar_count c.in-Some.reply _ _ (barred_by b (reply_of c.in-Some.reply) (bars g (goal.at.returns-in-Some-clause-cause g c).After-spend))
 
 -- what was prepared
 
@@ -96,7 +105,7 @@ pub prepared-requires-clause-orderly : goal.prepared-requires-clause-orderly
 prepared-requires-clause-orderly g c =
     let l = library_in c.args.self.now in
     let s = c.args.self.now in
-    orderly_at l (beside_of g.D.Disk.view s) no_journal s.book (ap (λ (o : Option doubt_type.Doubt). option_map doubt_of o) c.in_default.is) c.requires.in_order.orderly
+    orderly_at l (beside_of g.D.Disk.view s) no_journal s.book (ap (λ (o : Option doubt_type.Doubt). option_map doubt_of o) (c.barred.ensures.free c.in_default.is).up) c.requires.in_order.orderly
 
 -- it is prepared on the same book
 same_book : (g : _) (c : After-prepared g)
@@ -107,7 +116,7 @@ pub land-requires-clause-in_order : goal.land-requires-clause-in_order
 land-requires-clause-in_order g c =
     let l = library_in c.args.self.now in
     let s = c.args.self.now in
-    same_order g.D.Disk.view g.D.Disk.tells s (record s { book = c.prepared.new.book }) c.requires.in_order (same_book g (goal.at.land-requires-clause-in_order g c).After-prepared) (some_kept l.all s.book c.prepared.new.book c.prepared.ensures.states c.requires.in_order.kept) (kept_told l.all s.book c.prepared.new.book c.prepared.ensures.states) refl refl refl refl refl
+    same_order g.D.Disk.view g.D.Disk.tells s (record s { book = c.prepared.new.book }) c.requires.in_order (same_book g (goal.at.land-requires-clause-in_order g c).After-prepared) (some_kept l.all s.book c.prepared.new.book c.prepared.ensures.states c.requires.in_order.kept) (kept_told l.all s.book c.prepared.new.book c.prepared.ensures.states) refl refl refl refl refl (c.barred.ensures.free c.in_default.is).leads refl
 
 pub land-requires-clause-out : goal.land-requires-clause-out
 land-requires-clause-out g c = subst (λ (y : Book). Contains y.out c.args.ticket.number) (sym (same_book g (goal.at.land-requires-clause-out g c).After-prepared)) c.requires.out
@@ -142,20 +151,20 @@ land-requires-clause-decided g c own =
     let s = c.args.self.now in
     let here = (goal.at.land-requires-clause-decided g c).After-prepared in
     let P : Book → Type 0 = λ y. IsCarriedOut l (unmeasured s.rules) y (step.publish_comes (unmeasured s.rules) y (ticket_of c.args.ticket)) c.in-Ok.prepared in
-    let up = ap (λ (o : Option doubt_type.Doubt). option_map doubt_of o) c.in_default.is in
-    let decided : P (book_in g.D.Disk.view s) = c.in-Ok.ensures.decided (fitted g here own.fits) (beside_of g.D.Disk.view s) up in
+    let free = bars_none g.D.Disk.view s (c.barred.ensures.free c.in_default.is) in
+    let decided : P (book_in g.D.Disk.view s) = c.in-Ok.ensures.decided (fitted g here own.fits) (beside_of g.D.Disk.view s) free in
     subst P (sym (same_book g here)) decided
 
 -- where there was no memory for the run of an admitted target, that is the answer
 wanting : (g : _) (c : After-prepared g) → let s = c.args.self.now in
     c.args.segment ≡ None → no_publish (book_in g.D.Disk.view s) (target_of c.args.ticket.target) ≡ None → c.prepared.result ≡ Err reply.Memory
-wanting g c no_segment free =
+wanting g c no_segment unrefused =
     let l = library_in c.args.self.now in
     let s = c.args.self.now in
     let b = book_in g.D.Disk.view s in
     let x = target_of c.args.ticket.target in
-    let up = ap (λ (o : Option doubt_type.Doubt). option_map doubt_of o) c.in_default.is in
-    let why : refusal_of (admit b x) ≡ None = not_refused_by (refusal_of (admit b x)) (sym (up_refusal b x up) ∙ free) in
+    let free = bars_none g.D.Disk.view s (c.barred.ensures.free c.in_default.is) in
+    let why : refusal_of (admit b x) ≡ None = not_refused_by (refusal_of (admit b x)) (sym (free_refusal b x free) ∙ unrefused) in
     c.prepared.ensures.none no_segment (ap refusal_of (admit_same (library_in s) no_journal (beside_of g.D.Disk.view s) s.book x) ∙ why)
 
 landed : (g : _) (c : After-land g) → Publishes g.D.Disk.view g.D.Disk.tells g.N.Nonces.nonce c.args.self.now c.land.new.self c.args.ticket c.land.result
@@ -197,10 +206,10 @@ returns-in-Ok-clause-refused g c =
     let t = c.args.ticket in
     let b = book_in g.D.Disk.view s in
     let x = target_of t.target in
-    let up = ap (λ (o : Option doubt_type.Doubt). option_map doubt_of o) c.in_default.is in
+    let free = bars_none g.D.Disk.view s (c.barred.ensures.free c.in_default.is) in
     let none = refused_ok (refusal_for (library_in s) s.book t.target) c.prepared.result c.in-Ok.prepared c.prepared.ensures.refused c.in-Ok.is in
     let why : refusal_of (admit b x) ≡ None = ap refusal_of (admit_same (library_in s) (beside_of g.D.Disk.view s) no_journal s.book x) ∙ none in
-    if_none (no_publish b x) (λ r. reply_of c.land.result ≡ r) (up_refusal b x up ∙ ap step.refused_by why)
+    if_none (no_publish b x) (λ r. reply_of c.land.result ≡ r) (free_refusal b x free ∙ ap step.refused_by why)
 
 pub returns-in-Ok-clause-none : goal.returns-in-Ok-clause-none
 returns-in-Ok-clause-none g c no_segment free =
@@ -231,13 +240,13 @@ refused g c =
     let s = c.args.self.now in
     let t = c.args.ticket in
     let here = beside_of g.D.Disk.view s in
-    let up = ap (λ (o : Option doubt_type.Doubt). option_map doubt_of o) c.in_default.is in
+    let free = bars_none g.D.Disk.view s (c.barred.ensures.free c.in_default.is) in
     let order = c.requires.in_order in
     spent_publishes view tells g.N.Nonces.nonce s (record s { book = c.spend-in-Err.new.self }) t c.in-Err.reply order c.events_are_kept.ensures (g.met.D.Disk.only_now s.journal.disk) c.requires.out
-    (c.spend-in-Err.ensures.book l here ∙ ap (spend t.number) (c.prepared.ensures.book l here)) refl refl refl (no_call view tells s.journal) order.knows.noted (told_still s.notes) order.sound order.whole
+    (c.spend-in-Err.ensures.book l here ∙ ap (spend t.number) (c.prepared.ensures.book l here)) refl refl refl refl (no_call view tells s.journal) order.knows.noted (told_still s.notes) order.sound order.whole
     (λ source all. c.spend-in-Err.ensures.states source l.all (c.prepared.ensures.states source l.all all))
     (λ own.
-    let decided = c.in-Err.ensures.decided (fits_at l here no_journal s.book t (target_of t.target) own.fits) here up in
+    let decided = c.in-Err.ensures.decided (fits_at l here no_journal s.book t (target_of t.target) own.fits) here free in
     answered l s.rules (book_in g.D.Disk.view s) t c.in-Err.reply decided)
 
 pub returns-clause-event : goal.returns-clause-event
@@ -268,10 +277,10 @@ returns-clause-refused g c =
     let t = c.args.ticket in
     let b = book_in g.D.Disk.view s in
     let x = target_of t.target in
-    let up = ap (λ (o : Option doubt_type.Doubt). option_map doubt_of o) c.in_default.is in
+    let free = bars_none g.D.Disk.view s (c.barred.ensures.free c.in_default.is) in
     let told = refused_err (refusal_for (library_in s) s.book t.target) c.prepared.result c.in-Err.reply c.prepared.ensures.refused c.in-Err.is in
     let why : refusal_for (library_in s) s.book t.target ≡ refusal_of (admit b x) = ap refusal_of (admit_same (library_in s) no_journal (beside_of g.D.Disk.view s) s.book x) in
-    subst (λ (o : Option step.Reply). IfSome o (λ r. reply_of c.in-Err.reply ≡ r)) (sym (up_refusal b x up ∙ ap step.refused_by (sym why))) told
+    subst (λ (o : Option step.Reply). IfSome o (λ r. reply_of c.in-Err.reply ≡ r)) (sym (free_refusal b x free ∙ ap step.refused_by (sym why))) told
 
 pub returns-clause-none : goal.returns-clause-none
 returns-clause-none g c no_segment free = same_error c.prepared.result c.in-Err.reply reply.Memory c.in-Err.is (wanting g (goal.at.returns-clause-none g c).After-prepared no_segment free)
@@ -282,10 +291,10 @@ returns-clause-held g c own r is held =
     let s = c.args.self.now in
     let t = c.args.ticket in
     let here = beside_of g.D.Disk.view s in
-    let up = ap (λ (o : Option doubt_type.Doubt). option_map doubt_of o) c.in_default.is in
+    let free = bars_none g.D.Disk.view s (c.barred.ensures.free c.in_default.is) in
     let fits = fits_at l here no_journal s.book t (target_of t.target) own.fits in
     let holds = holds_at l here no_journal s.book (target_of t.target) _ held in
-    let prepares = c.in-Err.ensures.held fits r is holds here up in
+    let prepares = c.in-Err.ensures.held fits r is holds here free in
     told_answered l s.rules (book_in g.D.Disk.view s) (decision_of g.D.Disk.view s t) c.in-Err.reply prepares
 
 pub returns-clause-memory : goal.returns-clause-memory

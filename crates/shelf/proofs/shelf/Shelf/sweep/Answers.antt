@@ -1,4 +1,4 @@
-use Rattle.std.proofs.Common.{◌≡◌, ◌∙◌, ap, subst, refl, ℕ, ◌+◌, ◌++◌, ◌∷◌, [], nat_le, true, false, arith, length, map, List, Option, Some, None, option_map}
+use Rattle.std.proofs.Common.{◌≡◌, ◌∙◌, ap, sym, subst, refl, ℕ, ◌+◌, ◌++◌, ◌∷◌, [], nat_le, true, false, arith, length, map, List, Option, Some, None, option_map}
 use Rattle.std.proofs.lemmas.Bool.Decides.{nat_tests}
 use Rattle.web_disk.specs.View.{LeavesOnly}
 use Rattle.page_journal.specs.Holding.{MayHold}
@@ -7,7 +7,7 @@ use Rattle.replay_spec.specs.Book.{changed, sweeps}
 use Rattle.replay_spec.specs.Change.{with_line}
 use Rattle.replay_spec.specs.Step as step
 use Rattle.book_visits.specs.Views.{reply_of}
-use Rattle.shelf.specs.declared.doubt.Doubt as doubt_type
+use Rattle.script_value.specs.declared.outcome.Reply.{Reply}
 use Rattle.shelf.specs.declared.doubt.Work.TheVariants.{Sweeps as DoubtedSweeps}
 use Rattle.page_journal.specs.Records.{newest}
 use Rattle.value_bytes.specs.Laws.{AreBytes}
@@ -15,8 +15,10 @@ use Rattle.file_copies.specs.OfFileNotes.declared.note.Note.{Note}
 use Rattle.file_copies.specs.OfFileNotes.Files.{file_in, marks_in}
 use Rattle.file_copies.specs.OfFileNotes.Notes.{is_told}
 use Rattle.shelf.proofs.Known.{told_still}
-use Rattle.shelf.specs.Views.{book_in, doubt_of}
-use Rattle.shelf.proofs.Steps.{early, down_sweep}
+use Rattle.shelf.specs.Views.{book_in}
+use Rattle.shelf.proofs.Steps.{barred_by, early, barred_sweep}
+use Rattle.shelf.proofs.Publishing.{bar_count}
+use Rattle.shelf.proofs.Leads.{unfed, bars_none}
 use Rattle.shelf.proofs.Standing.{no_call}
 use Rattle.shelf.proofs.Order.{quiet}
 use Rattle.shelf.proofs.Quiet.{untouched, alone}
@@ -32,7 +34,7 @@ early_tick : (g : _) (c : Then-tick-clock g) → Sweeps g.D.Disk.view g.D.Disk.t
 early_tick g c =
     let s = c.args.self.now in
     let before : nat_le c.args.tick s.book.clock ≡ true = grind (arith, nat_tests, c.if-tick-clock.true, c.clock.ensures.clock) in
-    unswept g.D.Disk.view g.D.Disk.tells g.N.Nonces.nonce s c.requires.in_order c.args.tick c.requires.tick c.events_are_kept.ensures (g.met.D.Disk.only_now s.journal.disk) s.journal s.notes c.requires.in_order.knows.noted (told_still s.notes) refl (λ sound. sound) refl (no_call g.D.Disk.view g.D.Disk.tells s.journal) (step.swept 0)
+    unswept g.D.Disk.view g.D.Disk.tells g.N.Nonces.nonce s c.requires.in_order c.args.tick c.requires.tick c.events_are_kept.ensures (g.met.D.Disk.only_now s.journal.disk) s.journal s.notes c.requires.in_order.knows.noted (told_still s.notes) refl (λ sound. sound) refl (no_call g.D.Disk.view g.D.Disk.tells s.journal) c.requires.in_order.fed (step.swept 0)
     (λ given. refl) (early s.rules (book_in g.D.Disk.view s) c.args.tick before)
 
 pub returns-then-tick-clock-clause-event : goal.returns-then-tick-clock-clause-event
@@ -50,15 +52,18 @@ returns-then-tick-clock-clause-own_moments g c = (early_tick g (goal.at.returns-
 pub returns-then-tick-clock-clause-quiet : goal.returns-then-tick-clock-clause-quiet
 returns-then-tick-clock-clause-quiet g c = tt
 
--- a shelf that is down
+-- a shelf that is barred
 
-turned : (g : _) (c : In-Some g) → Sweeps g.D.Disk.view g.D.Disk.tells g.N.Nonces.nonce c.args.self.now c.args.self.now c.args.tick (step.down c.in-Some.doubt.count)
+bars : (g : _) (c : In-Some g) → step.barred (book_in g.D.Disk.view c.args.self.now) ≡ Some (reply_of c.in-Some.reply)
+bars g c = sym c.barred.ensures.barred ∙ ap (λ (o : Option Reply). option_map reply_of o) c.in-Some.is
+
+turned : (g : _) (c : In-Some g) → Sweeps g.D.Disk.view g.D.Disk.tells g.N.Nonces.nonce c.args.self.now c.args.self.now c.args.tick (reply_of c.in-Some.reply)
 turned g c =
     let s = c.args.self.now in
+    let r = c.in-Some.reply in
     let late : nat_le c.args.tick s.book.clock ≡ false = grind (arith, nat_tests, c.if-tick-clock.false, c.clock.ensures.clock) in
-    let down = ap (λ (o : Option doubt_type.Doubt). option_map doubt_of o) c.in-Some.is in
     unswept g.D.Disk.view g.D.Disk.tells g.N.Nonces.nonce s c.requires.in_order c.args.tick c.requires.tick c.events_are_kept.ensures (g.met.D.Disk.only_now s.journal.disk) s.journal s.notes c.requires.in_order.knows.noted (told_still s.notes) refl (λ sound. sound) refl (no_call g.D.Disk.view g.D.Disk.tells s.journal)
-    (step.down c.in-Some.doubt.count) (λ given. refl) (down_sweep s.rules (book_in g.D.Disk.view s) c.args.tick late (doubt_of c.in-Some.doubt) down)
+    c.requires.in_order.fed (reply_of r) (λ given. quiet r given) (barred_sweep s.rules (book_in g.D.Disk.view s) c.args.tick late (reply_of r) (bars g c))
 
 pub returns-in-Some-clause-event : goal.returns-in-Some-clause-event
 returns-in-Some-clause-event g c = (turned g (goal.at.returns-in-Some-clause-event g c).In-Some).event
@@ -73,7 +78,12 @@ pub returns-in-Some-clause-own_moments : goal.returns-in-Some-clause-own_moments
 returns-in-Some-clause-own_moments g c = (turned g (goal.at.returns-in-Some-clause-own_moments g c).In-Some).own_moments
 
 pub returns-in-Some-clause-quiet : goal.returns-in-Some-clause-quiet
-returns-in-Some-clause-quiet g c = untouched (g.D.Disk.view c.args.self.now.journal.disk)
+returns-in-Some-clause-quiet g c = alone c.in-Some.reply (untouched (g.D.Disk.view c.args.self.now.journal.disk))
+
+pub returns-in-Some-clause-cause : goal.returns-in-Some-clause-cause
+returns-in-Some-clause-cause g c =
+    let b = book_in g.D.Disk.view c.args.self.now in
+    bar_count c.in-Some.reply _ _ (barred_by b (reply_of c.in-Some.reply) (bars g (goal.at.returns-in-Some-clause-cause g c).In-Some))
 
 -- its record was not written
 
@@ -82,10 +92,11 @@ unwritten g c =
     let s = c.args.self.now in
     let done = c.written.ensures in
     let late : nat_le c.args.tick s.book.clock ≡ false = grind (arith, nat_tests, c.if-tick-clock.false, c.clock.ensures.clock) in
-    let up = ap (λ (o : Option doubt_type.Doubt). option_map doubt_of o) c.in_default.is in
+    let free = c.barred.ensures.free c.in_default.is in
+    let bars = bars_none g.D.Disk.view s free in
     unswept g.D.Disk.view g.D.Disk.tells g.N.Nonces.nonce s c.requires.in_order c.args.tick c.requires.tick c.events_are_kept.ensures (g.met.D.Disk.only_now s.journal.disk) c.written.new.journal c.written.new.notes done.noted done.told done.len (λ before. done.sound) done.whole
-    (record { settled = λ told settled. done.settled told; format = done.format; seen = done.seen; images = done.images; time = done.time }) (reply_of c.in-Err.reply) (λ given. quiet c.in-Err.reply given)
-    (unwritten_sweep s.rules (book_in g.D.Disk.view s) c.args.tick late up c.in-Err.reply c.in-Err.ensures.written)
+    (record { settled = λ told settled. done.settled told; format = done.format; seen = done.seen; images = done.images; time = done.time }) (unfed g.D.Disk.view g.D.Disk.tells (record s { journal = c.written.new.journal; notes = c.written.new.notes }) free.leads) (reply_of c.in-Err.reply) (λ given. quiet c.in-Err.reply given)
+    (unwritten_sweep s.rules (book_in g.D.Disk.view s) c.args.tick late bars c.in-Err.reply c.in-Err.ensures.written)
 
 pub returns-in-Err-clause-event : goal.returns-in-Err-clause-event
 returns-in-Err-clause-event g c = (unwritten g (goal.at.returns-in-Err-clause-event g c).In-Err).event
@@ -129,7 +140,7 @@ landed g c =
     c.sweep.ensures.file ∙ (ap (λ (n : ℕ). with_line (changed (sweeps c.args.tick) n) (file_in c.written.new.notes)) c.len.ensures ∙ ap (with_line (changed (sweeps c.args.tick) (length body))) done.told.file) in
     let marks : marks_in c.sweep.new.self ≡ marks_in s.notes ++ true ∷ [] = c.sweep.ensures.marks ∙ ap (λ (ns : List Note). map is_told ns ++ true ∷ []) done.told.notes in
     let long : length_of new ≡ length_of s.journal + 5 + length body = omega (arith, c.in-Ok-added.ensures.len, done.len, ap (λ (x : List ℕ). length x) c.as_slice.ensures) in
-    landed_sweeps view g.D.Disk.tells g.N.Nonces.nonce s c.requires.in_order c.args.tick c.requires.tick late c.in_default.is c.events_are_kept.ensures c.events_stand_between.ensures c.records_are_exact.ensures body c.in-Ok.ensures.written mid new
+    landed_sweeps view g.D.Disk.tells g.N.Nonces.nonce s c.requires.in_order c.args.tick c.requires.tick late (c.barred.ensures.free c.in_default.is) c.events_are_kept.ensures c.events_stand_between.ensures c.records_are_exact.ensures body c.in-Ok.ensures.written mid new
     (record { settled = λ told settled. done.settled told; format = done.format; seen = done.seen; images = done.images; time = done.time })
     (λ told. subst (λ (x : List ℕ). LeavesOnly (view mid.disk) (view new.disk) (MayHold newest (bodies_in view mid) x)) c.as_slice.ensures (c.added.ensures.any_moment told)) c.added.ensures.sound
     (record { only_now = g.met.D.Disk.only_now s.journal.disk; counts_now = g.met.D.Disk.counts_now new.disk; reads = λ told. g.met.D.Disk.reads_image s.journal.disk told; now = c.added.ensures.newest })
@@ -166,7 +177,7 @@ doubted g c =
     let mid = c.written.new.journal in
     let new = c.added.new.journal in
     let late : nat_le c.args.tick s.book.clock ≡ false = grind (arith, nat_tests, c.if-tick-clock.false, c.clock.ensures.clock) in
-    doubted_sweeps view g.D.Disk.tells g.N.Nonces.nonce s c.requires.in_order c.args.tick c.requires.tick late c.in_default.is c.events_are_kept.ensures c.events_stand_between.ensures c.records_are_exact.ensures c.in-Ok.body c.in-Ok.ensures.written mid new
+    doubted_sweeps view g.D.Disk.tells g.N.Nonces.nonce s c.requires.in_order c.args.tick c.requires.tick late (c.barred.ensures.free c.in_default.is) c.events_are_kept.ensures c.events_stand_between.ensures c.records_are_exact.ensures c.in-Ok.body c.in-Ok.ensures.written mid new
     (record { settled = λ told settled. done.settled told; format = done.format; seen = done.seen; images = done.images; time = done.time })
     (λ told. subst (λ (x : List ℕ). LeavesOnly (view mid.disk) (view new.disk) (MayHold newest (bodies_in view mid) x)) c.as_slice.ensures (c.added.ensures.any_moment told)) c.added.ensures.sound
     (record { only_now = g.met.D.Disk.only_now s.journal.disk; counts_now = g.met.D.Disk.counts_now new.disk; reads = λ told. g.met.D.Disk.reads_image s.journal.disk told; now = c.added.ensures.newest })

@@ -8,18 +8,21 @@ use Rattle.replay_spec.specs.Book.{Book, draw}
 use Rattle.replay_spec.specs.Admission.{refusal_of, admit}
 use Rattle.replay_spec.specs.Next as next
 use Rattle.replay_spec.specs.Step as step
-use Rattle.journal_spec.specs.Whole.{HasWholeScripts}
+use Rattle.book_recovery.specs.JournalSpec.Whole.{HasWholeScripts}
 use Rattle.book_visits.specs.Fits.{FitsAs}
-use Rattle.instance_book.specs.Views.{no_journal}
-use Rattle.instance_book.specs.Standing.{book_under}
+use Rattle.book_recovery.specs.InstanceBook.Views.{no_journal}
+use Rattle.book_recovery.specs.InstanceBook.Standing.{book_under}
 use Rattle.book_visits.specs.Prepares.{HasItsScript}
-use Rattle.shelf.specs.declared.doubt.Doubt as doubt_type
-use Rattle.shelf.specs.Views.{rules_of, library_in, beside_of, book_in, shelf_of, doubt_of}
+use Rattle.script_value.specs.declared.outcome.Reply.{Reply}
+use Rattle.book_visits.specs.Views.{reply_of}
+use Rattle.shelf.specs.Views.{rules_of, library_in, beside_of, book_in, shelf_of}
 use Rattle.shelf.proofs.Beside.{admit_same, fits_at}
-use Rattle.shelf.proofs.Steps.{down_take, worn_take, refused_take, free_take, no_take, wanting_take, taken}
+use Rattle.shelf.proofs.Steps.{barred_by, barred_take, worn_take, refused_take, free_take, no_take, wanting_take, taken}
+use Rattle.shelf.proofs.Publishing.{bar_plain}
+use Rattle.shelf.proofs.Leads.{unfed, bars_none}
 use Rattle.shelf.proofs.Standing.{no_call}
-use Rattle.shelf.proofs.Order.{follows, quiet_event}
-use Rattle.instance_book.specs.Places as sources
+use Rattle.shelf.proofs.Order.{follows, quiet, quiet_event}
+use Rattle.book_recovery.specs.InstanceBook.Places as sources
 use Rattle.shelf.proofs.Shelves.{quiet_order, quiet_own, same_order, kept_told, some_kept}
 use Rattle.shelf.proofs.Fitting.{fits_drawn, start_has_script}
 use Rattle.shelf.proofs.Tickets.{anew_keeps, drawn_keeps, taken_goes}
@@ -32,9 +35,10 @@ returns-in-Some-clause-event g c =
     let b = book_in g.D.Disk.view s in
     let d = target_of c.args.target.now in
     let v = meaning c.args.answer in
-    let down = ap (λ (o : Option doubt_type.Doubt). option_map doubt_of o) c.in-Some.is in
-    let comes = no_take s.rules b d v (step.down c.in-Some.doubt.count) (down_take b d (doubt_of c.in-Some.doubt) down) refl in
-    quiet_event g.D.Disk.view g.N.Nonces.nonce s s (step.take d v) (step.down c.in-Some.doubt.count) b refl refl refl (λ given. refl) comes.step
+    let r = c.in-Some.reply in
+    let bars : step.barred b ≡ Some (reply_of r) = sym c.barred.ensures.barred ∙ ap (λ (o : Option Reply). option_map reply_of o) c.in-Some.is in
+    let comes = no_take s.rules b d v (reply_of r) (barred_take b d (reply_of r) bars) (bar_plain r (barred_by b (reply_of r) bars)) in
+    quiet_event g.D.Disk.view g.N.Nonces.nonce s s (step.take d v) (reply_of r) b refl refl refl (λ given. quiet r given) comes.step
 
 pub returns-then-drawn-eq-NUMBERS-clause-event : goal.returns-then-drawn-eq-NUMBERS-clause-event
 returns-then-drawn-eq-NUMBERS-clause-event g c =
@@ -42,9 +46,9 @@ returns-then-drawn-eq-NUMBERS-clause-event g c =
     let b = book_in g.D.Disk.view s in
     let d = target_of c.args.target.now in
     let v = meaning c.args.answer in
-    let up = ap (λ (o : Option doubt_type.Doubt). option_map doubt_of o) c.in_default.is in
+    let free = bars_none g.D.Disk.view s (c.barred.ensures.free c.in_default.is) in
     let all : (b.drawn == 2 ^ 62) ≡ true = grind (arith, nat_tests, c.if-drawn-eq-NUMBERS.true, c.drawn.ensures) in
-    let comes = no_take s.rules b d v step.worn (worn_take b d up all) refl in
+    let comes = no_take s.rules b d v step.worn (worn_take b d free all) refl in
     quiet_event g.D.Disk.view g.N.Nonces.nonce s s (step.take d v) step.worn b refl refl refl (λ given. refl) comes.step
 
 pub returns-in-Err-clause-event : goal.returns-in-Err-clause-event
@@ -53,10 +57,10 @@ returns-in-Err-clause-event g c =
     let b = book_in g.D.Disk.view s in
     let d = target_of c.args.target.now in
     let v = meaning c.args.answer in
-    let up = ap (λ (o : Option doubt_type.Doubt). option_map doubt_of o) c.in_default.is in
+    let free = bars_none g.D.Disk.view s (c.barred.ensures.free c.in_default.is) in
     let low : (b.drawn == 2 ^ 62) ≡ false = grind (arith, nat_tests, c.if-drawn-eq-NUMBERS.false, c.drawn.ensures) in
     let why : refusal_of (admit b d) ≡ Some c.in-Err.refusal = ap refusal_of (admit_same (library_in s) (beside_of g.D.Disk.view s) no_journal s.book d) ∙ c.in-Err.ensures.refused in
-    let comes = no_take s.rules b d v (step.refusal c.in-Err.refusal) (refused_take b d c.in-Err.refusal up low why) refl in
+    let comes = no_take s.rules b d v (step.refusal c.in-Err.refusal) (refused_take b d c.in-Err.refusal free low why) refl in
     quiet_event g.D.Disk.view g.N.Nonces.nonce s s (step.take d v) (step.refusal c.in-Err.refusal) b refl refl refl (λ given. refl) comes.step
 
 pub returns-in-Ok-clause-event : goal.returns-in-Ok-clause-event
@@ -66,10 +70,10 @@ returns-in-Ok-clause-event g c =
     let t = c.in-Ok.ticket in
     let d = target_of c.args.target.now in
     let v = meaning c.args.answer in
-    let up = ap (λ (o : Option doubt_type.Doubt). option_map doubt_of o) c.in_default.is in
+    let free = bars_none g.D.Disk.view s (c.barred.ensures.free c.in_default.is) in
     let low : (b.drawn == 2 ^ 62) ≡ false = grind (arith, nat_tests, c.if-drawn-eq-NUMBERS.false, c.drawn.ensures) in
     let why : refusal_of (admit b d) ≡ None = ap refusal_of (admit_same (library_in s) (beside_of g.D.Disk.view s) no_journal s.book d) ∙ c.in_default-admit.ensures.admitted in
-    let none = free_take b d up low why in
+    let none = free_take b d free low why in
     let number : t.number ≡ b.drawn = ap (λ (x : next.Ticket). x.number) c.in-Ok.ensures.ticket in
     record {
       step = λ source given has.
@@ -89,12 +93,12 @@ returns-in-Ok-clause-in_order g c =
     let b = book_in g.D.Disk.view s in
     let d = target_of c.args.target.now in
     let v = meaning c.args.answer in
-    let up = ap (λ (o : Option doubt_type.Doubt). option_map doubt_of o) c.in_default.is in
+    let free = bars_none g.D.Disk.view s (c.barred.ensures.free c.in_default.is) in
     let low : (b.drawn == 2 ^ 62) ≡ false = grind (arith, nat_tests, c.if-drawn-eq-NUMBERS.false, c.drawn.ensures) in
     let why : refusal_of (admit b d) ≡ None = ap refusal_of (admit_same (library_in s) (beside_of g.D.Disk.view s) no_journal s.book d) ∙ c.in_default-admit.ensures.admitted in
     let scripts : HasWholeScripts (draw b) = record { setup = c.requires.scripts_are.setup; instances = c.requires.scripts_are.instances } in
     quiet_order g.D.Disk.view g.D.Disk.tells s _ refl refl (draw b) (c.in-Ok.ensures.drawn (library_in s) (beside_of g.D.Disk.view s)) refl refl (no_call g.D.Disk.view g.D.Disk.tells s.journal)
-    c.requires (some_kept (library_in s).all s.book c.take_ticket.new.book c.take_ticket.ensures.states) (kept_told (library_in s).all s.book c.take_ticket.new.book c.take_ticket.ensures.states) c.requires.sound (step.take d v) step.plain (step.taken b.drawn 0) (taken s.rules b d v 0 (free_take b d up low why)) tt tt tt refl tt tt c.events_are_kept.ensures refl scripts c.requires.whole c.requires.knows.noted (told_still s.notes)
+    c.requires (some_kept (library_in s).all s.book c.take_ticket.new.book c.take_ticket.ensures.states) (kept_told (library_in s).all s.book c.take_ticket.new.book c.take_ticket.ensures.states) c.requires.sound (step.take d v) step.plain (step.taken b.drawn 0) (taken s.rules b d v 0 (free_take b d free low why)) tt tt tt refl tt tt c.events_are_kept.ensures refl scripts c.requires.whole c.requires.knows.noted (told_still s.notes) refl (unfed g.D.Disk.view g.D.Disk.tells _ (c.barred.ensures.free c.in_default.is).leads)
 
 pub returns-in-Ok-clause-own : goal.returns-in-Ok-clause-own
 returns-in-Ok-clause-own g c =
@@ -138,7 +142,7 @@ returns-in-Err-take_ticket-clause-event g c =
 pub returns-in-Err-take_ticket-clause-in_order : goal.returns-in-Err-take_ticket-clause-in_order
 returns-in-Err-take_ticket-clause-in_order g c =
     let s = c.args.self.now in
-    same_order g.D.Disk.view g.D.Disk.tells s _ c.requires (c.in-Err-take_ticket.ensures.err (library_in s) (beside_of g.D.Disk.view s)) (some_kept (library_in s).all s.book c.take_ticket.new.book c.take_ticket.ensures.states c.requires.kept) (kept_told (library_in s).all s.book c.take_ticket.new.book c.take_ticket.ensures.states) refl refl refl refl refl
+    same_order g.D.Disk.view g.D.Disk.tells s _ c.requires (c.in-Err-take_ticket.ensures.err (library_in s) (beside_of g.D.Disk.view s)) (some_kept (library_in s).all s.book c.take_ticket.new.book c.take_ticket.ensures.states c.requires.kept) (kept_told (library_in s).all s.book c.take_ticket.new.book c.take_ticket.ensures.states) refl refl refl refl refl (c.barred.ensures.free c.in_default.is).leads refl
 
 pub returns-in-Err-take_ticket-clause-own : goal.returns-in-Err-take_ticket-clause-own
 returns-in-Err-take_ticket-clause-own g c =
