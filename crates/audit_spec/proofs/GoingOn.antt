@@ -1,11 +1,13 @@
 -- A shelf that is opened on an audited file goes on as one on a file of its own.
-use Rattle.std.proofs.Common.{ℕ, List, [], ◌∷◌, Some, refl}
+use Rattle.std.proofs.Common.{◌≡◌, ℕ, List, [], ◌∷◌, Some, slice_get, refl}
 use Rattle.script_nodes.specs.Setup.{Named}
 use Rattle.replay_spec.specs.Book.{Book}
 use Rattle.replay_spec.specs.Rules.{Rules}
 use Rattle.replay_spec.specs.Step.{crash, lost, step}
 use Rattle.replay_spec.specs.Invariant.{IsSound}
 use Rattle.replay_spec.specs.Laws.{Moment, book_after, Leads}
+use Rattle.replay_spec.specs.Remade.{NamesItsCells}
+use Rattle.replay_spec.proofs.Barred.{some_setup}
 use Rattle.replay_spec.proofs.Steps.{books_stay}
 use Rattle.server_limits.specs.Limits.{most_fuel}
 use Rattle.journal_records.specs.Laws.{AreRecordsExact}
@@ -29,7 +31,10 @@ opened_leads shelf scripts b =
 can_go_on : (shelf : ℕ) (scripts : List Named) (b : Book) → IsSound b → HasWholeScripts b → AreWhole scripts → CanGoOn (opened_book shelf scripts b)
 can_go_on shelf scripts b sound whole setup = record {
   sound = books_stay.1 b (opened_book shelf scripts b) sound (opened_leads shelf scripts b);
-  named = record { setup = λ k s at. names_cells s (setup k s at); instances = λ k i at. names_cells i.script (whole.instances k i at) };
+  named = record {
+    setup = some_setup (λ (ss : List Named). (k : ℕ) (s : Named) → slice_get ss k ≡ Some s → NamesItsCells s) b scripts (λ k s at. names_cells s (whole.setup k s at)) (λ k s at. names_cells s (setup k s at));
+    instances = λ k i at. names_cells i.script (whole.instances k i at);
+  };
   up = refl;
 }
 

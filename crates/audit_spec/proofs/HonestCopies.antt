@@ -10,7 +10,7 @@ use Rattle.replay_spec.specs.Next.{tape_for}
 use Rattle.replay_spec.specs.Recovery.{number_in, is_repeated, page_of_numbers, opening_visit, extension_visit}
 use Rattle.replay_spec.proofs.Admitted.{when_is}
 use Rattle.machine_states.specs.Machine.{Suspended, inside_of}
-use Rattle.journal_records.specs.Records.{Record, begins, changes, renews, draws, body_of}
+use Rattle.journal_records.specs.Records.{Record, begins, changes, renews, draws, follows, promotes, body_of}
 use Rattle.journal_records.specs.Reading.{read_record}
 use Rattle.journal_records.specs.Old.{read_record_in}
 use Rattle.journal_records.specs.Laws.{AreRecordsExact}
@@ -18,9 +18,9 @@ use Rattle.journal_spec.specs.Before.{Earlier, Made}
 use Rattle.journal_spec.specs.Retaking.{Told, unread, misread, told, told_as, told_by, told_in, IsLanded}
 use Rattle.journal_spec.specs.Lengths.{state_over, state_by}
 use Rattle.journal_spec.specs.Making.{nothing, made_in}
-use Rattle.journal_spec.specs.Old.{format_of_now}
+use Rattle.journal_spec.specs.Old.{format_of_now, book_of_format}
 use Rattle.journal_spec.specs.Owning.{IsOwnState, IsOwnRecord, AreOwnIn, IsLandedRecord}
-use Rattle.journal_spec.specs.Copying.{inside_told, Entry, tells, settles, body_in, entries, entries_joined, copies}
+use Rattle.journal_spec.specs.Copying.{inside_told, Entry, tells, settles, body_in, entries, entries_joined, copies, begin_in}
 use Rattle.journal_spec.proofs.Retaken.{landing_is}
 use Rattle.journal_spec.proofs.OwnStates.{HoldsEntry, HoldIn, held_from}
 use Rattle.journal_spec.proofs.Copied.{IsCarried}
@@ -32,6 +32,7 @@ use Rattle.audit_spec.specs.Honest.{CompactedJournalsPass}
 use Rattle.audit_spec.proofs.Passing.{all_hold, own_of_none}
 use Rattle.audit_spec.proofs.HonestTests.{IsFair, fair_like, fair_live}
 use Rattle.audit_spec.proofs.HonestLines.{fair_sweep}
+use Rattle.audit_spec.proofs.Held.{made_held}
 use Rattle.audit_spec.proofs.HonestFound.{IsClear, each_clear, finds_nothing, yes_is_clear}
 use Rattle.audit_spec.proofs.HonestFiles.{no_fault, tells_itself}
 
@@ -65,6 +66,8 @@ fair_of format m None h = tt
 fair_of format m (Some (begins s named)) h = tt
 fair_of format m (Some (renews named)) h = tt
 fair_of format m (Some (draws number)) h = tt
+fair_of format m (Some follows) h = tt
+fair_of format m (Some promotes) h = tt
 fair_of format m (Some (changes c state)) h =
     let p = all_hold format m c state h in λ i. p.goes i ∷ (p.admitted i ∷ (p.runs i ∷ (p.least i ∷ (p.timely i ∷ []))))
 
@@ -110,24 +113,27 @@ clear_of k None fair own landed = refl
 clear_of k (Some (begins s named)) fair own landed = refl
 clear_of k (Some (renews named)) fair own landed = refl
 clear_of k (Some (draws number)) fair own landed = refl
+clear_of k (Some follows) fair own landed = refl
+clear_of k (Some promotes) fair own landed = refl
 clear_of k (Some (changes c state)) fair own landed =
     let x = told_in k.earlier k.book c state in no_fault 6 k c state fair (new_of k c x landed) (tells_of k c state x refl own landed)
 
 -- ---- all copies
 
 pub copies_pass : AreRecordsExact → CompactedJournalsPass
-copies_pass x format texts shelf first bodies m can bytes makes says =
+copies_pass x format texts shelf [] m can bytes makes leads says = absurd (let never : ⊥ = cc in never)
+copies_pass x format texts shelf (first ∷ bodies) m can bytes makes leads says =
     let all = first ∷ bodies in
-    let clear = each_clear format texts shelf all (yes_is_clear format texts shelf first bodies m (length all) makes says) in
+    let clear = each_clear format texts shelf all (made_held (book_of_format format texts shelf all) m makes) (yes_is_clear format texts shelf first bodies m (length all) makes says) in
     let fair : HoldIn IsFairRecord format texts shelf all = λ front rest body k is made. fair_of format k (read_record_in format body) (clear front rest body k is made) in
     let own : AreOwnIn format texts shelf all = λ front rest body k is made. own_of_none format k (read_record_in format body) (clear front rest body k is made) in
-    let r = known_comes x (λ f. IsFairRecord) IsFairRecord joined texts shelf first bodies m (λ f. carried f m.book.instances) bytes format can.known can.anew makes can.room in
-    let o = copies_own x format texts shelf first bodies m r.k can bytes makes r.makes in
-    let others = copies format texts shelf first bodies m in
+    let r = known_comes x (λ f. IsFairRecord) IsFairRecord joined texts shelf all m (λ f. carried f m.book.instances) bytes leads format can.known can.anew makes can.room in
+    let o = copies_own x format texts shelf all m r.k can bytes makes leads r.makes in
+    let others = copies format texts shelf all m in
     let rest = body_of (draws m.book.logged) ∷ map body_in (entries_joined (entries format m.book.instances texts shelf 8 all nothing)) in
     let now : HoldIn (IsClear 6) 6 texts shelf others =
     λ front later body k is made.
     let here = ap made_in (sym (format_of_now texts shelf front)) ∙ made in
     subst (IsClear 6 k) (sym (x.newest body))
     (clear_of k (read_record body) (r.held fair front later body k is here) (o.own own front later body k is here) (r.landed front later body k is here)) in
-    finds_nothing 6 texts shelf first rest r.k (ap made_in (format_of_now texts shelf others) ∙ r.makes) (held_from (IsClear 6) 6 texts shelf others now [] others 8 nothing refl (λ bs. refl))
+    finds_nothing 6 texts shelf (begin_in all) rest r.k (ap made_in (format_of_now texts shelf others) ∙ r.makes) (held_from (IsClear 6) 6 texts shelf others now [] others 8 nothing refl (λ bs. refl))

@@ -15,7 +15,7 @@ use Rattle.journal_records.proofs.Exact.{record_back}
 use Rattle.journal_records.proofs.Older.{newest}
 use Rattle.journal_spec.specs.Before.{Made, plain}
 use Rattle.journal_spec.specs.Lengths.{state_by, state_told, told_own, own_body}
-use Rattle.journal_spec.specs.Making.{Texts, Making, nothing, begun, made, damaged, other, made_in, book_of}
+use Rattle.journal_spec.specs.Making.{Texts, Making, nothing, waits, waited, begun, made, damaged, other, made_in, book_of}
 use Rattle.journal_spec.specs.Bodies.{spelled, with_spelled, drawn_bodies, bodies_of}
 use Rattle.journal_spec.specs.Old.{with_body_at, with_bodies_at, book_of_format, format_of_now}
 use Rattle.journal_spec.specs.Retaking.{Told}
@@ -107,6 +107,8 @@ made_clear texts end l m e own h one =
 
 at_clear : (texts : Texts) (end : recovery.Made) (l : Line) (x : Making) → IsMade x end → IsReadyLine end l → OneWritten texts l end → HoldsAt (IsClear 6) 6 x (spelled end.book l)
 at_clear texts end l nothing is h one = absurd is
+at_clear texts end l (waits s) is h one = absurd is
+at_clear texts end l waited is h one = absurd is
 at_clear texts end l (begun m) is h one = made_clear texts end l m is.0 is.1 h one
 at_clear texts end l (made m) is h one = made_clear texts end l m is.0 is.1 h one
 at_clear texts end l (damaged p) is h one = absurd is
@@ -192,6 +194,8 @@ module _ (texts : Texts) (shelf : ℕ) (f : File) where
 
   draws_clear : (n : ℕ) (x : Making) → IsDrawn (Some n) → HoldsAt (IsClear 6) 6 x (body_of (draws n))
   draws_clear n nothing low = tt
+  draws_clear n (waits s) low = tt
+  draws_clear n waited low = tt
   draws_clear n (begun m) low = ap (fault_of 6 m) (newest (body_of (draws n)) ∙ record_back (draws n) low)
   draws_clear n (made m) low = ap (fault_of 6 m) (newest (body_of (draws n)) ∙ record_back (draws n) low)
   draws_clear n (damaged p) low = tt
@@ -242,6 +246,8 @@ module _ (texts : Texts) (shelf : ℕ) (f : File) where
 
       by_made : (x : Making) → book_of_format 6 texts shelf (bodies_of shelf f) ≡ x → IsMade x (lines_after f.lines first) → FindsNothing 6 texts (bodies_of shelf f)
       by_made nothing e is = absurd is
+      by_made (waits s) e is = absurd is
+      by_made waited e is = absurd is
       by_made (begun m) e is = finds_nothing 6 texts shelf (body_of (begin_of shelf f.scripts)) rest m (ap made_in e) (file_clear taken written fair)
       by_made (made m) e is = finds_nothing 6 texts shelf (body_of (begin_of shelf f.scripts)) rest m (ap made_in e) (file_clear taken written fair)
       by_made (damaged p) e is = absurd is

@@ -12,14 +12,16 @@ use Rattle.replay_spec.specs.Laws.{IsLawful, Moment, then_book, AreLawful}
 use Rattle.replay_spec.specs.Remade.{NameTheirCells, IsLike}
 use Rattle.replay_spec.proofs.Compacted.{not_repeated}
 use Rattle.replay_spec.proofs.Orderly.{recorded_orderly, is_out, is_doubted}
+use Rattle.replay_spec.proofs.Barred.{some_setup}
+use Rattle.replay_spec.proofs.Reopened.{same_self}
 use Rattle.replay_spec.proofs.Going.{Goes, stays, draws, spends, publishes, fails, goes_to, fails_at, rewrites, fails_to_rewrite, keeps, keeps_rewritten, loses, goes}
-use Rattle.journal_records.specs.Records.{Record, begins, changes, renews, draws, renewal_of}
+use Rattle.journal_records.specs.Records.{Record, begins, changes, renews, draws, follows, promotes, renewal_of}
 use Rattle.journal_records.specs.Reading.{read_record}
 use Rattle.journal_records.specs.Old.{read_record_in}
 use Rattle.journal_records.specs.Laws.{AreRecordsExact}
 use Rattle.journal_spec.specs.Before.{Made, made_of, plain}
 use Rattle.journal_spec.specs.Lengths.{own_body}
-use Rattle.journal_spec.specs.Making.{Texts, Making, nothing, begun, made, damaged, other, made_in}
+use Rattle.journal_spec.specs.Making.{Texts, Making, nothing, waits, waited, begun, made, damaged, other, made_in}
 use Rattle.journal_spec.specs.Old.{with_body_at, with_bodies_at, book_of_format, format_of_now}
 use Rattle.journal_spec.specs.Opening.{renewal_body, renewal_bodies}
 use Rattle.journal_spec.specs.Whole.{HasWholeScripts, CanBeWritten, HasOwnStates}
@@ -35,6 +37,7 @@ use Rattle.journal_spec.proofs.Writing.{state_like, can_same}
 use Rattle.audit_spec.specs.Honest.{AreBound, AddedRecordsPass}
 use Rattle.audit_spec.proofs.Passing.{own_of_none}
 use Rattle.audit_spec.proofs.HonestTests.{IsFair, fair_like}
+use Rattle.audit_spec.proofs.Held.{made_held}
 use Rattle.audit_spec.proofs.HonestFound.{IsClear, AreClear, each_clear, finds_nothing, yes_is_clear}
 use Rattle.audit_spec.proofs.HonestFiles.{IsReady, own_clear}
 use Rattle.audit_spec.proofs.HonestChoices.{IsBound, recorded_fair}
@@ -58,10 +61,10 @@ went r b d o (publishes t c inside at) l bound g names whole h = (
 )
 went r b d o (fails count t c inside at) l bound g names whole h =
     (tt, fair_moved b b.drawn d.out d.down c (recorded_fair r b t c inside bound g names whole at))
-went r b d o (goes_to tick later up) l bound g names whole h = ((tick_fair b tick later, λ n e. absurd e), subst (IsFairDoubt d) (sym up) tt)
-went r b d o (fails_at count tick later up) l bound g names whole h = (tt, fair_moved b b.drawn b.out d.down (sweeps tick) (tick_fair b tick later))
-went r b d o (rewrites up) l bound g names whole h = (tt, subst (IsFairDoubt d) (sym up) tt)
-went r b d o (fails_to_rewrite count up) l bound g names whole h = (tt, tt)
+went r b d o (goes_to tick later up unfed) l bound g names whole h = ((tick_fair b tick later, λ n e. absurd e), subst (IsFairDoubt d) (sym up) tt)
+went r b d o (fails_at count tick later up unfed) l bound g names whole h = (tt, fair_moved b b.drawn b.out d.down (sweeps tick) (tick_fair b tick later))
+went r b d o (rewrites up unfed) l bound g names whole h = (tt, subst (IsFairDoubt d) (sym up) tt)
+went r b d o (fails_to_rewrite count up unfed) l bound g names whole h = (tt, tt)
 went r b d o (keeps scripts count c inside down) l bound g names whole h = ((subst (IsFairDoubt b) down h, is_doubted b count c inside down), tt)
 went r b d o (keeps_rewritten scripts count down) l bound g names whole h = (tt, tt)
 went r b d o (loses scripts) l bound g names whole h = (tt, tt)
@@ -77,6 +80,8 @@ clear_more texts shelf place (f ∷ front) body x h one =
 -- a fact of what was made is one at its body
 at_made : (x : Making) (m : Made) (body : List ℕ) → made_in x ≡ Some m → IsClear 6 m (read_record_in 6 body) → HoldsAt (IsClear 6) 6 x body
 at_made nothing m body e h = absurd (let never : ⊥ = cc in never)
+at_made (waits s) m body e h = tt
+at_made waited m body e h = tt
 at_made (begun k) m body e h = subst (λ (y : Made). IsClear 6 y (read_record_in 6 body)) (sym (same_Some k m e)) h
 at_made (made k) m body e h = subst (λ (y : Made). IsClear 6 y (read_record_in 6 body)) (sym (same_Some k m e)) h
 at_made (damaged p) m body e h = absurd (let never : ⊥ = cc in never)
@@ -84,6 +89,8 @@ at_made (other p) m body e h = absurd (let never : ⊥ = cc in never)
 
 always_clear : (x : Making) (body : List ℕ) → ((m : Made) → IsClear 6 m (read_record_in 6 body)) → HoldsAt (IsClear 6) 6 x body
 always_clear nothing body h = tt
+always_clear (waits s) body h = tt
+always_clear waited body h = tt
 always_clear (begun k) body h = h k
 always_clear (made k) body h = h k
 always_clear (damaged p) body h = tt
@@ -144,7 +151,11 @@ module _ (exact : AreRecordsExact) (texts : Texts) (shelf : ℕ) where
   with_told bodies b (publish t) given clear = subst (λ (bs : List (List ℕ)). AreClear 6 texts shelf 8 bs nothing) (sym (append-nil bodies)) clear
   with_told bodies b (sweep tick) given clear = subst (λ (bs : List (List ℕ)). AreClear 6 texts shelf 8 bs nothing) (sym (append-nil bodies)) clear
   with_told bodies b compact given clear = subst (λ (bs : List (List ℕ)). AreClear 6 texts shelf 8 bs nothing) (sym (append-nil bodies)) clear
-  with_told bodies b (crash scripts) given clear = renewed_clear bodies scripts b.scripts given clear
+  with_told bodies b (crash scripts) given clear =
+      some_setup (λ (ss : List Named). AreClear 6 texts shelf 8 (bodies ++ renewal_bodies ss b.scripts) nothing) b scripts
+      (subst (λ (same : Bool). AreClear 6 texts shelf 8 (bodies ++ (if same then [] else renewal_body b.scripts ∷ [])) nothing) (sym (same_self b.scripts))
+      (subst (λ (bs : List (List ℕ)). AreClear 6 texts shelf 8 bs nothing) (sym (append-nil bodies)) clear))
+      (renewed_clear bodies scripts b.scripts given clear)
 
   next : (bodies : List (List ℕ)) (m : Moment) (b : Book) → IsOnward bodies b → IsLawful m.event b → AreOver m.rules shelf → IsAppending m.event → Gives texts m.event
       → IsWritable b (lands m.rules b m.event m.fate) → IsBound m.rules → IsOnward (bodies ++ left_bodies m.rules b m.event m.fate) (then_book m b)
@@ -181,6 +192,8 @@ own_now k (Some (begins s named)) h = tt
 own_now k (Some (changes c state)) h = h
 own_now k (Some (renews named)) h = tt
 own_now k (Some (draws number)) h = tt
+own_now k (Some follows) h = tt
+own_now k (Some promotes) h = tt
 
 pub added_pass : AreRecordsExact → AddedRecordsPass
 added_pass exact texts shelf [] ms b lawful appended bound kept up says = absurd (let none : None ≡ Some (made_of b kept.keeps.earlier) = kept.keeps.makes in let never : ⊥ = cc in never)
@@ -189,7 +202,7 @@ added_pass exact texts shelf (first ∷ bodies) ms b lawful appended bound kept 
     let m = made_of b kept.keeps.earlier in
     let makes = ap made_in (format_of_now texts shelf all) ∙ kept.keeps.makes in
     let clear = yes_is_clear 6 texts shelf first bodies m (length all) makes says in
-    let each = each_clear 6 texts shelf all clear in
+    let each = each_clear 6 texts shelf all (made_held (book_of_format 6 texts shelf all) m makes) clear in
     let own : AreOwn texts shelf all =
     λ front rest body k is made.
     let here = ap made_in (format_of_now texts shelf front) ∙ made in

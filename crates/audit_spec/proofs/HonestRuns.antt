@@ -6,7 +6,7 @@ use Rattle.script_nodes.specs.Setup.{Named}
 use Rattle.replay_spec.specs.Book.{Change, sweeps, Work, landing, compacting, Doubt, changed, renewed, Book, reopened, are_same}
 use Rattle.replay_spec.specs.Rules.{Journal, Rules, empty_book}
 use Rattle.replay_spec.specs.Change.{record_length, land}
-use Rattle.replay_spec.specs.Compaction.{rewritten, renewed_length, renewed_file, reopened_with}
+use Rattle.replay_spec.specs.Compaction.{rewritten, renewed_length, renewed_file, setup_for, going_on_with, reopened_with}
 use Rattle.replay_spec.specs.Step.{step}
 use Rattle.replay_spec.specs.Runs.{lands}
 use Rattle.replay_spec.specs.Recovery.{first_of, made_of_file}
@@ -65,8 +65,8 @@ lines_landed b c n filed fair h =
     fair_more b.file.lines (changed c n) (first_of b.shelf b.file) h.lines (fair_like b (made_of_file b.shelf b.file).book c filed.made fair)
 
 -- the shelf is opened again
-honest_reopened : (j : Journal) (scripts : List Named) (b : Book) → AreFair b.file.lines (first_of b.shelf b.file) → IsHonest (reopened_with (Some j) scripts b)
-honest_reopened j scripts b fair = by_test (are_same scripts b.scripts)
+honest_going_on : (j : Journal) (scripts : List Named) (b : Book) → AreFair b.file.lines (first_of b.shelf b.file) → IsHonest (going_on_with (Some j) scripts b)
+honest_going_on j scripts b fair = by_test (are_same scripts b.scripts)
   where
     by_test : (same : Bool)
         → IsHonest (record (reopened b) {
@@ -76,6 +76,9 @@ honest_reopened j scripts b fair = by_test (are_same scripts b.scripts)
         })
     by_test true = record { lines = fair; doubt = tt }
     by_test false = record { lines = fair_more b.file.lines (renewed scripts (j.renewed scripts)) (first_of b.shelf b.file) fair tt; doubt = tt }
+
+honest_reopened : (j : Journal) (scripts : List Named) (b : Book) → AreFair b.file.lines (first_of b.shelf b.file) → IsHonest (reopened_with (Some j) scripts b)
+honest_reopened j scripts b fair = honest_going_on j (setup_for b scripts) b fair
 
 abbrev over : Rules → Journal → Rules
 over r j = record r { journal = Some j }
@@ -98,12 +101,12 @@ went r j b d o (fails count t c inside at) bound g names whole filed h = record 
   lines = h.lines;
   doubt = fair_moved b b.drawn d.out d.down c (recorded_fair (over r j) b t c inside bound g names whole at);
 }
-went r j b d o (goes_to tick later up) bound g names whole filed h =
+went r j b d o (goes_to tick later up unfed) bound g names whole filed h =
     record { lines = lines_landed b (sweeps tick) _ filed (tick_fair b tick later) h; doubt = subst (IsFairDoubt d) (sym up) tt }
-went r j b d o (fails_at count tick later up) bound g names whole filed h =
+went r j b d o (fails_at count tick later up unfed) bound g names whole filed h =
     record { lines = h.lines; doubt = fair_moved b b.drawn b.out d.down (sweeps tick) (tick_fair b tick later) }
-went r j b d o (rewrites up) bound g names whole filed h = record { lines = fair_compacted b filed h.lines; doubt = subst (IsFairDoubt d) (sym up) tt }
-went r j b d o (fails_to_rewrite count up) bound g names whole filed h = record { lines = h.lines; doubt = tt }
+went r j b d o (rewrites up unfed) bound g names whole filed h = record { lines = fair_compacted b filed h.lines; doubt = subst (IsFairDoubt d) (sym up) tt }
+went r j b d o (fails_to_rewrite count up unfed) bound g names whole filed h = record { lines = h.lines; doubt = tt }
 went r j b d o (keeps scripts count c inside down) bound g names whole filed h =
     honest_reopened j scripts (land (over r j) c inside b) (lines_landed b c (record_length j b c) filed (subst (IsFairDoubt b) down h.doubt) h)
 went r j b d o (keeps_rewritten scripts count down) bound g names whole filed h = honest_reopened j scripts (rewritten (over r j) b) (fair_compacted b filed h.lines)

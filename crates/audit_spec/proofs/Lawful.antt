@@ -6,10 +6,10 @@ use Rattle.std.proofs.lemmas.List.{append-nil}
 use Rattle.script_value.specs.Val.{list, no_vals}
 use Rattle.script_value.specs.declared.outcome.TxName.{TxName}
 use Rattle.script_nodes.specs.Setup.{Named}
-use Rattle.replay_spec.specs.Book.{Instance, Change, opens, extends, ends, finishes, sweeps, Doubt, changed, renewed, Book, reopened}
+use Rattle.replay_spec.specs.Book.{Instance, Change, opens, extends, ends, finishes, sweeps, Doubt, changed, renewed, File, Book, reopened}
 use Rattle.replay_spec.specs.Rules.{first_file, empty_book}
 use Rattle.replay_spec.specs.Change.{with_line, instances_by, land}
-use Rattle.replay_spec.specs.Admission.{admit}
+use Rattle.replay_spec.specs.Admission.{or_else, admit}
 use Rattle.replay_spec.specs.Next.{Ticket}
 use Rattle.replay_spec.specs.Step.{unless, down_by, decide, records}
 use Rattle.replay_spec.specs.Recovery.{number_in, is_repeated, with_number, remade, of_length, taken_in, first_of}
@@ -19,6 +19,7 @@ use Rattle.replay_spec.specs.Remade.{NameTheirCells, IsRemade, IsOrderlyMade}
 use Rattle.replay_spec.proofs.Stand.{sound_less, among_drawn, empty_sound}
 use Rattle.replay_spec.proofs.Sound.{land_named}
 use Rattle.replay_spec.proofs.Decided.{recorded_sound_of}
+use Rattle.replay_spec.proofs.Filed.{remade_like}
 use Rattle.replay_spec.proofs.Going.{Records}
 use Rattle.replay_spec.proofs.Orderly.{different_more}
 use Rattle.replay_spec.proofs.Again.{passes, recorded_remade, swept_remade}
@@ -26,12 +27,12 @@ use Rattle.replay_spec.proofs.Recovered.{Unseen, new_number, more_seen}
 use Rattle.replay_spec.proofs.Compacted.{line_orderly, first_orderly}
 use Rattle.machine_states.specs.Machine.{Suspended, inside_of}
 use Rattle.journal_records.specs.Laws.{AreRecordsExact}
-use Rattle.journal_records.specs.Records.{Record, begins, changes, renews, draws}
+use Rattle.journal_records.specs.Records.{Record, begins, changes, renews, draws, follows, promotes}
 use Rattle.journal_records.specs.Old.{read_record_in}
-use Rattle.journal_spec.specs.Before.{Made, plain}
+use Rattle.journal_spec.specs.Before.{nothing_told, Made, plain}
 use Rattle.journal_spec.specs.Retaking.{Told, unread, misread, told, held, landing, retaken}
 use Rattle.journal_spec.specs.Lengths.{state_by, told_own, own_told}
-use Rattle.journal_spec.specs.Making.{Texts, Making, nothing, begun, made, damaged, other, has_script, began, first_setup, first_by, told_next, next_setup, with_drawn, made_in}
+use Rattle.journal_spec.specs.Making.{Texts, Making, nothing, waited, waits, begun, made, damaged, other, has_script, beside, in_file, waiting, began, first_setup, first_by, start_by, fed_by, told_next, next_setup, promoted_by, with_drawn, made_in}
 use Rattle.journal_spec.specs.Old.{told_at, change_next, next_at, second_at, with_body_at, with_bodies_at, book_of_format}
 use Rattle.journal_spec.specs.Whole.{HasWholeScripts, HasOwnStates}
 use Rattle.journal_spec.specs.Keeping.{IsTakenAs}
@@ -45,12 +46,14 @@ use Rattle.journal_spec.proofs.Retaken.{retaken_orderly}
 use Rattle.journal_spec.proofs.Fitting.{any_fit}
 use Rattle.audit_spec.specs.Tests.{tells_state}
 use Rattle.audit_spec.specs.Findings.{fault_of, shelf_in}
-use Rattle.audit_spec.specs.Meaning.{AreApart, ReadsSetups, IsTold, free_rules, IsPublished, IsDecided, IsLawfulRecord, OfEachIn, told_change, changes_in, AYesMeansPublished, AYesMakesSoundBooks}
+use Rattle.audit_spec.specs.Meaning.{AreApart, ReadsSetups, IsTold, free_rules, unfed, IsPublished, IsDecided, IsLawfulRecord, OfEachIn, told_change, changes_in, AYesMeansPublished, AYesMakesSoundBooks}
 use Rattle.audit_spec.proofs.Passing.{AllHold, all_hold, told_is, told_is_own}
 use Rattle.audit_spec.proofs.Published.{decided_by}
+use Rattle.audit_spec.proofs.Unfed.{orderly_unfed, whole_unfed, names_unfed, taken_unfed}
 use Rattle.audit_spec.proofs.HonestFound.{IsClear}
 use Rattle.audit_spec.proofs.Fronts.{front_makes}
-use Rattle.audit_spec.proofs.OwnImage.{IsHeld, is_yes, each_none}
+use Rattle.audit_spec.proofs.Held.{IsHeld}
+use Rattle.audit_spec.proofs.OwnImage.{is_yes, each_none}
 
 -- ---- what was decided can be taken, and is sound
 
@@ -65,13 +68,19 @@ published_fit : (b : Book) (c : Change) (inside : List TxName) → b.down ≡ No
 published_fit b c inside up orderly whole names p t at tells =
     let rules = free_rules p.life p.limit b in
     let d = p.decided t at tells in
-    let decided : decide rules b t (admit b t.target) ≡ records d.0 c inside =
-    sym (ap (λ (o : Option Doubt). unless (down_by o) (decide rules b t (admit b t.target))) up) ∙ d.1 in
-    let r : Records ⊥ rules b t c inside = record { out = λ no. absurd no; up = up; reply = d.0; decided = decided } in
+    let q = unfed b in
+    let decided : decide rules q t (admit q t.target) ≡ records d.0 c inside =
+    sym (ap (λ (o : Option Doubt). unless (or_else (down_by o) None) (decide rules q t (admit q t.target))) up) ∙ d.1 in
+    let r : Records ⊥ rules q t c inside = record { out = λ no. absurd no; up = up; unfed = refl; reply = d.0; decided = decided } in
+    let again = recorded_remade rules q t c inside (omega arith) (orderly_unfed b orderly) (names_unfed b names) r in
     record {
-      taken = recorded_taken rules b t c inside orderly whole r;
-      again = recorded_remade rules b t c inside (omega arith) orderly names r;
-      sound = λ g. recorded_sound_of rules b t c inside g r;
+      taken = taken_unfed b c inside (recorded_taken rules q t c inside (orderly_unfed b orderly) (whole_unfed b whole) r);
+      again = (again.0, (remade_like b q c (record { shelf = refl; scripts = refl; clock = refl; instances = refl }) ∙ again.1.0, again.1.1));
+      sound = λ g. recorded_sound_of rules q t c inside (record {
+        orderly = orderly_unfed b g.orderly;
+        instances = g.instances;
+        doubt = g.doubt;
+      }) r;
     }
 
 decided_fit : (b : Book) (c : Change) (inside : List TxName) → b.down ≡ None → IsOrderly b → HasWholeScripts b → NameTheirCells b → IsDecided b c inside → IsFit b c inside
@@ -248,17 +257,21 @@ pub record IsHeard (format : ℕ) (front : List (List ℕ)) (m : Made) : Type 0 
   pub told : AreSeen (numbers format front) m.earlier.seen
   pub different : AreDifferent (numbers format front)
 
--- what the first record alone makes
+-- what the record of the setup alone makes
 pub record IsBegun (format : ℕ) (front : List (List ℕ)) (m : Made) : Type 0 where
+  pub fed : Bool
   pub shelf : ℕ
+  pub place : ℕ
   pub size : ℕ
   pub scripts : List Named
-  pub is : m ≡ began shelf size scripts
+  pub is : m ≡ began fed shelf place size scripts
   pub apart : AreApart scripts
   pub quiet : numbers format front ≡ []
 
 abbrev pub AreHeard : (format : ℕ) → (front : List (List ℕ)) → Making → Type 0
 AreHeard format front nothing = numbers format front ≡ []
+AreHeard format front (waits s) = numbers format front ≡ []
+AreHeard format front waited = numbers format front ≡ []
 AreHeard format front (begun m) = IsBegun format front m
 AreHeard format front (made m) = IsHeard format front m
 AreHeard format front (damaged p) = ⊤
@@ -275,18 +288,34 @@ none_told ns seen e = subst (λ (ms : List ℕ). AreSeen ms seen) (sym e) (λ n 
 none_differ : (ns : List ℕ) → ns ≡ [] → AreDifferent ns
 none_differ ns e = subst AreDifferent (sym e) tt
 
+-- what a file of its first records makes, in whatever length and whether its shelf follows or not
+first_heard : (format : ℕ) (front : List (List ℕ)) (fed : Bool) (shelf n : ℕ) (f : File) → AreApart f.scripts → numbers format front ≡ []
+    → IsHeard format front (in_file fed n (beside nothing_told (first_of shelf f)))
+first_heard format front fed shelf n f apart quiet =
+    let g = first_orderly shelf f in
+    record {
+      orderly = record { instances = g.instances; counted = g.counted; again = refl };
+      sound = none_sound (Unseen []) shelf;
+      own = λ k n i p found shown. absurd (let no : ⊥ = cc in no);
+      apart = apart;
+      told = none_told (numbers format front) [] quiet;
+      different = none_differ (numbers format front) quiet;
+    }
+
 begun_heard : (format : ℕ) (front : List (List ℕ)) (m : Made) → IsBegun format front m → IsHeard format front m
-begun_heard format front m h = subst (IsHeard format front) (sym h.is) (record {
-  orderly = first_orderly h.shelf (first_file (14 + h.size) h.scripts);
-  sound = none_sound (Unseen []) h.shelf;
-  own = λ k n i p found shown. absurd (let no : ⊥ = cc in no);
-  apart = h.apart;
-  told = none_told (numbers format front) [] h.quiet;
-  different = none_differ (numbers format front) h.quiet;
-})
+begun_heard format front m h =
+    subst (IsHeard format front) (sym h.is) (first_heard format front h.fed h.shelf (h.place + 6 + h.size) (first_file (14 + h.size) h.scripts) h.apart h.quiet)
+
+none_apart : AreApart []
+none_apart k s at = absurd (let no : ⊥ = cc in no)
+
+waiting_heard : (format : ℕ) (front : List (List ℕ)) (s : ℕ) → numbers format front ≡ [] → IsHeard format front (waiting s)
+waiting_heard format front s quiet = first_heard format front true s 15 (first_file 0 []) none_apart quiet
 
 pub made_heard : (format : ℕ) (front : List (List ℕ)) (y : Making) (m : Made) → made_in y ≡ Some m → AreHeard format front y → IsHeard format front m
 made_heard format front nothing m is h = absurd (let no : ⊥ = cc in no)
+made_heard format front waited m is h = absurd (let no : ⊥ = cc in no)
+made_heard format front (waits s) m is h = let same : waiting s ≡ m = cc in subst (IsHeard format front) same (waiting_heard format front s h)
 made_heard format front (begun k) m is h = let same : k ≡ m = cc in subst (IsHeard format front) same (begun_heard format front k h)
 made_heard format front (made k) m is h = let same : k ≡ m = cc in subst (IsHeard format front) same h
 made_heard format front (damaged p) m is h = absurd (let no : ⊥ = cc in no)
@@ -368,6 +397,26 @@ module _ (x : AreRecordsExact) (format : ℕ) (texts : Texts) (setups : ReadsSet
   heard_next front body place m None read is no_fault h = tt
   heard_next front body place m (Some (begins s named)) read is no_fault h = tt
   heard_next front body place m (Some (draws number)) read is no_fault h = tt
+  heard_next front body place m (Some follows) read is no_fault h = tt
+  heard_next front body place m (Some promotes) read is no_fault h = by_fed m.book.follows
+    where
+      quiet : numbers format (front ++ body ∷ []) ≡ numbers format front
+      quiet = numbers_push format front body (Some promotes) read ∙ append-nil (numbers format front)
+
+      by_fed : (fed : Bool) → AreHeard format (front ++ body ∷ []) (promoted_by place (length body) m fed)
+      by_fed false = tt
+      by_fed true = record {
+        orderly = record {
+          instances = h.orderly.instances;
+          counted = h.orderly.counted;
+          again = λ i. record (h.orderly.again i) { length = m.book.length + (length body + 5); follows = false };
+        };
+        sound = h.sound;
+        own = h.own;
+        apart = h.apart;
+        told = subst (λ (ns : List ℕ). AreSeen ns m.earlier.seen) (sym quiet) h.told;
+        different = subst AreDifferent (sym quiet) h.different;
+      }
   heard_next front body place m (Some (renews named)) read is no_fault h = by_setup (texts named) refl
     where
       quiet : numbers format (front ++ body ∷ []) ≡ numbers format front
@@ -397,43 +446,71 @@ module _ (x : AreRecordsExact) (format : ℕ) (texts : Texts) (setups : ReadsSet
       → fault_of format m r ≡ None → IsBegun format front m → AreHeard format (front ++ body ∷ []) (second_at format texts place (length body) m r)
   heard_second front body place m None read is no_fault h = tt
   heard_second front body place m (Some (begins s named)) read is no_fault h = tt
+  heard_second front body place m (Some follows) read is no_fault h = tt
+  heard_second front body place m (Some promotes) read is no_fault h =
+      heard_next front body place m (Some promotes) read is no_fault (begun_heard format front m h)
   heard_second front body place m (Some (renews named)) read is no_fault h =
       heard_next front body place m (Some (renews named)) read is no_fault (begun_heard format front m h)
   heard_second front body place m (Some (changes c state)) read is no_fault h =
       heard_next front body place m (Some (changes c state)) read is no_fault (begun_heard format front m h)
   heard_second front body place m (Some (draws number)) read is no_fault h =
       let quiet : numbers format (front ++ body ∷ []) ≡ [] = numbers_push format front body (Some (draws number)) read ∙ (append-nil (numbers format front) ∙ h.quiet) in
-      subst (λ (k : Made). IsHeard format (front ++ body ∷ []) (with_drawn number k)) (sym h.is) (record {
-        orderly = first_orderly h.shelf (record (first_file (14 + h.size) h.scripts) { drawn = Some number });
-        sound = none_sound (Unseen []) h.shelf;
-        own = λ k n i p found shown. absurd (let no : ⊥ = cc in no);
-        apart = h.apart;
-        told = none_told (numbers format (front ++ body ∷ [])) [] quiet;
-        different = none_differ (numbers format (front ++ body ∷ [])) quiet;
-      })
+      subst (λ (k : Made). IsHeard format (front ++ body ∷ []) (with_drawn number k)) (sym h.is)
+      (first_heard format (front ++ body ∷ []) h.fed h.shelf (h.place + 6 + h.size + 14) (record (first_file (14 + h.size) h.scripts) { drawn = Some number }) h.apart quiet)
 
-  heard_first : (front : List (List ℕ)) (body : List ℕ) (place : ℕ) (r : Option Record) → read_record_in format body ≡ r → numbers format front ≡ []
-      → AreHeard format (front ++ body ∷ []) (first_by texts shelf place (length body) r)
-  heard_first front body place None read h = tt
-  heard_first front body place (Some (changes c state)) read h = tt
-  heard_first front body place (Some (renews named)) read h = tt
-  heard_first front body place (Some (draws number)) read h = tt
-  heard_first front body place (Some (begins s named)) read h = by_setup (texts named) refl
+  heard_first : (fed : Bool) (front : List (List ℕ)) (body : List ℕ) (place : ℕ) (r : Option Record) → read_record_in format body ≡ r → numbers format front ≡ []
+      → AreHeard format (front ++ body ∷ []) (first_by texts fed shelf place (length body) r)
+  heard_first fed front body place None read h = tt
+  heard_first fed front body place (Some (changes c state)) read h = tt
+  heard_first fed front body place (Some (renews named)) read h = tt
+  heard_first fed front body place (Some (draws number)) read h = tt
+  heard_first fed front body place (Some follows) read h = tt
+  heard_first fed front body place (Some promotes) read h = tt
+  heard_first fed front body place (Some (begins s named)) read h = by_setup (texts named) refl
     where
       quiet : numbers format (front ++ body ∷ []) ≡ []
       quiet = numbers_push format front body (Some (begins s named)) read ∙ (append-nil (numbers format front) ∙ h)
 
-      by_test : (scripts : List Named) (t : Bool) → texts named ≡ Some scripts → AreHeard format (front ++ body ∷ []) (if t then begun (began shelf (length body) scripts) else other place)
-      by_test scripts true e = record { shelf = shelf; size = length body; scripts = scripts; is = refl; apart = setups.apart named scripts e; quiet = quiet }
+      by_test : (scripts : List Named) (t : Bool) → texts named ≡ Some scripts → AreHeard format (front ++ body ∷ []) (if t then begun (began fed shelf place (length body) scripts) else other place)
+      by_test scripts true e = record { fed = fed; shelf = shelf; place = place; size = length body; scripts = scripts; is = refl; apart = setups.apart named scripts e; quiet = quiet }
       by_test scripts false e = tt
 
-      by_setup : (o : Option (List Named)) → texts named ≡ o → AreHeard format (front ++ body ∷ []) (first_setup shelf place (length body) s o)
+      by_setup : (o : Option (List Named)) → texts named ≡ o → AreHeard format (front ++ body ∷ []) (first_setup fed shelf place (length body) s o)
       by_setup None e = tt
       by_setup (Some scripts) e = by_test scripts (s == shelf) e
 
+  -- the record of a role, which tells of no change
+  quiet_role : (front : List (List ℕ)) (body : List ℕ) (r : Record) → read_record_in format body ≡ Some r → told_change (Some r) ≡ [] → numbers format front ≡ []
+      → numbers format (front ++ body ∷ []) ≡ []
+  quiet_role front body r read none_told h =
+      numbers_push format front body (Some r) read
+      ∙ (ap (λ (cs : List Change). numbers format front ++ numbers_of cs) none_told ∙ (append-nil (numbers format front) ∙ h))
+
+  heard_start : (front : List (List ℕ)) (body : List ℕ) (place : ℕ) (r : Option Record) → read_record_in format body ≡ r → numbers format front ≡ []
+      → AreHeard format (front ++ body ∷ []) (start_by texts shelf place (length body) r)
+  heard_start front body place None read h = tt
+  heard_start front body place (Some follows) read h = quiet_role front body follows read refl h
+  heard_start front body place (Some promotes) read h = tt
+  heard_start front body place (Some (changes c state)) read h = tt
+  heard_start front body place (Some (renews named)) read h = tt
+  heard_start front body place (Some (draws number)) read h = tt
+  heard_start front body place (Some (begins s named)) read h = heard_first false front body place (Some (begins s named)) read h
+
+  heard_fed : (front : List (List ℕ)) (body : List ℕ) (place : ℕ) (r : Option Record) → read_record_in format body ≡ r → numbers format front ≡ []
+      → AreHeard format (front ++ body ∷ []) (fed_by texts shelf place (length body) r)
+  heard_fed front body place None read h = tt
+  heard_fed front body place (Some promotes) read h = quiet_role front body promotes read refl h
+  heard_fed front body place (Some follows) read h = tt
+  heard_fed front body place (Some (changes c state)) read h = tt
+  heard_fed front body place (Some (renews named)) read h = tt
+  heard_fed front body place (Some (draws number)) read h = tt
+  heard_fed front body place (Some (begins s named)) read h = heard_first true front body place (Some (begins s named)) read h
+
   heard_body : (front rest : List (List ℕ)) (body : List ℕ) (place : ℕ) (y : Making) → all ≡ front ++ body ∷ rest → book_of_format format texts shelf front ≡ y → AreHeard format front y
       → AreHeard format (front ++ body ∷ []) (with_body_at format texts shelf place body y)
-  heard_body front rest body place nothing is reach h = heard_first front body place (read_record_in format body) refl h
+  heard_body front rest body place nothing is reach h = heard_start front body place (read_record_in format body) refl h
+  heard_body front rest body place (waits s) is reach h = heard_fed front body place (read_record_in format body) refl h
+  heard_body front rest body place waited is reach h = heard_first false front body place (read_record_in format body) refl h
   heard_body front rest body place (begun m) is reach h =
       heard_second front body place m (read_record_in format body) refl (ap made_in reach) (none front rest body m is (ap made_in reach)) h
   heard_body front rest body place (made m) is reach h =
@@ -466,6 +543,8 @@ module _ (x : AreRecordsExact) (format : ℕ) (texts : Texts) (setups : ReadsSet
   lawful_by front m (Some (begins s named)) is h no_fault = tt
   lawful_by front m (Some (renews named)) is h no_fault = tt
   lawful_by front m (Some (draws number)) is h no_fault = tt
+  lawful_by front m (Some follows) is h no_fault = tt
+  lawful_by front m (Some promotes) is h no_fault = tt
   lawful_by front m (Some (changes c state)) is h no_fault =
       let p = passed front m c state is h no_fault in
       record {
@@ -484,6 +563,8 @@ module _ (x : AreRecordsExact) (format : ℕ) (texts : Texts) (setups : ReadsSet
 
   differ_by : (y : Making) → IsHeld y → AreHeard format all y → AreDifferent (numbers format all)
   differ_by nothing held h = none_differ (numbers format all) h
+  differ_by (waits s) held h = none_differ (numbers format all) h
+  differ_by waited held h = none_differ (numbers format all) h
   differ_by (begun m) held h = none_differ (numbers format all) h.quiet
   differ_by (made m) held h = h.different
   differ_by (damaged p) held h = absurd held

@@ -1,12 +1,14 @@
 pub mod SameStates
 pub mod HonestTests
 pub mod HonestLines
+pub mod Held
 pub mod HonestFound
 pub mod HonestFiles
 pub mod HonestChoices
 pub mod HonestRuns
 pub mod Passing
 pub mod Nonces
+pub mod Unfed
 pub mod Published
 pub mod OwnImage
 pub mod Fronts

@@ -4,7 +4,7 @@ use Rattle.std.specs.Prelude.{not, if◌then◌else◌}
 use Rattle.replay_spec.specs.Book.{Change, Book}
 use Rattle.replay_spec.specs.Recovery.{number_in, is_repeated}
 use Rattle.machine_states.specs.Machine.{Suspended}
-use Rattle.journal_records.specs.Records.{Record, begins, changes, renews, draws}
+use Rattle.journal_records.specs.Records.{Record, begins, changes, renews, draws, follows, promotes}
 use Rattle.journal_spec.specs.Before.{Made}
 use Rattle.journal_spec.specs.Retaking.{Told, unread, misread, told}
 use Rattle.journal_spec.specs.Lengths.{state_by, told_own, own_told}
@@ -79,3 +79,5 @@ own_of_none format m (Some (begins s named)) h = tt
 own_of_none format m (Some (changes c state)) h = own_of_passing format m c state (all_hold format m c state h)
 own_of_none format m (Some (renews named)) h = tt
 own_of_none format m (Some (draws number)) h = tt
+own_of_none format m (Some follows) h = tt
+own_of_none format m (Some promotes) h = tt

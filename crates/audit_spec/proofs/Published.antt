@@ -23,7 +23,7 @@ use Rattle.replay_spec.specs.Change.{used_by}
 use Rattle.replay_spec.specs.Eviction.{least, but, least_used, too_many, goes_for}
 use Rattle.replay_spec.specs.Admission.{◌>>=◌, when, is_one, Place, why_not, Admission, begins, resumes, started, admit}
 use Rattle.replay_spec.specs.Next.{Ticket, answers, starts, Visit, url_for, comes_to, start_visit, page_visit}
-use Rattle.replay_spec.specs.Step.{Reply, shelf_full, records, unless, down_by, with_room, opening, extension, ending, finish, change_by, reply_by, full, stopped, settles, gone_for, decide, publish_comes}
+use Rattle.replay_spec.specs.Step.{Reply, shelf_full, records, unless, with_room, opening, extension, ending, finish, change_by, reply_by, full, stopped, settles, gone_for, decide, publish_comes}
 use Rattle.replay_spec.specs.Recovery.{are_effects, are_names, is_kind, page_of_numbers, opening_visit, extension_visit, shows_so, again}
 use Rattle.replay_spec.proofs.Admitted.{StandsAt, at_stands, place_resumes}
 use Rattle.replay_spec.proofs.Goers.{pages_of, least_there}
@@ -34,7 +34,8 @@ use Rattle.server_limits.specs.Limits.{most_fuel, most_life}
 use Rattle.journal_spec.specs.Whole.{IsWhole, HasWholeScripts}
 use Rattle.journal_spec.proofs.Remaking.{effects_mean}
 use Rattle.audit_spec.specs.Tests.{holds_of, is_none, goes_on, can_be_answered, is_admitted, is_last, is_finish, ends_so, finishes_so, last_visit, last_segment, runs_so, are_numbers, least_go, is_due, is_in_time}
-use Rattle.audit_spec.specs.Meaning.{AreApart, target_at, free_rules, IsPublished, IsDecided, IsOver}
+use Rattle.audit_spec.specs.Meaning.{AreApart, target_at, free_rules, unfed, IsPublished, IsDecided, IsOver}
+use Rattle.audit_spec.proofs.Unfed.{without, publish_unfed}
 use Rattle.audit_spec.proofs.Nonces.{hides_url}
 
 -- ---- what the tests say
@@ -198,15 +199,14 @@ page_finishes life limit b gone v m i p bytes from e =
 
 -- a publish of a start of this script
 start_decides : (rules : Rules) (b : Book) (t : Ticket) (k : ℕ) (s : Named) → b.down ≡ None → admit b t.target ≡ begins k s
-    → publish_comes rules b t ≡ settles rules b [] (start_visit b t k s) (comes_to (start_visit b t k s) (present s.script.cells rules.fuel))
-start_decides rules b t k s up e =
-    ap (λ (o : Option Doubt). unless (down_by o) (decide rules b t (admit b t.target))) up ∙ ap (λ (a : Admission). decide rules b t a) e
+    → publish_comes (without rules) (unfed b) t ≡ settles (without rules) b [] (start_visit b t k s) (comes_to (start_visit b t k s) (present s.script.cells rules.fuel))
+start_decides rules b t k s up e = publish_unfed rules b t up ∙ ap (λ (a : Admission). decide (without rules) b t a) e
 
 -- a publish of an answer to this page
 page_decides : (rules : Rules) (b : Book) (t : Ticket) (at : Place) → b.down ≡ None → admit b t.target ≡ resumes at
-    → publish_comes rules b t ≡ settles rules b (gone_for rules t at) (page_visit b t at) (comes_to (page_visit b t at) (present at.instance.cells rules.fuel))
-page_decides rules b t at up e =
-    ap (λ (o : Option Doubt). unless (down_by o) (decide rules b t (admit b t.target))) up ∙ ap (λ (a : Admission). decide rules b t a) e
+    → publish_comes (without rules) (unfed b) t
+    ≡ settles (without rules) b (gone_for rules t at) (page_visit b t at) (comes_to (page_visit b t at) (present at.instance.cells rules.fuel))
+page_decides rules b t at up e = publish_unfed rules b t up ∙ ap (λ (a : Admission). decide (without rules) b t a) e
 
 -- ---- admissions
 

@@ -2,7 +2,7 @@
 use Rattle.std.specs.Prelude.{ℕ, ◌+◌, not, List, [], ◌∷◌, length, Option, Some, None, if◌then◌else◌}
 use Rattle.replay_spec.specs.Book.{Change}
 use Rattle.replay_spec.specs.Recovery.{number_in, is_repeated}
-use Rattle.journal_records.specs.Records.{Record, begins, changes}
+use Rattle.journal_records.specs.Records.{Record, begins, changes, follows, promotes}
 use Rattle.journal_records.specs.Old.{read_record_in}
 use Rattle.journal_spec.specs.Before.{Made}
 use Rattle.journal_spec.specs.Making.{Texts, Making, nothing, damaged, other, made_in}
@@ -71,16 +71,20 @@ answer_over (damaged place) n f = is_damaged place
 answer_over (other place) n f = is_damaged place
 answer_over _ n f = answer_by n f
 
--- the number of the shelf that the first record names; 0 where there is none
-abbrev pub shelf_by : Option Record → ℕ
-shelf_by (Some (begins shelf named)) = shelf
-shelf_by _ = 0
+-- The number of the shelf that a record names which tells a setup. One that tells of following names none, and leaves it to the records behind
+-- it. Any other names 0.
+abbrev pub shelf_by : Option Record → (behind : ℕ) → ℕ
+shelf_by (Some (begins shelf named)) n = shelf
+shelf_by (Some follows) n = n
+shelf_by (Some promotes) n = n
+shelf_by _ n = 0
 
+-- the number of the shelf that the first record names which tells a setup; 0 where there is none
 abbrev pub shelf_in : (format : ℕ) → List (List ℕ) → ℕ
 shelf_in format [] = 0
-shelf_in format (body ∷ bodies) = shelf_by (read_record_in format body)
+shelf_in format (body ∷ bodies) = shelf_by (read_record_in format body) (shelf_in format bodies)
 
--- What an audit answers to the bodies of a file of this format, for the shelf that its first record names. The first gate is at 8.
+-- What an audit answers to the bodies of a file of this format, for the shelf that its first record of a setup names. The first gate is at 8.
 abbrev pub audited : (format : ℕ) → Texts → List (List ℕ) → Answer
 audited format texts bodies =
     let shelf = shelf_in format bodies in

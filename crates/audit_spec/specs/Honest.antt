@@ -1,5 +1,5 @@
 -- Journals that are answered yes: those of runs, and what is copied of others that are.
-use Rattle.std.specs.Prelude.{◌≡◌, ◌≤◌, ℕ, List, [], ◌∷◌, ◌++◌, length, Some, None, ⊤}
+use Rattle.std.specs.Prelude.{◌≡◌, ◌≤◌, ℕ, List, [], ◌∷◌, ◌++◌, length, Some, None, ⊤, false}
 use Rattle.script_nodes.specs.Setup.{Named}
 use Rattle.replay_spec.specs.Book.{Book}
 use Rattle.replay_spec.specs.Rules.{Rules, empty_book}
@@ -53,6 +53,6 @@ AddedRecordsPass =
 -- Of a file of any format that passes, the bodies that stay when it is compacted pass too, in the format that is written.
 abbrev pub CompactedJournalsPass : Type 0
 CompactedJournalsPass =
-    (format : ℕ) (texts : Texts) (shelf : ℕ) (first : List ℕ) (bodies : List (List ℕ)) (m : Made) → CanBeCopied format texts shelf first bodies m
-    → AreAllBytes (first ∷ bodies) → made_in (book_of_format format texts shelf (first ∷ bodies)) ≡ Some m
-    → FindsNothing format texts (first ∷ bodies) → FindsNothing newest_format texts (copies format texts shelf first bodies m)
+    (format : ℕ) (texts : Texts) (shelf : ℕ) (bodies : List (List ℕ)) (m : Made) → CanBeCopied format texts shelf bodies m
+    → AreAllBytes bodies → made_in (book_of_format format texts shelf bodies) ≡ Some m → m.book.follows ≡ false
+    → FindsNothing format texts bodies → FindsNothing newest_format texts (copies format texts shelf bodies m)

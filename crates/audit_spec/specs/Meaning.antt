@@ -1,5 +1,5 @@
 -- What a yes of an audit means.
-use Rattle.std.specs.Prelude.{◌≡◌, ◌<◌, ◌+◌, ℕ, List, [], ◌∷◌, ◌++◌, length, Option, Some, None, slice_get, ⊤}
+use Rattle.std.specs.Prelude.{◌≡◌, ◌⊎◌, ◌<◌, ◌+◌, ℕ, List, [], ◌∷◌, ◌++◌, length, Option, Some, None, false, slice_get, ⊤}
 use Rattle.script_value.specs.Val.{Val}
 use Rattle.script_value.specs.declared.outcome.TxName.{TxName}
 use Rattle.page_names.specs.Names.{Destination, start, page}
@@ -21,7 +21,7 @@ use Rattle.journal_records.specs.Records.{Record, changes}
 use Rattle.journal_records.specs.Old.{read_record_in}
 use Rattle.journal_spec.specs.Before.{Made}
 use Rattle.journal_spec.specs.Lengths.{own_told}
-use Rattle.journal_spec.specs.Making.{Texts, made, made_in}
+use Rattle.journal_spec.specs.Making.{Texts, made, waited, made_in}
 use Rattle.journal_spec.specs.Old.{told_of, change_next, book_of_format}
 use Rattle.journal_spec.specs.Opening.{ReadsWhole, opened_book}
 use Rattle.journal_spec.specs.Whole.{IsWhole, AreWhole, HasOwnStates}
@@ -77,8 +77,13 @@ free_rules life limit b = record { fuel = most_fuel; life = life; instances = le
 
 -- ---- records
 
+-- the book of a shelf, as that of one that does not follow another one's journal
+abbrev pub unfed : Book → Book
+unfed b = record b { follows = false }
+
 -- This change, whose page is inside these transactions, is what a publish writes on this book for an admitted request with all that the change
--- tells, under some life that a shelf may have and some limit of pages.
+-- tells, under some life that a shelf may have and some limit of pages. A shelf that follows another one's journal has the records that this one
+-- wrote.
 pub record IsPublished (b : Book) (c : Change) (inside : List TxName) : Type 0 where
   pub target : Destination
   pub asked : target_of b c ≡ Some target
@@ -86,7 +91,7 @@ pub record IsPublished (b : Book) (c : Change) (inside : List TxName) : Type 0 w
   pub lives : IsLife life
   pub limit : ℕ
   pub room : 0 < limit
-  pub decided : (t : Ticket) → t.target ≡ target → IsTold c t → (r : Reply) × (publish_comes (free_rules life limit b) b t ≡ records r c inside)
+  pub decided : (t : Ticket) → t.target ≡ target → IsTold c t → (r : Reply) × (publish_comes (free_rules life limit b) (unfed b) t ≡ records r c inside)
 
 -- a tick is above the clock, and any other change is published
 abbrev pub IsDecided : Book → Change → (inside : List TxName) → Type 0
@@ -123,10 +128,11 @@ abbrev pub changes_in : (format : ℕ) → List (List ℕ) → List Change
 changes_in format [] = []
 changes_in format (body ∷ bodies) = told_change (read_record_in format body) ++ changes_in format bodies
 
--- The first ones of these bodies make a book, however many. Each record is lawful behind those before it, and no number stands twice in them.
+-- The first ones of these bodies make a book, however many, unless they tell alone that a shelf followed another one's journal and does so no
+-- longer. Each record is lawful behind those before it, and no number stands twice in them.
 pub record AreLawfulBodies (format : ℕ) (texts : Texts) (shelf : ℕ) (bodies : List (List ℕ)) : Type 0 where
   pub makes : (first : List ℕ) (front rest : List (List ℕ)) → bodies ≡ (first ∷ front) ++ rest
-      → (m : Made) × (made_in (book_of_format format texts shelf (first ∷ front)) ≡ Some m)
+      → (book_of_format format texts shelf (first ∷ front) ≡ waited) ⊎ ((m : Made) × (made_in (book_of_format format texts shelf (first ∷ front)) ≡ Some m))
   pub each : OfEachIn (IsLawfulRecord format) format texts shelf bodies
   pub different : AreDifferent (numbers_of (changes_in format bodies))
 

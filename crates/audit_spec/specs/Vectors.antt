@@ -14,7 +14,7 @@ use Rattle.replay_spec.specs.Book.{Opening, opens, ends, finishes, sweeps}
 use Rattle.machine_states.specs.Machine.{Suspended, in_seq}
 use Rattle.frame_codec.specs.Forms.{form_bytes}
 use Rattle.journal_records.specs.Fields.{name_bytes, Origin, start, answered, origin_bytes, send_byte}
-use Rattle.journal_records.specs.Records.{changes, draws, begin_of, renewal_of, body_of, effects_bytes, names_bytes}
+use Rattle.journal_records.specs.Records.{changes, draws, follows, promotes, begin_of, renewal_of, body_of, effects_bytes, names_bytes}
 use Rattle.journal_records.specs.Old.{read_record_in}
 use Rattle.journal_spec.specs.Making.{Texts}
 use Rattle.audit_spec.specs.declared.word.Word.TheVariants as word
@@ -216,3 +216,35 @@ no_finish :
     ≡ no (record { place = 218; word = word.Run })
 unfolding read_record_in read_within is_utf8 chars encode
 no_finish = refl
+
+-- ---- files of shelves that follow another one's journal, or did
+
+-- the file of a shelf that waits to be fed passes
+of_a_follower : audited 6 texts (body_of follows ∷ []) ≡ yes 1
+unfolding read_record_in
+of_a_follower = refl
+
+-- the file of a shelf that follows passes with what it was fed
+of_one_fed : audited 6 texts (body_of follows ∷ begin_asking ∷ sweep_to 50 ∷ []) ≡ yes 3
+unfolding read_record_in
+of_one_fed = refl
+
+-- the file of a shelf that was promoted before it was fed passes with its own records
+of_one_promoted_at_once : audited 6 texts (body_of follows ∷ body_of promotes ∷ begin_asking ∷ sweep_to 50 ∷ []) ≡ yes 4
+unfolding read_record_in
+of_one_promoted_at_once = refl
+
+-- the file of a shelf that was fed, and promoted then, passes with its own records
+of_one_promoted : audited 6 texts (body_of follows ∷ begin_asking ∷ body_of promotes ∷ sweep_to 50 ∷ []) ≡ yes 4
+unfolding read_record_in
+of_one_promoted = refl
+
+-- a finding is where its record stands, six bytes further on
+fed_below_the_clock : audited 6 texts (body_of follows ∷ begin_asking ∷ sweep_to 50 ∷ sweep_to 49 ∷ []) ≡ no (record { place = 131; word = word.Sweep })
+unfolding read_record_in
+fed_below_the_clock = refl
+
+-- a shelf that does not follow is not promoted
+promoted_alone : audited 6 texts (body_of promotes ∷ begin_asking ∷ []) ≡ is_damaged 8
+unfolding read_record_in
+promoted_alone = refl

@@ -9,7 +9,8 @@ use Rattle.script_nodes.specs.declared.script.SendKind.TheVariants.{Suspend}
 use Rattle.script_nodes.specs.Core.{Core, lit, var, bind, prim, send, no_cores, cores_of}
 use Rattle.script_nodes.specs.Setup.{Named, texts_of}
 use Rattle.core_syntax.specs.Definitions.{expanded}
-use Rattle.core_syntax.specs.Heads.{syntax_of, page_form_of, number_operation_of, test_of, list_operation_of, text_operation_of}
+use Rattle.core_syntax.specs.Heads.{syntax_of, page_form_of}
+use Rattle.prim_spec.specs.Table.{number_operation_of, test_of, list_operation_of, text_operation_of}
 use Rattle.setup_reader.specs.Texts.{setup_of_texts}
 use Rattle.replay_spec.specs.Book.{Opening, Extension, opens, extends, ends}
 use Rattle.machine_states.specs.Machine.{Suspended, in_binding, in_operand}

@@ -1,4 +1,5 @@
 pub mod Looking
+pub mod Named
 pub mod Going
 pub mod All
 pub mod Unwritten

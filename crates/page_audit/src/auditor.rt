@@ -1,8 +1,7 @@
 ghost use Rattle.std.specs.Prelude.{◌≡◌, ◌<◌, IfOk, IsErrOf};
 ghost use Rattle.journal_records.specs.Old.{read_record_in};
-ghost use Rattle.record_audit.specs.AuditSpec.Findings.{shelf_by};
 ghost use Rattle.book_recovery.specs.Found.{HasStates};
-ghost use Rattle.page_audit.specs.Auditing.{IsReady, IsStarted, Begins, Looks, IsWordFor, IsOwnUnless, Concludes};
+ghost use Rattle.page_audit.specs.Auditing.{shelf_named, IsReady, IsStarted, Begins, Looks, IsWordFor, IsOwnUnless, Concludes};
 ghost use Rattle.page_audit.specs.declared.auditor.Finding.TheVariants as finding;
 
 use crate::answer::{AuditFault, Audited};
@@ -29,20 +28,20 @@ pub struct Auditor {
     pub alloc: Global,
     /// The format of the journal.
     pub format: u8,
-    /// Makes the book of the records, for the shelf that the first one names.
+    /// Makes the book of the records, for the shelf that the first one of a setup names.
     pub reader: SoundReader,
     /// How many records there were.
     pub records: u64,
     pub finding: Finding,
 }
 
-// The number of the shelf that the first record of a journal names; 0 where it names none.
-fn named_shelf(alloc: Global, format: u8, body: &[u8]) -> Result<u32, AllocError>
-    ensures { IfOk result (λ shelf. shelf ≡ shelf_by (read_record_in format body.now)) }
+// The number of the shelf that a record names, if it names one.
+fn named_shelf(alloc: Global, format: u8, body: &[u8]) -> Result<Option<u32>, AllocError>
+    ensures { IfOk result (λ shelf. shelf ≡ shelf_named (read_record_in format body.now)) }
 {
     match decode(alloc, format, body)? {
-        Some(Logged::Begin { shelf, .. }) => Ok(shelf),
-        _ => Ok(0),
+        Some(Logged::Begin { shelf, .. }) => Ok(Some(shelf)),
+        _ => Ok(None),
     }
 }
 
@@ -62,16 +61,16 @@ impl Auditor {
         }
     }
 
-    // The first record names the shelf whose book is made.
+    // A record that names a shelf, where nothing was made yet, names that whose book is made.
     fn begin(&mut self, body: &[u8])
-        requires known { 0 < self.old.format }
         ensures { Begins self.old body.now self.new }
     {
-        if self.records > 0 {
+        let Found::Nothing = self.reader.found() else {
             return;
-        }
+        };
         match named_shelf(self.alloc, self.format, body) {
-            Ok(shelf) => self.reader = SoundReader::new(self.alloc, shelf, self.format),
+            Ok(Some(shelf)) => self.reader.name(shelf),
+            Ok(None) => (),
             Err(_) => self.finding = Finding::Memory,
         }
     }

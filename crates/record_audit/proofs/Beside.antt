@@ -5,11 +5,11 @@ use Rattle.replay_spec.specs.Book as spec
 use Rattle.replay_spec.specs.Book.{Change, opens, extends, ends, finishes, sweeps}
 use Rattle.replay_spec.specs.Admission.{is_one}
 use Rattle.replay_spec.specs.Recovery.{number_in, is_repeated}
-use Rattle.instance_book.specs.declared.in_order.InOrder.{InOrder}
-use Rattle.instance_book.specs.declared.book.Book.{Book}
-use Rattle.instance_book.specs.Orders.{numbers_of}
-use Rattle.instance_book.specs.Views.{Beside, book_of}
-use Rattle.instance_book.specs.Standing.{book_under}
+use Rattle.book_redo.specs.InstanceBook.declared.in_order.InOrder.{InOrder}
+use Rattle.book_redo.specs.InstanceBook.declared.book.Book.{Book}
+use Rattle.book_redo.specs.InstanceBook.Orders.{numbers_of}
+use Rattle.book_redo.specs.InstanceBook.Views.{Beside, book_of}
+use Rattle.book_redo.specs.InstanceBook.Standing.{book_under}
 use Rattle.book_redo.specs.JournalSpec.Before.{Made}
 use Rattle.book_redo.specs.JournalSpec.Retaking.{script_for}
 use Rattle.book_redo.specs.JournalSpec.Lengths.{state_by}

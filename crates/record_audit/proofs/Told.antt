@@ -10,16 +10,16 @@ use Rattle.replay_spec.specs.Admission.{◌>>=◌, Place}
 use Rattle.replay_spec.specs.Next.{comes_to}
 use Rattle.replay_spec.specs.Recovery.{again, page_of_numbers, opening_visit, extension_visit}
 use Rattle.server_limits.specs.Limits.{most_fuel}
-use Rattle.machine_states.specs.Machine.{Suspended}
-use Rattle.machine_states.specs.Views.{suspended_of}
-use Rattle.machine_states.specs.declared.frame.Suspended as stored
+use Rattle.book_redo.specs.MachineStates.Machine.{Suspended}
+use Rattle.book_redo.specs.MachineStates.Views.{suspended_of}
+use Rattle.book_redo.specs.MachineStates.declared.frame.Suspended as stored
 use Rattle.book_redo.specs.JournalSpec.Before.{Made}
 use Rattle.book_redo.specs.JournalSpec.Retaking.{Told, told, script_for}
 use Rattle.book_redo.specs.JournalSpec.Lengths.{state_by, told_own}
 use Rattle.book_redo.specs.JournalSpec.Old.{told_at}
-use Rattle.instance_book.specs.declared.book.Book.{Book}
-use Rattle.instance_book.specs.Views.{Beside, book_of}
-use Rattle.instance_book.specs.Standing.{book_under}
+use Rattle.book_redo.specs.InstanceBook.declared.book.Book.{Book}
+use Rattle.book_redo.specs.InstanceBook.Views.{Beside, book_of}
+use Rattle.book_redo.specs.InstanceBook.Standing.{book_under}
 use Rattle.book_redo.specs.Again.{comes_again, ComesAgain}
 use Rattle.book_redo.specs.Told.{told_for}
 use Rattle.audit_spec.specs.Tests.{holds_of, runs_so, same_state, tells_state, tells_own}

@@ -15,10 +15,10 @@ use Rattle.replay_spec.specs.Recovery.{again, page_of_numbers, opening_visit}
 use Rattle.server_limits.specs.Limits.{most_fuel}
 use Rattle.journal_records.specs.Views.{effects_in}
 use Rattle.journal_records.specs.declared.records.PageRecord.{PageRecord}
-use Rattle.instance_book.specs.declared.place.Place.{Place}
-use Rattle.instance_book.specs.declared.book.Book.{Book}
-use Rattle.instance_book.specs.Views.{page_of, pages_of, script_in, no_script}
-use Rattle.instance_book.specs.Standing.{place_of, IsPlacedAt, book_under}
+use Rattle.book_redo.specs.InstanceBook.declared.place.Place.{Place}
+use Rattle.book_redo.specs.InstanceBook.declared.book.Book.{Book}
+use Rattle.book_redo.specs.InstanceBook.Views.{page_of, pages_of, script_in, no_script}
+use Rattle.book_redo.specs.InstanceBook.Standing.{place_of, IsPlacedAt, book_under}
 use Rattle.book_redo.proofs.Landed.{opening_in, opening_is, extension_is}
 use Rattle.audit_spec.specs.Tests.{holds_of, runs_so}
 use Rattle.record_audit.specs.declared.home.Home.{Home}

@@ -6,11 +6,11 @@ use Rattle.replay_spec.specs.Change.{used_by}
 use Rattle.replay_spec.specs.Eviction.{least_used}
 use Rattle.replay_spec.specs.Admission.{is_one}
 use Rattle.journal_records.specs.Records.{Record}
-use Rattle.instance_book.specs.declared.in_order.InOrder.{InOrder}
-use Rattle.instance_book.specs.declared.book.Book.{Book}
-use Rattle.instance_book.specs.Orders.{numbers_of}
-use Rattle.instance_book.specs.Views.{Beside, book_of}
-use Rattle.instance_book.specs.Standing.{book_under}
+use Rattle.book_redo.specs.InstanceBook.declared.in_order.InOrder.{InOrder}
+use Rattle.book_redo.specs.InstanceBook.declared.book.Book.{Book}
+use Rattle.book_redo.specs.InstanceBook.Orders.{numbers_of}
+use Rattle.book_redo.specs.InstanceBook.Views.{Beside, book_of}
+use Rattle.book_redo.specs.InstanceBook.Standing.{book_under}
 use Rattle.book_redo.specs.Redo.{HasToldStates}
 use Rattle.book_redo.specs.JournalSpec.Before.{Made}
 use Rattle.audit_spec.specs.declared.word.Word.{Word}

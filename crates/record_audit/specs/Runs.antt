@@ -15,10 +15,10 @@ use Rattle.server_limits.specs.Limits.{most_fuel}
 use Rattle.journal_records.specs.Fields as fields
 use Rattle.journal_records.specs.Views.{origin_of, page_change}
 use Rattle.journal_records.specs.declared.records.PageRecord.{PageRecord}
-use Rattle.instance_book.specs.declared.place.Place.{Place}
-use Rattle.instance_book.specs.declared.book.Book.{Book}
-use Rattle.instance_book.specs.Views.{page_of, pages_of}
-use Rattle.instance_book.specs.Standing.{book_under}
+use Rattle.book_redo.specs.InstanceBook.declared.place.Place.{Place}
+use Rattle.book_redo.specs.InstanceBook.declared.book.Book.{Book}
+use Rattle.book_redo.specs.InstanceBook.Views.{page_of, pages_of}
+use Rattle.book_redo.specs.InstanceBook.Standing.{book_under}
 use Rattle.audit_spec.specs.Tests.{runs_so}
 use Rattle.record_audit.specs.declared.home.Home.{Home}
 

@@ -1,8 +1,8 @@
 ghost use Rattle.std.specs.Prelude.{◌≡◌, ◌<◌, ◌^◌, true, IfOk, Some};
 ghost use Rattle.script_nodes.specs.Views.{library_of};
-ghost use Rattle.instance_book.specs.Makes.{HasPlaces, HasSomeStates, HasItsStates};
-ghost use Rattle.instance_book.specs.Views.{used_of};
-ghost use Rattle.instance_book.specs.Standing.{book_under};
+ghost use Rattle.book_redo.specs.InstanceBook.Makes.{HasPlaces, HasSomeStates, HasItsStates};
+ghost use Rattle.book_redo.specs.InstanceBook.Views.{used_of};
+ghost use Rattle.book_redo.specs.InstanceBook.Standing.{book_under};
 ghost use Rattle.journal_records.specs.Views.{page_change};
 ghost use Rattle.book_redo.specs.Again.{CanRunAgain};
 ghost use Rattle.audit_spec.specs.Tests as spec;
@@ -10,9 +10,9 @@ ghost use Rattle.audit_spec.specs.Tests.{runs_so};
 ghost use Rattle.record_audit.specs.Faults.{GoesLeast, GoLeast, TellsOwn};
 
 use crate::runs::script_at;
+use book_redo::books::{Book, InOrder, KeptPage, place_of_numbers};
 use book_redo::{is_same_state, state_left, told_state};
 use book_visits::{first_to_go, why_not};
-use instance_book::{Book, InOrder, KeptPage, place_of_numbers};
 use journal_records::{Origin, PageRecord};
 use script_nodes::Library;
 use server_limits::MOST_LIFE;

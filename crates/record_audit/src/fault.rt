@@ -1,7 +1,7 @@
 ghost use Rattle.std.specs.Prelude.{◌<◌, None, Some, IfOk};
 ghost use Rattle.script_nodes.specs.Views.{library_of};
 ghost use Rattle.replay_spec.specs.Book.{ends, finishes, sweeps};
-ghost use Rattle.instance_book.specs.Makes.{HasPlaces, HasSomeStates, HasItsStates};
+ghost use Rattle.book_redo.specs.InstanceBook.Makes.{HasPlaces, HasSomeStates, HasItsStates};
 ghost use Rattle.journal_records.specs.Records.{changes};
 ghost use Rattle.journal_records.specs.Views.{page_change, ending_of, finish_of, logged_of};
 ghost use Rattle.book_redo.specs.Again.{CanRunAgain};
@@ -10,7 +10,7 @@ ghost use Rattle.record_audit.specs.Faults.{IsFaultIn, IsFaultAnyway, IsFaultAlw
 use crate::checks::{can_be_answered, is_admitted, is_due, least_go, tells_own};
 use crate::runs::{ended_runs_so, finish_runs_so, page_runs_so};
 use audit_spec::Word;
-use instance_book::{Book, InOrder};
+use book_redo::books::{Book, InOrder};
 use journal_records::{EndedRecord, FinishRecord, Logged, PageRecord};
 use script_nodes::Library;
 use std::alloc::{AllocError, Global};
@@ -143,5 +143,7 @@ pub fn fault_in(
         Logged::Sweep { clock } => Ok(sweep_fault(book, *clock)),
         Logged::Texts { .. } => Ok(None),
         Logged::Drawn { .. } => Ok(None),
+        Logged::Follow => Ok(None),
+        Logged::Promoted => Ok(None),
     }
 }

@@ -4,10 +4,10 @@ ghost use Rattle.segments.specs.Views.{answer_of, segment_of};
 ghost use Rattle.replay_spec.specs.Book as spec;
 ghost use Rattle.replay_spec.specs.Book.{chain};
 ghost use Rattle.replay_spec.specs.Next.{url_of, answered};
-ghost use Rattle.instance_book.specs.Views.{page_of, pages_of};
+ghost use Rattle.book_redo.specs.InstanceBook.Views.{page_of, pages_of};
 ghost use Rattle.record_audit.specs.Runs.{home_of, comes_behind};
 
-use instance_book::{InOrder, KeptPage, Numbered};
+use book_redo::books::{InOrder, KeptPage, Numbered};
 use instance_cells::Cells;
 use page_names::{PageName, url_text};
 use plain_rerun::rerun;

@@ -2,15 +2,15 @@ ghost use Rattle.std.specs.Prelude.{◌≡◌, IfOk, slice_get};
 ghost use Rattle.script_value.specs.Views.{meaning};
 ghost use Rattle.script_nodes.specs.Views.{library_of};
 ghost use Rattle.replay_spec.specs.Book.{ends, finishes};
-ghost use Rattle.instance_book.specs.Makes.{HasPlaces};
-ghost use Rattle.instance_book.specs.Standing.{named_if};
+ghost use Rattle.book_redo.specs.InstanceBook.Makes.{HasPlaces};
+ghost use Rattle.book_redo.specs.InstanceBook.Standing.{named_if};
 ghost use Rattle.segments.specs.Views.{segment_of};
 ghost use Rattle.journal_records.specs.Views.{page_change, ending_of, finish_of};
 ghost use Rattle.record_audit.specs.Runs.{comes_at, StartRunsSo, AnswerRunsSo, RunsSo};
 
 use crate::home::Home;
 use crate::so::{ends_so, finishes_so, shows_so};
-use instance_book::{Book, Place, place_of_numbers};
+use book_redo::books::{Book, Place, place_of_numbers};
 use instance_cells::Cells;
 use journal_records::{EndedRecord, FinishRecord, Origin, PageRecord};
 use script_nodes::{Library, NamedScript};

@@ -1,7 +1,7 @@
 use Rattle.std.proofs.Common.{◌∙◌, ap, ℕ}
 use Rattle.script_nodes.specs.Views.{library_of}
 use Rattle.replay_spec.specs.Admission.{Place, why_not}
-use Rattle.instance_book.specs.Views.{page_of, instance_of}
+use Rattle.book_redo.specs.InstanceBook.Views.{page_of, instance_of}
 use Rattle.audit_spec.specs.Tests.{is_none, holds_of}
 use Rattle.record_audit.proofs.Compared.{none_by}
 use Rattle.record_audit.proofs.checks.can_be_answered.Goals as goal

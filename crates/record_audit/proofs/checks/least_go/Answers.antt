@@ -2,7 +2,7 @@ use Rattle.std.proofs.Common.{◌∙◌, ap, sym, ℕ, ◌==◌}
 use Rattle.script_nodes.specs.Views.{library_of}
 use Rattle.journal_records.specs.Views.{origin_of}
 use Rattle.journal_records.specs.declared.records.Origin.{Origin}
-use Rattle.instance_book.specs.Standing.{book_under}
+use Rattle.book_redo.specs.InstanceBook.Standing.{book_under}
 use Rattle.book_redo.proofs.Landed.{opening_is}
 use Rattle.audit_spec.specs.Tests.{least_go}
 use Rattle.record_audit.proofs.Compared.{no_numbers}

@@ -1,8 +1,8 @@
 use Rattle.std.proofs.Common.{◌≡◌, ◌∙◌, ap, sym, subst, ◌==◌, false, Option, option_map, arith}
 use Rattle.std.proofs.lemmas.Bool.Decides.{nat_tests}
 use Rattle.script_nodes.specs.Views.{library_of}
-use Rattle.machine_states.specs.Views.{suspended_of}
-use Rattle.machine_states.specs.declared.frame.Suspended as stored
+use Rattle.book_redo.specs.MachineStates.Views.{suspended_of}
+use Rattle.book_redo.specs.MachineStates.declared.frame.Suspended as stored
 use Rattle.journal_records.specs.Views.{page_change}
 use Rattle.book_redo.specs.JournalSpec.Retaking.{script_for}
 use Rattle.book_redo.specs.Again.{ComesTo}

@@ -1,7 +1,7 @@
 use Rattle.std.proofs.Common.{◌≡◌, ◌∙◌, ap, sym, ℕ, true, false, Some}
 use Rattle.script_nodes.specs.Views.{library_of}
 use Rattle.replay_spec.specs.Recovery.{number_in, is_repeated}
-use Rattle.instance_book.specs.Standing.{book_under}
+use Rattle.book_redo.specs.InstanceBook.Standing.{book_under}
 use Rattle.journal_records.specs.Views.{page_change}
 use Rattle.audit_spec.specs.Tests.{goes_on, is_admitted, runs_so, least_go, is_due, is_in_time, tells_own}
 use Rattle.record_audit.proofs.Words.{at_run, at_evicted, at_deadline, at_state, at_none}

@@ -4,7 +4,7 @@ use Rattle.script_nodes.specs.Views.{library_of}
 use Rattle.page_names.specs.Names.{start}
 use Rattle.segments.specs.Views.{segment_of}
 use Rattle.journal_records.specs.Views.{effects_in}
-use Rattle.instance_book.specs.Standing.{book_under}
+use Rattle.book_redo.specs.InstanceBook.Standing.{book_under}
 use Rattle.audit_spec.specs.Tests.{ends_so}
 use Rattle.record_audit.specs.Runs.{comes_at}
 use Rattle.record_audit.proofs.Visits.{holds_there}

@@ -4,9 +4,9 @@ use Rattle.segments.specs.Views.{answer_of}
 use Rattle.replay_spec.specs.Tape as spec
 use Rattle.replay_spec.specs.Book.{Page, chain}
 use Rattle.replay_spec.specs.Next.{answered}
-use Rattle.instance_book.specs.declared.numbered.Numbered.{Numbered}
-use Rattle.instance_book.specs.declared.page.KeptPage.{KeptPage}
-use Rattle.instance_book.specs.Views.{page_of, pages_of}
+use Rattle.book_redo.specs.InstanceBook.declared.numbered.Numbered.{Numbered}
+use Rattle.book_redo.specs.InstanceBook.declared.page.KeptPage.{KeptPage}
+use Rattle.book_redo.specs.InstanceBook.Views.{page_of, pages_of}
 use Rattle.record_audit.specs.Runs.{home_of}
 use Rattle.record_audit.proofs.Chains.{IsLeft, left_step, left_none}
 use Rattle.record_audit.proofs.home.Home.newest_first.Goals as goal

@@ -2,7 +2,7 @@ use Rattle.std.proofs.Common.{◌-◌, map, option_map}
 use Rattle.segments.specs.Views.{answer_of}
 use Rattle.replay_spec.specs.Book.{chain}
 use Rattle.replay_spec.specs.Next.{answered}
-use Rattle.instance_book.specs.Views.{page_of, pages_of}
+use Rattle.book_redo.specs.InstanceBook.Views.{page_of, pages_of}
 use Rattle.record_audit.specs.Runs.{home_of}
 use Rattle.record_audit.proofs.Chains.{IsLeft}
 use Rattle.record_audit.proofs.home.Home.newest_first.Given as goal
