@@ -57,6 +57,16 @@ own_front {D = D} xs all p own j k n a b = own j k n (there j a) (there k b)
         subst (λ (ys : List (Shelf D Counting)). slice_get (numbers_in ys) i ≡ Some n) p.1
         (subst (λ (ns : List ℕ). slice_get ns i ≡ Some n) (sym (map-append (λ s. s.rules.number) xs p.0)) (in_front (numbers_in xs) (numbers_in p.0) i n e))
 
+-- where no shelf is left, every disk is at home
+pub none_out : {D : Type 0} (xs : List (Shelf D Counting)) (out : ℕ → Bool) → xs ≡ [] → IsHome xs out → AreHome out
+none_out {D = D} xs out none home n = by_out (out n) refl
+  where
+    by_out : (b : Bool) → out n ≡ b → out n ≡ false
+    by_out false is = is
+    by_out true is =
+        let there = (subst (λ (ys : List (Shelf D Counting)). IsHome ys out) none home).only n is in
+        absurd (let is_in : None ≡ Some n = there.1 in cc)
+
 -- its disks went home, and those of the others are out
 pub home_last : {D : Type 0} (xs all : List (Shelf D Counting)) (x : Shelf D Counting) (old new : RackView) → IsPrefix (xs ++ x ∷ []) all
     → HaveOwnNumbers all → IsHome (xs ++ x ∷ []) (shelves_of old).out → GivesOne x.rules.number old new → IsHome xs (shelves_of new).out

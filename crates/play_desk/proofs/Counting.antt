@@ -73,6 +73,7 @@ told_rise before now (reply.down count) told e = absurd (let no : ⊥ = cc in no
 told_rise before now (reply.oversize length) told e = absurd (let no : ⊥ = cc in no)
 told_rise before now (reply.journal_full length) told e = absurd (let no : ⊥ = cc in no)
 told_rise before now (reply.compacted length) told e = absurd (let no : ⊥ = cc in no)
+told_rise before now reply.following told e = absurd (let no : ⊥ = cc in no)
 told_rise before now reply.worn told e = absurd (let no : ⊥ = cc in no)
 told_rise before now reply.memory told e = absurd (let no : ⊥ = cc in no)
 told_rise before now (reply.swept count) told e = absurd (let no : ⊥ = cc in no)

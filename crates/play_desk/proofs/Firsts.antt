@@ -1,5 +1,5 @@
 -- A setup that is read can be told, and an empty journal has room for it.
-use Rattle.std.proofs.Common.{◌≡◌, ◌∙◌, ap, sym, subst, refl, inl, inr, ℕ, ◌+◌, ◌*◌, ◌^◌, ◌<◌, ◌≤◌, suc, List, [], ◌∷◌, length, drop, length-append, Err, arith}
+use Rattle.std.proofs.Common.{◌≡◌, ◌∙◌, ap, sym, subst, refl, inl, inr, ℕ, ◌+◌, ◌*◌, ◌^◌, ◌<◌, ◌≤◌, suc, false, List, [], ◌∷◌, length, drop, length-append, Err, arith}
 use Rattle.std.specs.Prelude.{flat_map}
 use Rattle.std.specs.List.{AllByRecursion}
 use Rattle.std.proofs.lemmas.List.{length-map}
@@ -8,8 +8,8 @@ use Rattle.script_nodes.specs.Setup.{Named, text_of, texts_of}
 use Rattle.setup_reader.specs.Limits.{AreShort}
 use Rattle.setup_reader.specs.Texts.{IsReadSetup, setup_of_texts}
 use Rattle.setup_reader.proofs.Edited.{read_short, sound}
-use Rattle.journal_records.specs.Fields.{ScriptFits, script_bytes}
-use Rattle.journal_records.specs.Records.{IsInGrammar, begin_of}
+use Rattle.shelf.specs.JournalRecords.Fields.{ScriptFits, script_bytes}
+use Rattle.shelf.specs.JournalRecords.Records.{IsInGrammar, begin_of}
 use Rattle.shelf.specs.JournalSpec.Before.{Made}
 use Rattle.shelf.specs.JournalSpec.Making.{nothing, damaged, other, began}
 use Rattle.shelf.specs.JournalSpec.Bytes.{book_in_bytes}
@@ -60,7 +60,7 @@ pub has_room : (number : ℕ) (scripts : List Named) (len : ℕ) → IsReadSetup
 has_room number scripts len read long =
     let n = length (first_body scripts number) in
     let size = first_size number scripts read in
-    let is : 14 + n + 0 ≡ long.made.book.length = ap (λ (m : Made). m.book.length) (same_Some (began number n scripts) long.made long.opened) in
+    let is : 14 + n ≡ long.made.book.length = ap (λ (m : Made). m.book.length) (same_Some (began false number 8 n scripts) long.made long.opened) in
     omega (arith, size, is, long.is, long.long)
 
 -- nor is it too long by itself

@@ -10,12 +10,12 @@ use Rattle.replay_spec.specs.Step.{lost, kept}
 use Rattle.replay_spec.specs.Book.{Book, are_same}
 use Rattle.replay_spec.specs.Recovery.{of_length}
 use Rattle.replay_spec.specs.Rules.{Rules}
+use Rattle.replay_spec.proofs.Barred.{recovered_setup}
 use Rattle.shelf.specs.JournalSpec.Making.{Making, damaged, other}
 use Rattle.shelf.specs.JournalSpec.Bytes.{book_in_bytes}
 use Rattle.shelf.specs.JournalSpec.Before.{made_of}
 use Rattle.shelf.specs.JournalSpec.Standing.{IsBook, Between, Held, Stands, OpensThroughout, if_kept}
 use Rattle.shelf.specs.JournalSpec.Laws.{ImagesMakeBooks}
-use Rattle.shelf.proofs.JournalSpec.Setups.{recovered_setup}
 use Rattle.shelf.specs.Faults.{IsAnother}
 use Rattle.shelf.specs.Views.{book_in, rules_of}
 use Rattle.shelf.specs.Files.{LeavesNewest}

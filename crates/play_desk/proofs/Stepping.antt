@@ -20,6 +20,7 @@ use Rattle.replay_spec.specs.Step as spec
 use Rattle.replay_spec.specs.Runs.{Shelf}
 use Rattle.replay_spec.specs.Laws as laws
 use Rattle.replay_spec.proofs.Admitted.{admit_drawn}
+use Rattle.replay_spec.proofs.Barred.{barred_by}
 use Rattle.shelf.specs.Visits.{ticket_of, reply_of, Ticket}
 use Rattle.shelf.specs.declared.shelf.Shelf as code
 use Rattle.shelf.specs.Views.{compacted_of, fate_by, swept_of}
@@ -197,12 +198,13 @@ pub left_alone : (b c : Book) (nonce : ℕ) (e : Reply) → laws.Takes b nonce (
 left_alone b c nonce e h = grind (arith, h)
 
 -- what was taken was admitted
-none_stands : (down : Option Doubt) (worn_out : Bool) (o : Option Refusal) (n k : ℕ) → IfSome (or_else (spec.down_by down) (or_else (when worn_out spec.worn) (spec.refused_by o))) (λ x. spec.taken n k ≡ x) → o ≡ None
-none_stands (Some doubt) worn_out o n k h = absurd (cc)
-none_stands None true o n k h = absurd (cc)
-none_stands None false None n k h = refl
-none_stands None false (Some r) n k h = absurd (cc)
+none_stands : (down : Option Doubt) (follows worn_out : Bool) (o : Option Refusal) (n k : ℕ) → IfSome (or_else (barred_by down follows) (or_else (when worn_out spec.worn) (spec.refused_by o))) (λ x. spec.taken n k ≡ x) → o ≡ None
+none_stands (Some doubt) follows worn_out o n k h = absurd (cc)
+none_stands None true worn_out o n k h = absurd (cc)
+none_stands None false true o n k h = absurd (cc)
+none_stands None false false None n k h = refl
+none_stands None false false (Some r) n k h = absurd (cc)
 
 pub was_admitted : (b c : Book) (d : Destination) (n k : ℕ) → IfSome (spec.no_take b d) (λ x. spec.taken n k ≡ x) → c ≡ draw b → refusal_of (admit c d) ≡ None
 was_admitted b c d n k h drawn =
-    ap (λ (x : Book). refusal_of (admit x d)) drawn ∙ (ap refusal_of (admit_drawn b d) ∙ none_stands b.down (b.drawn == 2 ^ 62) (refusal_of (admit b d)) n k h)
+    ap (λ (x : Book). refusal_of (admit x d)) drawn ∙ (ap refusal_of (admit_drawn b d) ∙ none_stands b.down b.follows (b.drawn == 2 ^ 62) (refusal_of (admit b d)) n k h)

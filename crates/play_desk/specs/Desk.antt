@@ -28,6 +28,7 @@ told (spec.oversize length) = reply.Oversize length
 told (spec.journal_full length) = reply.JournalFull length
 told (spec.disk_failed count) = reply.DiskFault count
 told (spec.down count) = reply.Down count
+told spec.following = reply.Following
 told spec.worn = reply.Worn
 told _ = reply.Memory
 

@@ -13,12 +13,11 @@ ghost use Rattle.play_desk.specs.Staff.{HoldsTicket, IsFit, KeepsOwn, CompactsSh
 use crate::answer::answer_to;
 use disk_trio::Disks;
 use http_forms::path_and_query;
-use machine_states::Segment;
 use page_names::{Target, parse_target};
 use replay_spec::refused_is_unchanged;
 use script_nodes::Library;
 use script_value::{Refusal, Reply};
-use shelf::{Shelf, Ticket, run_ticket, tickets_go_on_to_fit};
+use shelf::{Segment, Shelf, Ticket, run_ticket, tickets_go_on_to_fit};
 use std::alloc::Global;
 use std::mem;
 use web_disk::Disk;

@@ -145,9 +145,10 @@ faulted = refl
 pub not_served :
     map (reply_text 2)
     (replies.Fuel 9 ∷ replies.ShelfFull 1 ∷ replies.Oversize 1048577 ∷ replies.JournalFull 9 ∷ replies.DiskFault 1
-    ∷ replies.Down 1 ∷ replies.Worn ∷ replies.Memory ∷ [])
+    ∷ replies.Down 1 ∷ replies.Following ∷ replies.Worn ∷ replies.Memory ∷ [])
     ≡ codes "2 503 fuel\n" ∷ codes "2 503 shelf-full\n" ∷ codes "2 500 oversize\n" ∷ codes "2 503 journal-full\n"
-    ∷ codes "2 503 disk\n" ∷ codes "2 503 down\n" ∷ codes "2 503 worn\n" ∷ codes "2 503 memory\n" ∷ []
+    ∷ codes "2 503 disk\n" ∷ codes "2 503 down\n" ∷ codes "2 503 following\n" ∷ codes "2 503 worn\n" ∷ codes "2 503 memory\n"
+    ∷ []
 unfolding reply_text digits
 not_served = refl
 

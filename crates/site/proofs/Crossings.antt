@@ -7,15 +7,15 @@ use Rattle.std.proofs.MapsCrossing as maps
 use Rattle.script_value.proofs.value.Items.TheLaws.TheKnot as knot
 use Rattle.instance_cells.specs.contracts.cells.Cells as Cells
 use Rattle.transactions.specs.contracts.closed.Closed as Closed
-use Rattle.machine_states.specs.contracts.frame.Frame as Frame
-use Rattle.machine_states.specs.contracts.frame.Suspended as Suspended
+use Rattle.shelf.specs.InstanceBook.KeptStates.MachineStates.contracts.frame.Frame as Frame
+use Rattle.shelf.specs.InstanceBook.KeptStates.MachineStates.contracts.frame.Suspended as Suspended
 use Rattle.web_cells.specs.contracts.shades.Shades as Shades
 use Rattle.shelf.specs.InstanceBook.contracts.book.Book as Book
 use Rattle.instance_cells.specs.contracts.effect.Effect as Effect
-use Rattle.journal_records.specs.contracts.records.Origin as Origin
-use Rattle.journal_records.specs.contracts.records.PageRecord as PageRecord
-use Rattle.journal_records.specs.contracts.records.EndedRecord as EndedRecord
-use Rattle.journal_records.specs.contracts.records.FinishRecord as FinishRecord
+use Rattle.shelf.specs.JournalRecords.contracts.records.Origin as Origin
+use Rattle.shelf.specs.JournalRecords.contracts.records.PageRecord as PageRecord
+use Rattle.shelf.specs.JournalRecords.contracts.records.EndedRecord as EndedRecord
+use Rattle.shelf.specs.JournalRecords.contracts.records.FinishRecord as FinishRecord
 use Rattle.shelf.specs.InstanceBook.contracts.after.After as After
 use Rattle.shelf.specs.InstanceBook.contracts.after.Show as Show
 use Rattle.shelf.specs.InstanceBook.contracts.change.Opening as Opening
@@ -26,8 +26,10 @@ use Rattle.shelf.specs.InstanceBook.contracts.change.Change as Change
 use Rattle.page_journal.specs.contracts.journal.Journal as Journal
 use Rattle.page_journal.proofs.journal.Journal.TheSendSync as journals
 use Rattle.shelf.proofs.rules.Rules.TheSendSync as rules
+use Rattle.shelf.proofs.follower.Fed.TheSendSync as feds
 use Rattle.shelf.specs.contracts.doubt.Work as Work
 use Rattle.shelf.specs.contracts.doubt.Doubt as Doubt
+use Rattle.shelf.specs.contracts.follower.Follower as Follower
 use Rattle.disk_trio.specs.contracts.trio.Disks as Disks
 use Rattle.disk_trio.proofs.side.Side.TheSendSync as sides
 use Rattle.shelf.specs.OfFileNotes.contracts.note.Note as Note
@@ -132,6 +134,9 @@ work = search (sendable, change) depth 40 fits 100000
 doubt : IsSend Doubt.the_field.row
 doubt = search (sendable, work) depth 40 fits 100000
 
+follower : IsSend Follower.the_field.row
+follower = search (sendable, crosses, in_order, feds.the_field_send) depth 40 fits 100000
+
 note : IsSend Note.the_field.row
 note = search (sendable, crosses) depth 40 fits 100000
 
@@ -160,7 +165,7 @@ journal : (D : RattleType) → IsSend D → IsSend (Journal.the_field D).row
 journal D d = search (sendable, crosses, journals.the_field_send) depth 40 fits 100000
 
 pub shelf : (D N : RattleType) → IsSend D → IsSend N → IsSend (Shelf.the_field D N).row
-shelf D N d n = search (sendable, journal, book, library, doubt, rules.the_field_send, file) depth 40 fits 100000
+shelf D N d n = search (sendable, journal, book, library, doubt, follower, rules.the_field_send, file) depth 40 fits 100000
 
 opened : (D N : RattleType) → IsSend (Opened.the_field D N).row
 opened D N = search (sendable, crosses) depth 40 fits 100000
@@ -242,6 +247,9 @@ work_sync = search (sendable, change_sync) depth 40 fits 100000
 doubt_sync : IsSync Doubt.the_field.row
 doubt_sync = search (sendable, work_sync) depth 40 fits 100000
 
+follower_sync : IsSync Follower.the_field.row
+follower_sync = search (sendable, crosses, in_order_sync, feds.the_field_sync) depth 40 fits 100000
+
 note_sync : IsSync Note.the_field.row
 note_sync = search (sendable, crosses) depth 40 fits 100000
 
@@ -270,7 +278,7 @@ journal_sync : (D : RattleType) → IsSync D → IsSync (Journal.the_field D).ro
 journal_sync D d = search (sendable, crosses, journals.the_field_sync) depth 40 fits 100000
 
 pub shelf_sync : (D N : RattleType) → IsSync D → IsSync N → IsSync (Shelf.the_field D N).row
-shelf_sync D N d n = search (sendable, journal_sync, book_sync, library_sync, doubt_sync, rules.the_field_sync, file_sync) depth 40 fits 100000
+shelf_sync D N d n = search (sendable, journal_sync, book_sync, library_sync, doubt_sync, follower_sync, rules.the_field_sync, file_sync) depth 40 fits 100000
 
 opened_sync : (D N : RattleType) → IsSync (Opened.the_field D N).row
 opened_sync D N = search (sendable, crosses) depth 40 fits 100000

@@ -1,6 +1,7 @@
 pub mod Replies
 pub mod Outs
 pub mod Sounds
+pub mod Following
 pub mod Holding
 pub mod Calls
 pub mod Turns

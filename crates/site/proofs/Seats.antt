@@ -10,7 +10,7 @@ use Rattle.script_nodes.specs.declared.library.Library as kept
 use Rattle.script_value.specs.Val.{Val}
 use Rattle.page_names.specs.Names.{Destination}
 use Rattle.web_disk.specs.View.{View}
-use Rattle.machine_states.specs.declared.segment.Segment.{Segment}
+use Rattle.shelf.specs.InstanceBook.KeptStates.MachineStates.declared.segment.Segment.{Segment}
 use Rattle.shelf.specs.Visits.{Ticket, ticket_of, IsRunnable}
 use Rattle.shelf.specs.Views.{IsRunIfAny}
 use Rattle.lock_row.specs.Spots.{Spot, spot, IsOf, At, caller_at, home_of}

@@ -1,7 +1,7 @@
 -- A shelf between turns: as it was opened, and one event more.
-use Rattle.std.proofs.Common.{◌≡◌, ◌⊎◌, inl, inr, ℕ, ◌≤◌, ◌<◌, ◌^◌, ◌+◌, length, Bool, List, [], ◌∷◌, ◌++◌, Some, IsTrue, refl, sym, ◌∙◌, ap, subst, arith, append_assoc, length-append}
+use Rattle.std.proofs.Common.{◌≡◌, ◌⊎◌, inl, inr, ℕ, ◌≤◌, ◌<◌, ◌^◌, ◌+◌, length, Bool, true, List, [], ◌∷◌, ◌++◌, Some, IsTrue, refl, sym, ◌∙◌, ap, subst, arith, append_assoc, length-append}
 use mathlib.Core.List.{IsPrefix}
-use Rattle.setup_reader.specs.Texts.{setup_of_texts}
+use Rattle.shelf.specs.SetupReader.Texts.{setup_of_texts}
 use Rattle.web_disk.specs.View.{View, LeavesOnly}
 use Rattle.web_disk.proofs.Moments.{started}
 use Rattle.page_journal.proofs.Mending.{leaves_then}
@@ -21,19 +21,21 @@ use Rattle.history_spec.specs.Histories.{Entry, MayCome, fate_by, tickets_left}
 use Rattle.history_spec.specs.Laws.{tickets_taken}
 use Rattle.history_spec.specs.Kept.{IsKept}
 use Rattle.history_spec.proofs.Keeping.{kept_on}
+use Rattle.history_spec.proofs.Members.{contains_none}
 use Rattle.shelf_lock.proofs.Prefixes.{prefix_self}
 use Rattle.shelf.proofs.Owned.{leaves_as}
+use Rattle.shelf.proofs.Quiet.{untouched}
 use Rattle.shelf.specs.declared.rules.Rules as limits_of
 use Rattle.shelf.specs.declared.shelf.Shelf.{Shelf}
 use Rattle.shelf.specs.Files.{LeavesNewest}
 use Rattle.shelf.specs.Owning.{HoldsOwnRecords, StandsOwn}
 use Rattle.shelf.specs.Views as views
 use Rattle.shelf.specs.Views.{IsInOrder, IsEvent, HasGiven, book_in, shelf_of, rules_of}
-use Rattle.shelf.specs.Events.{TellsCount, HasMoments, HasOwnMoments}
+use Rattle.shelf.specs.Events.{TellsCount, HasMoments, HasOwnMoments, IsLeftAlone}
 use Rattle.site.specs.declared.opening.Opening.{Opening}
 use Rattle.site.specs.Entries.{entry}
 use Rattle.site.specs.Openings.{IsOwnOpening, start_of, source_of, count_of, HasLegal, book_then}
-use Rattle.site.specs.Sound.{AreOut, IsSound, HasItsHistory, MakesSome, IsLeft, StandsFor}
+use Rattle.site.specs.Sound.{AreOut, IsSound, HasItsHistory, MakesSome, IsLeft, StandsFor, StaysAsOpened}
 use Rattle.site.proofs.Outs.{none_out, out_then, stepped_out, stepped_fresh}
 use Rattle.site.proofs.Replies.{same_fate, counted, take_tells}
 
@@ -108,6 +110,10 @@ module _ {D N : Type 0} (view : D → View) (tells : Bool) (coming : N → ℕ �
                 begins = prefix_self none;
                 makes = makes_either n (rules_of s.rules) m b b image its.stands.1.1.1 (law setup_of_texts n b (if_kept m b) its.stands.1.0 image (its.stands.1.1.0 image (only_now image left)));
               });
+        };
+        followed = λ f. record {
+          book = refl;
+          nothing = record { answered = λ e there. absurd (contains_none e there); alone = untouched v };
         };
         untouched = λ e. refl;
       }
@@ -226,8 +232,9 @@ module _ {D N : Type 0} (view : D → View) (tells : Bool) (coming : N → ℕ �
         → t.rules ≡ s.rules → t.library ≡ s.library → count_of view s ≤ count_of view t
         → (IsTrue tells → LeavesOnly (view o.shelf.value.journal.disk) (view t.journal.disk) (MakesSome view tells coming o))
         → (IsOwnOpening view tells o → HasItsHistory view tells coming o t (es ++ e ∷ []))
+        → ((start_of view o).book.follows ≡ true → StaysAsOpened view tells coming o t (es ++ e ∷ []))
         → IsSound view tells coming o t (es ++ e ∷ [])
-    sound_push e order out nonces rules library later ever history = record {
+    sound_push e order out nonces rules library later ever history followed = record {
       in_order = order;
       opened = p.opened;
       out = out;
@@ -238,6 +245,7 @@ module _ {D N : Type 0} (view : D → View) (tells : Bool) (coming : N → ℕ �
       counted = p.counted;
       ever = ever;
       history = history;
+      followed = followed;
       untouched = λ none. absurd (let no = ap length none in omega (arith, no, length-append es (e ∷ [])));
     }
 
@@ -265,6 +273,9 @@ module _ {D N : Type 0} (view : D → View) (tells : Bool) (coming : N → ℕ �
                     (subst (λ (r : limits_of.Rules). StandsOwn (rules_of r) r.number (view s.journal.disk) (book_in view s)) p.rules (h.own.own told)));
                 ever = λ told. subst (λ d. LeavesOnly v0 (view d) (IsLeft view tells coming o es)) (sym disk_is) (h.ever told);
               };
+          followed = λ f.
+              let h = (p.followed f).nothing in
+              record { answered = h.answered; alone = subst (λ d. IsLeftAlone v0 (view d)) (sym disk_is) h.alone };
           later = (let low = p.later in let same = ap (λ d. (view d).faults) disk_is in omega arith);
         };
         coming_is = λ k. ap (λ n. coming n k) nonces_are ∙ p.nonces k;

@@ -1,5 +1,5 @@
 -- What a turn at one lock tells its pass.
-use Rattle.std.proofs.Common.{arith, ◌+◌, ◌≡◌, ◌==◌, ◌≤◌, ◌<◌, inl, inr, ℕ, Bool, true, false, cond, List, [], ◌∷◌, ◌++◌, map, refl, sym, ◌∙◌, ap, subst}
+use Rattle.std.proofs.Common.{arith, ◌+◌, ◌≡◌, ◌==◌, ◌≤◌, ◌<◌, inl, inr, ℕ, Bool, true, false, cond, List, [], ◌∷◌, ◌++◌, refl, sym, ◌∙◌, ap, subst}
 use Rattle.std.specs.Prelude.{length, Result, Ok, Err, IfOk, MatchResult}
 use Rattle.std.proofs.lemmas.List.{append-nil, length-map}
 use Rattle.std.proofs.lemmas.List.Elements.{Contains-push}

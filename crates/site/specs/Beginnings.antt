@@ -9,9 +9,9 @@ use Rattle.web_disk.specs.View.{View}
 use Rattle.script_nodes.specs.Setup.{Named, Library}
 use Rattle.script_nodes.specs.Views.{library_of}
 use Rattle.script_nodes.specs.declared.library.Library as kept
-use Rattle.setup_reader.specs.Texts.{setup_of_texts}
+use Rattle.shelf.specs.SetupReader.Texts.{setup_of_texts}
 use Rattle.replay_spec.specs.Book.{Book}
-use Rattle.journal_records.specs.Records.{IsInGrammar, begin_of}
+use Rattle.shelf.specs.JournalRecords.Records.{IsInGrammar, begin_of}
 use Rattle.shelf.specs.JournalSpec.Standing.{IsOneOf}
 use Rattle.shelf.specs.declared.begin.BeginFault.{BeginFault}
 use Rattle.shelf.specs.declared.begin.BeginFault.TheVariants.{DiskFault, Memory}

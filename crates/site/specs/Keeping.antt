@@ -10,7 +10,7 @@ use Rattle.page_names.specs.Views.{target_of}
 use Rattle.web_disk.specs.View.{View}
 use Rattle.replay_spec.specs.Step as step
 use Rattle.shelf.specs.Visits.{Ticket, ticket_of, reply_of}
-use Rattle.machine_states.specs.declared.segment.Segment.{Segment}
+use Rattle.shelf.specs.InstanceBook.KeptStates.MachineStates.declared.segment.Segment.{Segment}
 use Rattle.shelf.specs.Views.{IsRunIfAny, book_in, library_in, taken_of, compacted_of}
 use Rattle.shelf.specs.Tickets.{GoesOnFromItsPage}
 use Rattle.site.specs.declared.kept.KeptShelf.{KeptShelf}

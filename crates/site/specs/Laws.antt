@@ -7,7 +7,7 @@ use Rattle.replay_spec.specs.Laws.{Leaves, IsOn, IsRefusal, without_effect}
 use Rattle.history_spec.specs.Histories.{Entry}
 use Rattle.history_spec.specs.Laws.{moment_of}
 use Rattle.site.specs.declared.opening.Opening.{Opening}
-use Rattle.setup_reader.specs.Texts.{setup_of_texts}
+use Rattle.shelf.specs.SetupReader.Texts.{setup_of_texts}
 use Rattle.shelf.specs.JournalSpec.Standing.{IsOneOf}
 use Rattle.shelf.specs.Opening.{IsOfNow}
 use Rattle.site.specs.Openings.{scripts_in, IsOwnOpening, start_of, source_of, book_then}

@@ -1,14 +1,16 @@
 -- A shelf as it was opened, and what its disk stands for when its history is over.
-use Rattle.std.specs.Prelude.{◌≤◌, ◌⊎◌, ℕ, List}
+use Rattle.std.specs.Prelude.{◌≡◌, ◌≤◌, ◌⊎◌, ℕ, List, Contains, true}
 use mathlib.Core.List.{IsPrefix}
 use Rattle.web_disk.specs.View.{View, LeavesOnly}
-use Rattle.setup_reader.specs.Texts.{setup_of_texts}
+use Rattle.shelf.specs.SetupReader.Texts.{setup_of_texts}
 use Rattle.shelf.specs.JournalSpec.Standing.{MakesIn, Stands}
 use Rattle.replay_spec.specs.Book.{Book}
 use Rattle.replay_spec.specs.Runs.{Shelf}
 use Rattle.replay_spec.specs.Step.{kept, recovered}
+use Rattle.shelf.specs.Events.{IsLeftAlone}
 use Rattle.shelf.specs.Files.{LeavesNewest}
 use Rattle.shelf.specs.Owning.{HoldsOwnRecords, StandsOwn}
+use Rattle.history_spec.specs.Following.{IsAnsweredSo}
 use Rattle.history_spec.specs.Histories.{Entry, IsLegal, IsOpened, book_behind}
 
 -- A shelf as it was opened: its number; the rules of its events and its book; the nonces that its source gives; what contracts see of its
@@ -52,12 +54,20 @@ pub record StandsForBook (told : Type 0) (o : Opened) (disk : View) (es : List E
   pub stands : told → StandsOwn o.start.rules o.number disk (book_then o es)
   pub ever : told → LeavesOnly o.disk disk (IsLeft o es)
 
+-- Nothing became of a shelf that followed another one's journal when it was opened: each entry was answered as such a shelf answers, so no
+-- visit was shown a page; and its disk was left alone.
+pub record HasFollowed (o : Opened) (disk : View) (es : List Entry) : Type 0 where
+  pub answered : (e : Entry) → Contains es e → IsAnsweredSo o.start.book e.event e.reply
+  pub alone : IsLeftAlone o.disk disk
+
 -- What is left of a shelf after this history. The disk stands for a book, and a crash at any moment since the opening left what makes
--- one; whatever a crash leaves of it is of the newest format; its count of faults has not fallen. Of a shelf that was opened as an own one this is the book of the history, which is legal.
+-- one; whatever a crash leaves of it is of the newest format; its count of faults has not fallen. Of a shelf that was opened as an own one
+-- this is the book of the history, which is legal. A shelf that follows another one's journal showed no page, and its disk is as it was.
 pub record HasEnded (told : Type 0) (o : Opened) (disk : View) (es : List Entry) : Type 0 where
   pub opened : IsOpened o.start.book
   pub stands : told → (b : Book) × Stands setup_of_texts o.number disk b
   pub ever : told → LeavesOnly o.disk disk (MakesSome o)
   pub newest : told → LeavesNewest disk
   pub history : o.IsOwn → StandsForBook told o disk es
+  pub followed : o.start.book.follows ≡ true → HasFollowed o disk es
   pub later : o.disk.faults ≤ disk.faults

@@ -18,7 +18,7 @@ use Rattle.shelf.specs.Visits.{Ticket, ticket_of}
 use Rattle.site.specs.declared.entry.KeptEntry.{KeptEntry}
 use Rattle.site.specs.declared.opening.Opening.{Opening}
 use Rattle.site.specs.declared.site.Site.{Site}
-use Rattle.machine_states.specs.declared.segment.Segment.{Segment}
+use Rattle.shelf.specs.InstanceBook.KeptStates.MachineStates.declared.segment.Segment.{Segment}
 use Rattle.shelf.specs.Views.{IsRunIfAny}
 use Rattle.site.specs.Openings.{opened_library}
 use Rattle.site.specs.Passes.{Spots, IsSeat, HoldsTicket, Took, Published, Swept, Compacted, Ticked, Known}

@@ -1,5 +1,5 @@
 -- What holds of a shelf between turns.
-use Rattle.std.specs.Prelude.{◌≡◌, ◌≤◌, ◌<◌, ◌^◌, ◌+◌, length, ℕ, Bool, IsTrue, List, [], map, Contains, None, Result, IfOk, IfErr, ⊤}
+use Rattle.std.specs.Prelude.{◌≡◌, ◌≤◌, ◌<◌, ◌^◌, ◌+◌, length, ℕ, Bool, true, IsTrue, List, [], map, Contains, None, Result, IfOk, IfErr, ⊤}
 use Rattle.script_value.specs.Val.{Val}
 use Rattle.script_value.specs.declared.outcome.Reply.{Reply}
 use Rattle.script_value.specs.declared.outcome.Reply.TheVariants as reply
@@ -27,9 +27,11 @@ pub record AreOut (out : List ℕ) (es : List Entry) : Type 0 where
   pub owned : (caller : ℕ) (t : next.Ticket) → Owes caller t es → Contains (tickets_left es []) t
   pub apart : (one other : ℕ) (t u : next.Ticket) → Owes one t es → Owes other u es → t.number ≡ u.number → one ≡ other
 
--- what a take is told that gives no ticket: the shelf is down, its numbers are used up, the target is not admitted, or memory ended
+-- what a take is told that gives no ticket: the shelf is down or follows another one's journal, its numbers are used up, the target is not
+-- admitted, or memory ended
 abbrev pub IsNoTicket : Reply → Type 0
 IsNoTicket (reply.Down count) = ⊤
+IsNoTicket reply.Following = ⊤
 IsNoTicket reply.Worn = ⊤
 IsNoTicket (reply.Refused why) = ⊤
 IsNoTicket reply.Memory = ⊤
@@ -52,9 +54,14 @@ module _ {D N : Type 0} (view : D → View) (tells : Bool) (coming : N → ℕ �
         (shelf_of view (length (tickets_taken es)) s) (coming s.nonces) es
     pub ever : IsTrue tells → LeavesOnly (view o.shelf.value.journal.disk) (view s.journal.disk) (IsLeft o es)
 
+  -- A shelf that followed another one's journal when it was opened has the book of the opening still, and nothing became of it.
+  pub record StaysAsOpened (o : Opening D N) (s : Shelf D N) (es : List Entry) : Type 0 where
+    pub book : book_in view s ≡ (start_of view o).book
+    pub nothing : left.HasFollowed (opened_of view tells coming o) (view s.journal.disk) es
+
   -- The shelf is in order, with the limits and the scripts that it was opened with; the numbers that are out are those of the tickets that its
   -- entries leave; and its nonces go on. Where the disk tells its bytes, a crash at any moment since the opening left what makes
-  -- a book. A shelf that was opened as an own one has its history.
+  -- a book. A shelf that was opened as an own one has its history. One that follows another one's journal is as it was opened.
   pub record IsSound (o : Opening D N) (s : Shelf D N) (es : List Entry) : Type 0 where
     pub in_order : IsInOrder view tells s
     pub opened : IsOpened (start_of view o).book
@@ -66,6 +73,7 @@ module _ {D N : Type 0} (view : D → View) (tells : Bool) (coming : N → ℕ �
     pub counted : count_of view o.shelf.value < 2 ^ 64
     pub ever : IsTrue tells → LeavesOnly (view o.shelf.value.journal.disk) (view s.journal.disk) (MakesSome o)
     pub history : IsOwnOpening view tells o → HasItsHistory o s es
+    pub followed : (start_of view o).book.follows ≡ true → StaysAsOpened o s es
     -- without an entry nothing was done
     pub untouched : es ≡ [] → s ≡ o.shelf.value
 

@@ -1,8 +1,8 @@
 //! Opening the shelves of a site, and handing them back.
 ghost use Rattle.std.specs.Prelude.{◌≡◌, ◌≤◌, ◌++◌, [], false, ℕ, Some, length, IfOk, IfErr, OnOk, OnErr, reverse, slice_get, vec_len};
 ghost use Rattle.script_nodes.specs.Views.{scripts_of};
-ghost use Rattle.setup_reader.specs.Texts.{IsReadSetup};
-ghost use Rattle.journal_records.specs.Records.{IsInGrammar, begin_of};
+ghost use Rattle.shelf.specs.SetupReader.Texts.{IsReadSetup};
+ghost use Rattle.shelf.specs.JournalRecords.Records.{IsInGrammar, begin_of};
 ghost use Rattle.shelf.specs.Ranges.{AreInRange};
 ghost use Rattle.disk_trio.specs.Trio.{trio_view};
 ghost use Rattle.site.specs.Keeping.{IsSoundShelf};

@@ -26,14 +26,14 @@ pub struct KeptShelf<D: Disk, N: Drop> {
 
 impl<D: Disk, N: Nonces + Drop> KeptShelf<D, N> {
     ghost use Rattle.std.specs.Prelude.{◌≡◌, ◌<◌, ◌^◌, [], length, IfOk};
-    ghost use Rattle.shelf.specs.Opening.{IsReopened};
+    ghost use Rattle.replay_spec.specs.Book.{reopened};
     ghost use Rattle.shelf.specs.Views.{IsInOrder, book_in};
     ghost use Rattle.site.specs.Keeping.{IsSoundShelf, IsHeldOn, GivesOn, IsItsLibrary, IsRunOn, NotesTake, NotesPublish, NotesSweep};
 
     /// A shelf that was opened, with no entry yet.
     pub fn new(shelf: Shelf<D, N>) -> KeptShelf<D, N>
         requires in_order { IsInOrder D.view D.tells shelf }
-        requires opened { IsReopened (book_in D.view shelf) }
+        requires opened { book_in D.view shelf ≡ reopened (book_in D.view shelf) }
         ensures opened { result.opened.shelf.value ≡ shelf }
         ensures shelf { result.shelf ≡ shelf }
         ensures fresh { result.history ≡ [] }

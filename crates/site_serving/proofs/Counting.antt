@@ -59,6 +59,7 @@ counts_as_told (replies.Oversize size) = refl
 counts_as_told (replies.JournalFull size) = refl
 counts_as_told (replies.DiskFault count) = refl
 counts_as_told (replies.Down count) = refl
+counts_as_told replies.Following = refl
 counts_as_told replies.Worn = refl
 counts_as_told replies.Memory = refl
 
@@ -78,6 +79,7 @@ no_ticket_counts (replies.Oversize size) h = absurd h
 no_ticket_counts (replies.JournalFull size) h = absurd h
 no_ticket_counts (replies.DiskFault count) h = absurd h
 no_ticket_counts (replies.Down count) h = refl
+no_ticket_counts replies.Following h = refl
 no_ticket_counts replies.Worn h = refl
 no_ticket_counts replies.Memory h = refl
 

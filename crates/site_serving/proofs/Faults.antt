@@ -5,9 +5,10 @@ use Rattle.script_value.specs.declared.outcome.Refusal.{Refusal}
 use Rattle.page_names.specs.Names.{Destination}
 use Rattle.replay_spec.specs.Book.{Book, Doubt, spend}
 use Rattle.replay_spec.specs.Rules.{Rules}
-use Rattle.replay_spec.specs.Step.{Event, take, publish, sweep, compact, crash, Fate, plain, no_memory, disk_fault, lost, kept, Reply, taken, disk_failed, swept, Decision, replies, records, compacts, compact_comes, down_by, unless, decide, decide_compact, decide_sweep, fate_of, publish_comes, refused_by, settle, step, sweep_comes, take_by, take_unless, worn}
+use Rattle.replay_spec.specs.Step.{Event, take, publish, sweep, compact, crash, Fate, plain, no_memory, disk_fault, lost, kept, Reply, taken, disk_failed, swept, Decision, replies, records, compacts, compact_comes, barred, unless, decide, decide_compact, decide_sweep, fate_of, publish_comes, refused_by, settle, step, sweep_comes, take_by, take_unless, worn}
 use Rattle.replay_spec.specs.Admission.{admit, or_else, refusal_of, when}
 use Rattle.replay_spec.specs.Runs.{Shelf}
+use Rattle.replay_spec.proofs.Barred.{barred_by, down_barred}
 use Rattle.history_spec.specs.Histories.{Entry, IsCounted, IsLegal, IsNext, MayCome, book_behind, fate_by, shelf_behind}
 use Rattle.history_spec.proofs.Fates.{DecidesPlain, IsPlain, compact_plain, publish_plain, sweep_plain}
 use Rattle.history_spec.proofs.Going.{along, is_step}
@@ -53,40 +54,41 @@ settled rules b kept (replies r) h refuses = inl (plain_none r h, λ x. x)
 settled rules b kept (records r c inside) h refuses = inl (plain_none r h, λ x. no_records r c inside (refuses x))
 settled rules b kept (compacts r) h refuses = inl (plain_none r h, λ x. no_compacts r (refuses x))
 
-down_refuses : (o : Option Doubt) (d : Doubt) (x : Decision) → o ≡ Some d → Refuses (unless (down_by o) x)
-down_refuses o d x is = subst (λ (y : Option Doubt). Refuses (unless (down_by y) x)) (sym is) (_, refl)
+down_refuses : (b : Book) (d : Doubt) (x : Decision) → b.down ≡ Some d → Refuses (unless (barred b) x)
+down_refuses b d x is = subst (λ (o : Option Reply). Refuses (unless o x)) (sym (down_barred b d is)) (_, refl)
 
-untold : (b : Book) (nonce : ℕ) (o : Option Doubt) (is_worn : Bool) (a : Option Refusal)
-    → Fails b (take_unless (or_else (down_by o) (or_else (when is_worn worn) (refused_by a))) b nonce)
-untold b nonce (Some d) is_worn a = inl (refl, λ x. x)
-untold b nonce None true a = inl (refl, λ x. x)
-untold b nonce None false (Some r) = inl (refl, λ x. x)
-untold b nonce None false None = inl (refl, λ x. x)
+untold : (b : Book) (nonce : ℕ) (o : Option Doubt) (follows is_worn : Bool) (a : Option Refusal)
+    → Fails b (take_unless (or_else (barred_by o follows) (or_else (when is_worn worn) (refused_by a))) b nonce)
+untold b nonce (Some d) follows is_worn a = inl (refl, λ x. x)
+untold b nonce None true is_worn a = inl (refl, λ x. x)
+untold b nonce None false true a = inl (refl, λ x. x)
+untold b nonce None false false (Some r) = inl (refl, λ x. x)
+untold b nonce None false false None = inl (refl, λ x. x)
 
 took : (b : Book) (target : Destination) (nonce : ℕ) (fate : Fate) → Fails b (take_by b target nonce fate)
 took b target nonce no_memory = inl (refl, λ x. x)
-took b target nonce plain = untold b nonce b.down (b.drawn == 2 ^ 62) (refusal_of (admit b target))
-took b target nonce (disk_fault count) = untold b nonce b.down (b.drawn == 2 ^ 62) (refusal_of (admit b target))
-took b target nonce lost = untold b nonce b.down (b.drawn == 2 ^ 62) (refusal_of (admit b target))
-took b target nonce kept = untold b nonce b.down (b.drawn == 2 ^ 62) (refusal_of (admit b target))
+took b target nonce plain = untold b nonce b.down b.follows (b.drawn == 2 ^ 62) (refusal_of (admit b target))
+took b target nonce (disk_fault count) = untold b nonce b.down b.follows (b.drawn == 2 ^ 62) (refusal_of (admit b target))
+took b target nonce lost = untold b nonce b.down b.follows (b.drawn == 2 ^ 62) (refusal_of (admit b target))
+took b target nonce kept = untold b nonce b.down b.follows (b.drawn == 2 ^ 62) (refusal_of (admit b target))
 
 swept_late : (rules : Rules) (b : Book) (tick : ℕ) (fate : Fate) (is_late : Bool)
     → Fails b (if is_late then (swept 0, b) else settle rules b (fate_of rules.journal fate) (sweep_comes rules b tick))
 swept_late rules b tick fate true = inl (refl, λ x. x)
 swept_late rules b tick fate false =
     settled rules b (fate_of rules.journal fate) (sweep_comes rules b tick) (sweep_plain rules b tick)
-    (λ x. down_refuses b.down x.0 (decide_sweep rules tick b) x.1)
+    (λ x. down_refuses b x.0 (decide_sweep rules tick b) x.1)
 
 stepped : (rules : Rules) (b : Book) (nonce : ℕ) (x : Event) (fate : Fate) (caller : ℕ) (es : List Entry) → MayCome caller x es → Fails b (step rules b nonce x fate)
 unfolding step
 stepped rules b nonce (take target answer) fate caller es may = took b target nonce fate
 stepped rules b nonce (publish t) fate caller es may =
     settled rules (spend t.number b) (fate_of rules.journal fate) (publish_comes rules b t) (publish_plain rules b t)
-    (λ x. down_refuses b.down x.0 (decide rules b t (admit b t.target)) x.1)
+    (λ x. down_refuses b x.0 (decide rules b t (admit b t.target)) x.1)
 stepped rules b nonce (sweep tick) fate caller es may = swept_late rules b tick fate (nat_le tick b.clock)
 stepped rules b nonce compact fate caller es may =
     settled rules b (fate_of rules.journal fate) (compact_comes rules b) (compact_plain rules b)
-    (λ x. down_refuses b.down x.0 (decide_compact rules b) x.1)
+    (λ x. down_refuses b x.0 (decide_compact rules b) x.1)
 stepped rules b nonce (crash scripts) fate caller es may = absurd may
 
 module _ (source : ℕ → ℕ) (opened now : ℕ) (s : Shelf) where

@@ -1,4 +1,5 @@
 pub mod Faults
+pub mod Following
 pub mod Moving
 pub mod Refining
 pub mod Counting

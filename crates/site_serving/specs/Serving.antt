@@ -116,7 +116,7 @@ pub record ServesDoor {D P L N : Type 0} (v : Views D P L N) (openings : List Op
 
 -- A shelf of this opening when all is over: what is left of it stands for its history, in which no caller but the workers has an entry.
 -- Of a shelf that was opened as an own one the disk's count of faults rose by one at least for each entry that was answered with a
--- fault of the disk.
+-- fault of the disk. One that followed another one's journal put each event off, and its disk was left alone.
 pub record IsEnded (told : Type 0) (workers : ℕ) (o : Opened) (disk : View) (es : List Entry) : Type 0 where
   pub ended : HasEnded told o disk es
   pub callers : (who : ℕ) → workers ≤ who → own_of who es ≡ []

@@ -8,7 +8,7 @@ use Rattle.disk_trio.specs.Trio.{trio_view}
 use Rattle.disk_trio.specs.declared.trio.Disks.{Disks}
 use Rattle.trio_rack.specs.Trios.{shelves_of}
 use Rattle.play_desk.specs.Staff.{IsHome, faults_in, total}
-use Rattle.play_desk.proofs.Closing.{at_front, fell_with, front_less, home_last, images_last, stays_last}
+use Rattle.play_desk.proofs.Closing.{at_front, fell_with, front_less, home_last, images_last, none_out, stays_last}
 use Rattle.play_desk.proofs.Fitting.{number_at}
 use Rattle.play_desk.proofs.desk_disks.put_all_back.Goals as goal
 
@@ -56,6 +56,11 @@ loop-shelf-preserved g c =
       fell_with (g.R.Rack.view c.args.rack.now) old new x.rules.number i.5 given,
       c.put_back.ensures.asked ∙ i.6,
     )
+
+pub returns-clause-home : goal.returns-clause-home
+returns-clause-home g c =
+    let empty : c.loop-shelf.shelves.items ≡ [] = search rules in
+    none_out c.loop-shelf.shelves.items (shelves_of (g.R.Rack.view c.loop-shelf.rack)).out empty c.loop-shelf.invariant.1
 
 pub returns-clause-images : goal.returns-clause-images
 returns-clause-images g c told disk_told k s e =

@@ -57,6 +57,7 @@ no_rise view x y d a (outcome.ShelfFull count) rose h fails = absurd (let no : �
 no_rise view x y d a (outcome.Oversize count) rose h fails = absurd (let no : ⊥ = cc in no)
 no_rise view x y d a (outcome.JournalFull count) rose h fails = absurd (let no : ⊥ = cc in no)
 no_rise view x y d a (outcome.Down count) rose h fails = absurd (let no : ⊥ = cc in no)
+no_rise view x y d a outcome.Following rose h fails = absurd (let no : ⊥ = cc in no)
 no_rise view x y d a outcome.Worn rose h fails = absurd (let no : ⊥ = cc in no)
 no_rise view x y d a outcome.Memory rose h fails = absurd (let no : ⊥ = cc in no)
 

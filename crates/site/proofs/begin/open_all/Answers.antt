@@ -1,6 +1,7 @@
-use Rattle.std.proofs.Common.{rules, ◌≡◌, ◌++◌, ◌∷◌, ◌+◌, [], ℕ, Some, slice_get, length, length-append, refl, ap, sym, ◌∙◌, subst, arith, append_assoc, map, reverse}
+use Rattle.std.proofs.Common.{rules, ◌≡◌, ◌≤◌, ◌<◌, ◌++◌, ◌∷◌, ◌+◌, [], ℕ, List, Some, slice_get, length, length-append, refl, ap, sym, ◌∙◌, subst, arith, append_assoc, map, reverse}
 use Rattle.std.proofs.lemmas.List.{reverse-append, reverse-reverse, length-reverse}
 use Rattle.std.proofs.lemmas.Option.{slice_get_within}
+use Rattle.std.specs.Vec.{vec_len}
 use Rattle.script_nodes.specs.Views.{scripts_of}
 use Rattle.lock_row.proofs.Lockings.{reverse_snoc}
 use Rattle.lock_row.proofs.Places.{map_snoc, map_length}
@@ -17,6 +18,15 @@ returns-in_default-clause-unopened g c =
     let disks = c.requires.disks in
     let turned = length-reverse c.args.disks.now.items in
     unopened_none {D = Disks g.row.F.Denot g.F.Disk} trio_view g.F.Disk.tells (scripts_of c.args.setup.now) (only_left g.F.Disk) (reverse c.args.disks.now.items) (omega arith)
+
+-- a disk is left for each shelf that is not opened yet
+pub unwrap-disk-requires : goal.unwrap-disk-requires
+unwrap-disk-requires g c =
+    let within : c.loop-number.number < c.args.rules.shelves = (let test : _ = c.loop-number-test.true in search (rules, arith)) in
+    let left = c.loop-number.invariant.left.0 in
+    let ok = c.loop-number.disks.ok.0 in
+    let some : 0 < length c.loop-number.disks.items = omega (arith, within, left, ok) in
+    search (rules, arith)
 
 -- the disk that is opened was not
 pub open_one-requires-clause-fresh : goal.open_one-requires-clause-fresh
@@ -112,3 +122,16 @@ returns-in-Err-clause-sources g c =
     ap reverse (c.give_back.ensures.nonces ∙ ap (λ l. l ++ reverse (map nonces_in shelves)) c.push_reserved-in-Err-2.ensures.items)
     ∙ (reverse-append (left_n ++ c.in-Err.source ∷ []) (reverse (map nonces_in shelves)) ∙ (λ j. reverse-reverse (map nonces_in shelves) j ++ reverse_snoc left_n c.in-Err.source j)) in
     back ∙ (ap (λ z. map nonces_in shelves ++ z ∷ reverse left_n) same ∙ sym there_n)
+
+none_left : {A : Type 0} (xs : List A) → length xs ≡ 0 → xs ≡ []
+none_left [] e = refl
+none_left (x ∷ xs) e = absurd (omega (arith, e))
+
+-- behind the last shelf no disk and no source is left
+pub returns-clause-gone : goal.returns-clause-gone
+returns-clause-gone g c =
+    let end : c.args.rules.shelves ≤ c.loop-number.number = (let test : _ = c.loop-number-test.false in search (rules, arith)) in
+    let left = c.loop-number.invariant.left in
+    let disks : vec_len c.loop-number.disks ≡ 0 = omega (arith, end, left.0) in
+    let nonces : vec_len c.loop-number.nonces ≡ 0 = omega (arith, end, left.1) in
+    (none_left _ (omega (arith, disks, c.loop-number.disks.ok.0)), none_left _ (omega (arith, nonces, c.loop-number.nonces.ok.0)), disks, nonces)

@@ -120,3 +120,23 @@ returns-in-Err-lock_all-clause-fault g c =
 -- the disks were not opened
 pub open_all-requires-clause-fresh : goal.open_all-requires-clause-fresh
 open_all-requires-clause-fresh g c = subst AreNew (sym c.reverse.ensures.items) (new_turned c.args.disks.items c.requires.fresh)
+
+-- disks and sources have the room that they had
+pub give_back-requires : goal.give_back-requires
+give_back-requires g c =
+    let gone = c.in-Ok-open_all.ensures.gone in
+    let room = c.open_all.ensures.room in
+    let many = c.in-Err-lock_all.ensures.many in
+    let opened = c.in-Ok-open_all.ensures.many.1 in
+    let disks = c.requires.disks in
+    let sources = c.requires.nonces in
+    let d = c.args.disks.ok in
+    let n = c.args.nonces.ok in
+    let same_d = c.reverse.ensures.capacity in
+    let same_n = c.reverse-2.ensures.capacity in
+    record {
+      room = (
+        omega (arith, gone.2, room.0, many, opened, disks, d.0, d.1, same_d),
+        omega (arith, gone.3, room.1, many, opened, sources, n.0, n.1, same_n),
+      );
+    }

@@ -25,7 +25,7 @@ returns-clause-sound g c =
     ap entries_of c.push.ensures.behind ∙ (map_snoc entry_of c.args.self.now.history _ ∙ (λ i. es ++ entry c.args.by step.compact (compacted_of (c.of.ensures i)) ∷ [])) in
     let is = subst (λ (l : List Entry). IsSound {D = Disks g.row.F.Denot g.F.Disk} {N = g.row.N.Denot} trio_view tells coming o t l) (sym grown)
     (compact_sound {D = Disks g.row.F.Denot g.F.Disk} {N = g.row.N.Denot} trio_view tells coming o c.args.self.now.shelf t es c.requires.sound.is c.args.by c.compact-told.result c.images_make_books.ensures
-    told.event told.in_order told.own told.any_moment told.own_moments told.cause told.later told.rules told.library) in
+    told.event told.in_order told.own told.any_moment told.own_moments told.cause told.later told.rules told.library told.quiet) in
     record {
       is = is;
       tickets = λ u given. elim (given_last c.args.self.now.history _ u (subst (λ (l : List KeptEntry). IsGivenIn l u) c.push.ensures.behind given)) [
