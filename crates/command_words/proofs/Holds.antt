@@ -20,17 +20,17 @@ use Rattle.clap.specs.declared.builder.value_parser.ValueParser.TheVariants as v
 use Rattle.clap.specs.declared.error.kind.ErrorKind.TheVariants.{MissingRequiredArgument}
 use Rattle.clap.proofs.OnLiterals.{clap_on_literals}
 use Rattle.clap.proofs.ValueTestLemmas.{accepts-Accepts}
-use Rattle.command_words.specs.App.{app, audit_shape, check_shape, load_shape, play_shape, serve_shape}
+use Rattle.command_words.specs.App.{app, audit_shape, check_shape, export_shape, follow_shape, load_shape, play_shape, promote_shape, serve_shape}
 use Rattle.server_limits.specs.Limits.{most_connections, most_fuel, most_instances, most_life, most_pages, most_shelves}
-use Rattle.command_words.specs.Options.{Item, Kind, audit_items, bare, directory, flag, load_items, most_run, number, play_items, serve_items, most_requests, most_workers}
-use Rattle.command_words.specs.Plain.{AreInRange, CanAudit, CanLoad, CanServe, IsInRange}
-use Rattle.command_words.specs.Reads.{Holds, HoldsAs, HoldsAsked, HoldsFlag, HoldsFor, HoldsNumber, HoldsText, asked_as, asked_from, audit_at, for_audit, for_check, for_load, for_play, for_serve, load_at, number_at, options_at, service_at, text_at}
+use Rattle.command_words.specs.Options.{Item, Kind, shelves_items, bare, directory, feed_items, flag, last_shelf, load_items, most_run, number, play_items, serve_items, most_requests, most_workers}
+use Rattle.command_words.specs.Plain.{AreInRange, CanFeed, HasShelves, CanLoad, CanServe, IsInRange}
+use Rattle.command_words.specs.Reads.{Holds, HoldsAs, HoldsAsked, HoldsFlag, HoldsFor, HoldsNumber, HoldsText, asked_as, asked_from, feed_at, shelves_at, for_audit, for_check, for_export, for_follow, for_load, for_play, for_promote, for_serve, load_at, number_at, options_at, service_at, text_at}
 use Rattle.command_words.specs.declared.Command.{Command}
-use Rattle.command_words.specs.declared.Command.TheVariants.{Audit, Check, Play, Serve, Load}
+use Rattle.command_words.specs.declared.Command.TheVariants.{Audit, Check, Export, Follow, Load, Play, Promote, Serve}
 use Rattle.command_words.proofs.Found.{HasDefault}
 use Rattle.command_words.proofs.Rows.{filled_in, find_row, has_of, kept}
 use Rattle.command_words.proofs.Sound.{AllKnown, Level, Sound, find_all, good_row, level_sound, neither, sets_flag, sets_value, shows_help}
-use Rattle.command_words.proofs.Tables.{IsIn, audit_in, built_sub, has_default, load_in, load_rules, play_in, serve_in}
+use Rattle.command_words.proofs.Tables.{IsIn, audit_in, built_sub, export_in, follow_in, has_default, load_in, load_rules, play_in, promote_in, serve_in}
 use Rattle.command_words.proofs.Uses.{Fits, built_rule, value_fault}
 
 -- ---- one value
@@ -213,7 +213,43 @@ audit_known = (record { does = sets_value refl refl; by_id = refl }, (record { d
 audit_holds : (words : List Text) → level_fault (built_sub audit_shape) [] nothing_held words false [] ≡ [] → HoldsFor (codes "audit") (rows_after (built_sub audit_shape).rules [] words)
 audit_holds words fine =
     for_audit refl
-    (holds_each (built_sub audit_shape) audit_items audit_items words (level_sound (built_sub audit_shape) words refl audit_known fine) audit_in
+    (holds_each (built_sub audit_shape) shelves_items shelves_items words (level_sound (built_sub audit_shape) words refl audit_known fine) audit_in
+    (λ e. cc, (λ e. cc, tt)))
+
+-- ---- `export`
+
+export_known : AllKnown (built_sub export_shape).rules
+unfolding clap_on_literals
+export_known = (record { does = sets_value refl refl; by_id = refl }, (record { does = sets_value refl refl; by_id = refl }, (record { does = shows_help refl; by_id = refl }, tt)))
+
+export_holds : (words : List Text) → level_fault (built_sub export_shape) [] nothing_held words false [] ≡ [] → HoldsFor (codes "export") (rows_after (built_sub export_shape).rules [] words)
+export_holds words fine =
+    for_export refl
+    (holds_each (built_sub export_shape) feed_items feed_items words (level_sound (built_sub export_shape) words refl export_known fine) export_in
+    (λ e. cc, (λ e. cc, tt)))
+
+-- ---- `follow`
+
+follow_known : AllKnown (built_sub follow_shape).rules
+unfolding clap_on_literals
+follow_known = (record { does = sets_value refl refl; by_id = refl }, (record { does = sets_value refl refl; by_id = refl }, (record { does = shows_help refl; by_id = refl }, tt)))
+
+follow_holds : (words : List Text) → level_fault (built_sub follow_shape) [] nothing_held words false [] ≡ [] → HoldsFor (codes "follow") (rows_after (built_sub follow_shape).rules [] words)
+follow_holds words fine =
+    for_follow refl
+    (holds_each (built_sub follow_shape) feed_items feed_items words (level_sound (built_sub follow_shape) words refl follow_known fine) follow_in
+    (λ e. cc, (λ e. cc, tt)))
+
+-- ---- `promote`
+
+promote_known : AllKnown (built_sub promote_shape).rules
+unfolding clap_on_literals
+promote_known = (record { does = sets_value refl refl; by_id = refl }, (record { does = sets_value refl refl; by_id = refl }, (record { does = shows_help refl; by_id = refl }, tt)))
+
+promote_holds : (words : List Text) → level_fault (built_sub promote_shape) [] nothing_held words false [] ≡ [] → HoldsFor (codes "promote") (rows_after (built_sub promote_shape).rules [] words)
+promote_holds words fine =
+    for_promote refl
+    (holds_each (built_sub promote_shape) shelves_items shelves_items words (level_sound (built_sub promote_shape) words refl promote_known fine) promote_in
     (λ e. cc, (λ e. cc, tt)))
 
 -- ---- the command
@@ -224,9 +260,12 @@ data IsSub (s : Shape) : Type 0 where
   sub_serve : s ≡ built_sub serve_shape → IsSub s
   sub_load : s ≡ built_sub load_shape → IsSub s
   sub_audit : s ≡ built_sub audit_shape → IsSub s
+  sub_export : s ≡ built_sub export_shape → IsSub s
+  sub_follow : s ≡ built_sub follow_shape → IsSub s
+  sub_promote : s ≡ built_sub promote_shape → IsSub s
 
 all_subs : Each IsSub (built app).subs
-all_subs = (sub_check refl, (sub_play refl, (sub_serve refl, (sub_load refl, (sub_audit refl, tt)))))
+all_subs = (sub_check refl, (sub_play refl, (sub_serve refl, (sub_load refl, (sub_audit refl, (sub_export refl, (sub_follow refl, (sub_promote refl, tt))))))))
 
 sub_holds : (s : Shape) (words : List Text) → IsSub s → level_fault s [] nothing_held words false [] ≡ [] → HoldsFor s.name (rows_after s.rules [] words)
 sub_holds s words (sub_check e) fine = for_check (ap (λ (x : Shape). x.name) e)
@@ -238,6 +277,12 @@ sub_holds s words (sub_load e) fine =
     subst (λ (x : Shape). HoldsFor x.name (rows_after x.rules [] words)) (sym e) (load_holds words (subst (λ (x : Shape). level_fault x [] nothing_held words false [] ≡ []) e fine))
 sub_holds s words (sub_audit e) fine =
     subst (λ (x : Shape). HoldsFor x.name (rows_after x.rules [] words)) (sym e) (audit_holds words (subst (λ (x : Shape). level_fault x [] nothing_held words false [] ≡ []) e fine))
+sub_holds s words (sub_export e) fine =
+    subst (λ (x : Shape). HoldsFor x.name (rows_after x.rules [] words)) (sym e) (export_holds words (subst (λ (x : Shape). level_fault x [] nothing_held words false [] ≡ []) e fine))
+sub_holds s words (sub_follow e) fine =
+    subst (λ (x : Shape). HoldsFor x.name (rows_after x.rules [] words)) (sym e) (follow_holds words (subst (λ (x : Shape). level_fault x [] nothing_held words false [] ≡ []) e fine))
+sub_holds s words (sub_promote e) fine =
+    subst (λ (x : Shape). HoldsFor x.name (rows_after x.rules [] words)) (sym e) (promote_holds words (subst (λ (x : Shape). level_fault x [] nothing_held words false [] ≡ []) e fine))
 
 no_command : (rows : List Row) → check_fault (built app).top rows false ≡ [] → ⊥
 unfolding clap_on_literals
@@ -295,10 +340,16 @@ load_range rows h =
     let number = number_range 1 most_run rows (codes "number") h.0 in
     record { options = options_range rows h.1; low = number.0; high = number.1 }
 
-audit_range : (rows : List Row) → Holds audit_items rows → CanAudit (audit_at rows)
-audit_range rows h = record {
+shelves_range : (rows : List Row) → Holds shelves_items rows → HasShelves (shelves_at rows)
+shelves_range rows h = record {
   journal = text_range rows (codes "journal") h.0;
   shelves = number_range 1 most_shelves rows (codes "shelves") h.1.0;
+}
+
+feed_range : (rows : List Row) → Holds feed_items rows → CanFeed (feed_at rows)
+feed_range rows h = record {
+  journal = text_range rows (codes "journal") h.0;
+  shelf = (number_range 0 last_shelf rows (codes "shelf") h.1.0).1;
 }
 
 for_range : (name : Text) (rows : List Row) (asked : Command) → HoldsFor name rows → asked_as name rows ≡ Some asked → IsInRange asked
@@ -306,7 +357,10 @@ for_range name rows asked (for_check is) e = subst IsInRange (same_some (asked_a
 for_range name rows asked (for_play is h) e = subst IsInRange (same_some (asked_as name rows) (Play (options_at rows)) asked (ap (λ n. asked_as n rows) is) e) (options_range rows h)
 for_range name rows asked (for_serve is h) e = subst IsInRange (same_some (asked_as name rows) (Serve (service_at rows)) asked (ap (λ n. asked_as n rows) is) e) (service_range rows h)
 for_range name rows asked (for_load is h) e = subst IsInRange (same_some (asked_as name rows) (Load (load_at rows)) asked (ap (λ n. asked_as n rows) is) e) (load_range rows h)
-for_range name rows asked (for_audit is h) e = subst IsInRange (same_some (asked_as name rows) (Audit (audit_at rows)) asked (ap (λ n. asked_as n rows) is) e) (audit_range rows h)
+for_range name rows asked (for_audit is h) e = subst IsInRange (same_some (asked_as name rows) (Audit (shelves_at rows)) asked (ap (λ n. asked_as n rows) is) e) (shelves_range rows h)
+for_range name rows asked (for_export is h) e = subst IsInRange (same_some (asked_as name rows) (Export (feed_at rows)) asked (ap (λ n. asked_as n rows) is) e) (feed_range rows h)
+for_range name rows asked (for_follow is h) e = subst IsInRange (same_some (asked_as name rows) (Follow (feed_at rows)) asked (ap (λ n. asked_as n rows) is) e) (feed_range rows h)
+for_range name rows asked (for_promote is h) e = subst IsInRange (same_some (asked_as name rows) (Promote (shelves_at rows)) asked (ap (λ n. asked_as n rows) is) e) (shelves_range rows h)
 
 in_range : (o : Option (Text × List Row)) (asked : Command) → HoldsAsked o → asked_from o ≡ Some asked → IsInRange asked
 in_range None asked held e = absurd held

@@ -9,22 +9,23 @@ use Rattle.clap.specs.Simple.{Shape, subcommand_of}
 use Rattle.clap.specs.Takes.{is_given}
 use Rattle.clap.specs.Walk.{Row, Rule, Text, is_empty, nothing_held, with_default}
 use Rattle.clap.proofs.OnLiterals.{clap_on_literals}
-use Rattle.command_words.specs.App.{app, audit_shape, load_shape, play_shape, serve_shape}
-use Rattle.command_words.specs.Options.{ArePlain, IsOneOf, IsPlainNumber, IsPlainText, Item, Kind, Setting, audit_items, bare, directory, flag, flag_of, given, load_items, most_run, number, number_of, play_items, run_number, serve_items, spelled, text_of}
-use Rattle.command_words.specs.Options.{audit, connections, fuel, instances, journal, life, pages, port, requests, shelves, workers}
-use Rattle.command_words.specs.Plain.{ArePlainFor, IsPlain, audit_chosen, chosen, load_chosen, service_chosen}
-use Rattle.command_words.specs.Reads.{asked_from, audit_at, flag_at, load_at, number_at, options_at, service_at, text_at, value_number}
+use Rattle.command_words.specs.App.{app, audit_shape, export_shape, follow_shape, load_shape, play_shape, promote_shape, serve_shape}
+use Rattle.command_words.specs.Options.{ArePlain, IsOneOf, IsPlainNumber, IsPlainText, Item, Kind, Setting, shelves_items, bare, directory, feed_items, flag, flag_of, given, load_items, most_run, number, number_of, play_items, run_number, serve_items, spelled, text_of}
+use Rattle.command_words.specs.Options.{audit, connections, fuel, instances, journal, life, pages, port, requests, shelf, shelves, workers}
+use Rattle.command_words.specs.Plain.{ArePlainFor, IsPlain, shelves_chosen, chosen, feed_chosen, load_chosen, service_chosen}
+use Rattle.command_words.specs.Reads.{asked_from, feed_at, shelves_at, flag_at, load_at, number_at, options_at, service_at, text_at, value_number}
 use Rattle.command_words.specs.declared.Command.{Command}
-use Rattle.command_words.specs.declared.Command.TheVariants.{Audit, Check, Play, Serve, Load}
+use Rattle.command_words.specs.declared.Command.TheVariants.{Audit, Check, Export, Follow, Load, Play, Promote, Serve}
 use Rattle.command_words.specs.declared.Options.{Options}
 use Rattle.command_words.specs.declared.Service.{Service}
 use Rattle.command_words.specs.declared.LoadOptions.{LoadOptions}
-use Rattle.command_words.specs.declared.AuditOptions.{AuditOptions}
+use Rattle.command_words.specs.declared.FeedOptions.{FeedOptions}
+use Rattle.command_words.specs.declared.ShelvesOptions.{ShelvesOptions}
 use Rattle.command_words.proofs.Rows.{find_row}
 use Rattle.command_words.proofs.Uses.{Goes, IsFor, Stands, bare_goes, built_rule, has_name, no_plus, number_value, row_of, setting_row, settings_go}
 use Rattle.command_words.proofs.Found.{IsNamed, Tells, given_tells, tells, tells_first, tells_one}
-use Rattle.command_words.proofs.Tables.{IsIn, at_item, audit_in, built_sub, has_default, is_number, is_numeric, load_in, load_rules, play_in, serve_in}
-use Rattle.command_words.proofs.Levels.{Enters, default_kinds, enters_audit, enters_load, enters_play, enters_serve, entering, level_goes}
+use Rattle.command_words.proofs.Tables.{IsIn, at_item, audit_in, built_sub, export_in, follow_in, has_default, is_number, is_numeric, load_in, load_rules, play_in, promote_in, serve_in}
+use Rattle.command_words.proofs.Levels.{Enters, default_kinds, enters_audit, enters_export, enters_follow, enters_load, enters_play, enters_promote, enters_serve, entering, level_goes}
 
 -- ---- the numbers
 
@@ -295,19 +296,85 @@ audit_checked : (rows : List Row) → check_fault (built_sub audit_shape) rows f
 unfolding clap_on_literals
 audit_checked rows = refl
 
-audit_same : (a b : AuditOptions) → a.journal ≡ b.journal → a.shelves ≡ b.shelves → a ≡ b
-audit_same a b j s = λ at. record { journal = j at; shelves = s at }
+shelves_same : (a b : ShelvesOptions) → a.journal ≡ b.journal → a.shelves ≡ b.shelves → a ≡ b
+shelves_same a b j s = λ at. record { journal = j at; shelves = s at }
 
-audit_means : (name : Text) (set : List Setting) → ArePlain audit_items set
-    → (fault_of app (name ∷ codes "audit" ∷ spelled set) ≡ []) × (asked_from (subcommand_of app (name ∷ codes "audit" ∷ spelled set)) ≡ Some (Audit (audit_chosen set)))
+audit_means : (name : Text) (set : List Setting) → ArePlain shelves_items set
+    → (fault_of app (name ∷ codes "audit" ∷ spelled set) ≡ []) × (asked_from (subcommand_of app (name ∷ codes "audit" ∷ spelled set)) ≡ Some (Audit (shelves_chosen set)))
 audit_means name set p =
     let rules = (built_sub audit_shape).rules in
-    let named = each_named rules audit_items set audit_in p in
-    let goes = command_goes name (codes "audit") audit_shape audit_items set (refl, (refl, tt)) enters_audit audit_in p audit_defaults (record { fine = refl; got = refl }) (audit_checked (ends_with rules set)) in
-    let told = audit_same (audit_at (ends_with rules set)) (audit_chosen set)
-    (words_told rules audit_items journal set audit_in.0 named (λ e. cc))
-    (number_told rules audit_items shelves set audit_in.1.0 refl p named (λ e. cc)) in
+    let named = each_named rules shelves_items set audit_in p in
+    let goes = command_goes name (codes "audit") audit_shape shelves_items set (refl, (refl, tt)) enters_audit audit_in p audit_defaults (record { fine = refl; got = refl }) (audit_checked (ends_with rules set)) in
+    let told = shelves_same (shelves_at (ends_with rules set)) (shelves_chosen set)
+    (words_told rules shelves_items journal set audit_in.0 named (λ e. cc))
+    (number_told rules shelves_items shelves set audit_in.1.0 refl p named (λ e. cc)) in
     (goes.0, ap asked_from goes.1 ∙ ap (λ o. Some (Audit o)) told)
+
+-- ---- `export`
+
+export_defaults : Each (λ a. default_kinds (is_empty a.defaults) a ≡ []) (built_sub export_shape).rules
+unfolding clap_on_literals
+export_defaults = (refl, (refl, (refl, tt)))
+
+export_checked : (rows : List Row) → check_fault (built_sub export_shape) rows false ≡ []
+unfolding clap_on_literals
+export_checked rows = refl
+
+feed_same : (a b : FeedOptions) → a.journal ≡ b.journal → a.shelf ≡ b.shelf → a ≡ b
+feed_same a b j s = λ at. record { journal = j at; shelf = s at }
+
+export_means : (name : Text) (set : List Setting) → ArePlain feed_items set
+    → (fault_of app (name ∷ codes "export" ∷ spelled set) ≡ []) × (asked_from (subcommand_of app (name ∷ codes "export" ∷ spelled set)) ≡ Some (Export (feed_chosen set)))
+export_means name set p =
+    let rules = (built_sub export_shape).rules in
+    let named = each_named rules feed_items set export_in p in
+    let goes = command_goes name (codes "export") export_shape feed_items set (refl, (refl, tt)) enters_export export_in p export_defaults (record { fine = refl; got = refl }) (export_checked (ends_with rules set)) in
+    let told = feed_same (feed_at (ends_with rules set)) (feed_chosen set)
+    (words_told rules feed_items journal set export_in.0 named (λ e. cc))
+    (number_told rules feed_items shelf set export_in.1.0 refl p named (λ e. cc)) in
+    (goes.0, ap asked_from goes.1 ∙ ap (λ o. Some (Export o)) told)
+
+-- ---- `follow`
+
+follow_defaults : Each (λ a. default_kinds (is_empty a.defaults) a ≡ []) (built_sub follow_shape).rules
+unfolding clap_on_literals
+follow_defaults = (refl, (refl, (refl, tt)))
+
+follow_checked : (rows : List Row) → check_fault (built_sub follow_shape) rows false ≡ []
+unfolding clap_on_literals
+follow_checked rows = refl
+
+follow_means : (name : Text) (set : List Setting) → ArePlain feed_items set
+    → (fault_of app (name ∷ codes "follow" ∷ spelled set) ≡ []) × (asked_from (subcommand_of app (name ∷ codes "follow" ∷ spelled set)) ≡ Some (Follow (feed_chosen set)))
+follow_means name set p =
+    let rules = (built_sub follow_shape).rules in
+    let named = each_named rules feed_items set follow_in p in
+    let goes = command_goes name (codes "follow") follow_shape feed_items set (refl, (refl, tt)) enters_follow follow_in p follow_defaults (record { fine = refl; got = refl }) (follow_checked (ends_with rules set)) in
+    let told = feed_same (feed_at (ends_with rules set)) (feed_chosen set)
+    (words_told rules feed_items journal set follow_in.0 named (λ e. cc))
+    (number_told rules feed_items shelf set follow_in.1.0 refl p named (λ e. cc)) in
+    (goes.0, ap asked_from goes.1 ∙ ap (λ o. Some (Follow o)) told)
+
+-- ---- `promote`
+
+promote_defaults : Each (λ a. default_kinds (is_empty a.defaults) a ≡ []) (built_sub promote_shape).rules
+unfolding clap_on_literals
+promote_defaults = (refl, (refl, (refl, tt)))
+
+promote_checked : (rows : List Row) → check_fault (built_sub promote_shape) rows false ≡ []
+unfolding clap_on_literals
+promote_checked rows = refl
+
+promote_means : (name : Text) (set : List Setting) → ArePlain shelves_items set
+    → (fault_of app (name ∷ codes "promote" ∷ spelled set) ≡ []) × (asked_from (subcommand_of app (name ∷ codes "promote" ∷ spelled set)) ≡ Some (Promote (shelves_chosen set)))
+promote_means name set p =
+    let rules = (built_sub promote_shape).rules in
+    let named = each_named rules shelves_items set promote_in p in
+    let goes = command_goes name (codes "promote") promote_shape shelves_items set (refl, (refl, tt)) enters_promote promote_in p promote_defaults (record { fine = refl; got = refl }) (promote_checked (ends_with rules set)) in
+    let told = shelves_same (shelves_at (ends_with rules set)) (shelves_chosen set)
+    (words_told rules shelves_items journal set promote_in.0 named (λ e. cc))
+    (number_told rules shelves_items shelves set promote_in.1.0 refl p named (λ e. cc)) in
+    (goes.0, ap asked_from goes.1 ∙ ap (λ o. Some (Promote o)) told)
 
 -- ---- all
 
@@ -331,3 +398,12 @@ plain_means words asked p = subst (λ w. Means w asked) (sym p.2) (go p.1 asked 
     go after (Audit o) q =
         subst (λ a. Means (p.0 ∷ a) (Audit o)) (sym q.1)
         (subst (λ k. Means (p.0 ∷ codes "audit" ∷ spelled q.0) (Audit k)) (sym q.3) (audit_means p.0 q.0 q.2))
+    go after (Export o) q =
+        subst (λ a. Means (p.0 ∷ a) (Export o)) (sym q.1)
+        (subst (λ k. Means (p.0 ∷ codes "export" ∷ spelled q.0) (Export k)) (sym q.3) (export_means p.0 q.0 q.2))
+    go after (Follow o) q =
+        subst (λ a. Means (p.0 ∷ a) (Follow o)) (sym q.1)
+        (subst (λ k. Means (p.0 ∷ codes "follow" ∷ spelled q.0) (Follow k)) (sym q.3) (follow_means p.0 q.0 q.2))
+    go after (Promote o) q =
+        subst (λ a. Means (p.0 ∷ a) (Promote o)) (sym q.1)
+        (subst (λ k. Means (p.0 ∷ codes "promote" ∷ spelled q.0) (Promote k)) (sym q.3) (promote_means p.0 q.0 q.2))

@@ -18,8 +18,8 @@ use Rattle.clap.specs.declared.builder.value_parser.Reading.TheVariants.{AsWritt
 use Rattle.clap.specs.declared.builder.value_parser.ValueParser.{ValueParser}
 use Rattle.clap.specs.declared.builder.value_parser.ValueParser.TheVariants as vp
 use Rattle.clap.proofs.OnLiterals.{clap_on_literals}
-use Rattle.command_words.specs.App.{app, audit_shape, load_shape, play_shape, serve_shape}
-use Rattle.command_words.specs.Options.{IsOneOf, Item, Kind, Text, audit_items, bare, directory, flag, load_items, number, play_items, run_number, serve_items}
+use Rattle.command_words.specs.App.{app, audit_shape, export_shape, follow_shape, load_shape, play_shape, promote_shape, serve_shape}
+use Rattle.command_words.specs.Options.{IsOneOf, Item, Kind, Text, shelves_items, bare, directory, feed_items, flag, load_items, number, play_items, run_number, serve_items}
 use Rattle.command_words.proofs.Uses.{Fits, IsTaken, built_rule, dashed, has_name}
 use Rattle.command_words.proofs.Found.{HasDefault, IsNamed}
 
@@ -196,9 +196,21 @@ pub serve_in : Each (IsIn (built_sub serve_shape).rules serve_items) serve_items
 unfolding clap_on_literals
 serve_in = each_same (facts (built_sub serve_shape).rules serve_items) wanted _ serve_items (is_in _ serve_items) refl
 
-pub audit_in : Each (IsIn (built_sub audit_shape).rules audit_items) audit_items
+pub audit_in : Each (IsIn (built_sub audit_shape).rules shelves_items) shelves_items
 unfolding clap_on_literals
-audit_in = each_same (facts (built_sub audit_shape).rules audit_items) wanted _ audit_items (is_in _ audit_items) refl
+audit_in = each_same (facts (built_sub audit_shape).rules shelves_items) wanted _ shelves_items (is_in _ shelves_items) refl
+
+pub export_in : Each (IsIn (built_sub export_shape).rules feed_items) feed_items
+unfolding clap_on_literals
+export_in = each_same (facts (built_sub export_shape).rules feed_items) wanted _ feed_items (is_in _ feed_items) refl
+
+pub follow_in : Each (IsIn (built_sub follow_shape).rules feed_items) feed_items
+unfolding clap_on_literals
+follow_in = each_same (facts (built_sub follow_shape).rules feed_items) wanted _ feed_items (is_in _ feed_items) refl
+
+pub promote_in : Each (IsIn (built_sub promote_shape).rules shelves_items) shelves_items
+unfolding clap_on_literals
+promote_in = each_same (facts (built_sub promote_shape).rules shelves_items) wanted _ shelves_items (is_in _ shelves_items) refl
 
 abbrev pub load_rules : List Rule
 load_rules = (built_sub load_shape).rules

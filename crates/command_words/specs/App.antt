@@ -10,7 +10,7 @@ use Rattle.clap.specs.declared.builder.command.Command.TheViews.{out-Command as 
 use Rattle.clap.specs.declared.builder.action.ArgAction.TheVariants.{Set, SetTrue}
 use Rattle.clap.specs.declared.builder.value_parser.ValueParser.{ValueParser}
 use Rattle.clap.specs.declared.builder.value_parser.ValueParser.TheVariants as vp
-use Rattle.command_words.specs.Options.{Item, Kind, Text, number, bare, directory, flag, play_items, serve_items, load_items, audit_items}
+use Rattle.command_words.specs.Options.{Item, Kind, Text, number, bare, directory, flag, play_items, serve_items, load_items, shelves_items, feed_items}
 
 -- the words of a command line, each by its bytes
 abbrev pub texts : List (Bor (List ℕ)) → List (List ℕ)
@@ -82,7 +82,19 @@ load_shape = shape_for (codes "load") (map rule_for load_items)
 
 -- the command `audit`, as clap has it, with its options
 abbrev pub audit_shape : Shape
-audit_shape = shape_for (codes "audit") (map rule_for audit_items)
+audit_shape = shape_for (codes "audit") (map rule_for shelves_items)
+
+-- the command `export`, as clap has it, with its options
+abbrev pub export_shape : Shape
+export_shape = shape_for (codes "export") (map rule_for feed_items)
+
+-- the command `follow`, as clap has it, with its options
+abbrev pub follow_shape : Shape
+follow_shape = shape_for (codes "follow") (map rule_for feed_items)
+
+-- the command `promote`, as clap has it, with its options
+abbrev pub promote_shape : Shape
+promote_shape = shape_for (codes "promote") (map rule_for shelves_items)
 
 -- the program itself, as clap has it: a command has to follow its name
 abbrev pub bare_top : Shape
@@ -95,7 +107,7 @@ bare_top = record (new_shape (codes "script_server")) {
 abbrev pub app : App
 app = record {
   top = record bare_top { is_leaf = false };
-  subs = check_shape ∷ play_shape ∷ serve_shape ∷ load_shape ∷ audit_shape ∷ [];
+  subs = check_shape ∷ play_shape ∷ serve_shape ∷ load_shape ∷ audit_shape ∷ export_shape ∷ follow_shape ∷ promote_shape ∷ [];
 }
 
 -- what clap finds wrong with the words

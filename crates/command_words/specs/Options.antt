@@ -45,9 +45,19 @@ pages = record { name = codes "pages"; kind = number 1 most_pages; default = Som
 abbrev pub journal : Item
 journal = record { name = codes "journal"; kind = directory; default = Some (codes "-") }
 
+-- the greatest number of a shelf
+abbrev pub last_shelf : ℕ
+last_shelf = 15
+
+-- the option of how many shelves there are
 abbrev pub shelves : Item
 shelves = record { name = codes "shelves"; kind = number 1 most_shelves; default = Some (codes "1") }
 
+-- the shelf whose journal is sent or followed
+abbrev pub shelf : Item
+shelf = record { name = codes "shelf"; kind = number 0 last_shelf; default = Some (codes "0") }
+
+-- the option of the port that a server listens at; it has to be written
 abbrev pub port : Item
 port = record { name = codes "port"; kind = number 0 65535; default = None }
 
@@ -95,9 +105,13 @@ serve_items = fuel ∷ life ∷ instances ∷ pages ∷ journal ∷ shelves ∷ 
 abbrev pub load_items : List Item
 load_items = run_number ∷ fuel ∷ life ∷ instances ∷ pages ∷ journal ∷ shelves ∷ []
 
--- the options of `audit`
-abbrev pub audit_items : List Item
-audit_items = journal ∷ shelves ∷ []
+-- the options of `export` and `follow`
+abbrev pub feed_items : List Item
+feed_items = journal ∷ shelf ∷ []
+
+-- the options of `audit` and `promote`
+abbrev pub shelves_items : List Item
+shelves_items = journal ∷ shelves ∷ []
 
 -- ---- options as they are written
 

@@ -2,14 +2,15 @@
 use Rattle.std.specs.Prelude.{⊤, ◌≡◌, ◌≢◌, ◌<◌, ◌≤◌, ◌∷◌, List, [], codes, length, Result, Err, IfOk}
 use Rattle.std.specs.Str.Parse.{digits_value}
 use Rattle.server_limits.specs.Limits.{AreConnections, AreInstances, ArePages, AreShelves, IsFuel, IsLife, IsWithin}
-use Rattle.command_words.specs.Options.{ArePlain, IsPlainNumber, Setting, Text, audit_items, flag_of, most_run, number_of, play_items, serve_items, spelled, text_of, most_requests, most_workers}
-use Rattle.command_words.specs.Options.{audit, connections, fuel, instances, journal, life, pages, port, requests, shelves, workers}
+use Rattle.command_words.specs.Options.{ArePlain, IsPlainNumber, Setting, Text, feed_items, shelves_items, flag_of, most_run, number_of, play_items, serve_items, spelled, text_of, last_shelf, most_requests, most_workers}
+use Rattle.command_words.specs.Options.{audit, connections, fuel, instances, journal, life, pages, port, requests, shelf, shelves, workers}
 use Rattle.command_words.specs.declared.Command.{Command}
-use Rattle.command_words.specs.declared.Command.TheVariants.{Audit, Check, Play, Serve, Load}
+use Rattle.command_words.specs.declared.Command.TheVariants.{Audit, Check, Export, Follow, Load, Play, Promote, Serve}
 use Rattle.command_words.specs.declared.Options.{Options}
 use Rattle.command_words.specs.declared.Service.{Service}
 use Rattle.command_words.specs.declared.LoadOptions.{LoadOptions}
-use Rattle.command_words.specs.declared.AuditOptions.{AuditOptions}
+use Rattle.command_words.specs.declared.FeedOptions.{FeedOptions}
+use Rattle.command_words.specs.declared.ShelvesOptions.{ShelvesOptions}
 use Rattle.command_words.specs.declared.WordsFault.{WordsFault}
 use Rattle.command_words.specs.declared.WordsFault.TheVariants.{Usage}
 
@@ -39,9 +40,13 @@ service_chosen s = record {
 abbrev pub load_chosen : Text → List Setting → LoadOptions
 load_chosen text s = record { number = digits_value 10 text; options = chosen s }
 
--- what settings ask of an audit
-abbrev pub audit_chosen : List Setting → AuditOptions
-audit_chosen s = record { journal = text_of journal s; shelves = number_of shelves s }
+-- what settings ask of one shelf
+abbrev pub feed_chosen : List Setting → FeedOptions
+feed_chosen s = record { journal = text_of journal s; shelf = number_of shelf s }
+
+-- what settings ask of shelves
+abbrev pub shelves_chosen : List Setting → ShelvesOptions
+shelves_chosen s = record { journal = text_of journal s; shelves = number_of shelves s }
 
 -- the words after the program's name are plain ones for this command
 abbrev pub ArePlainFor : List Text → Command → Type 0
@@ -54,7 +59,13 @@ ArePlainFor words (Load l) =
     (text : Text) × (s : List Setting) × (words ≡ codes "load" ∷ text ∷ spelled s) × IsPlainNumber 1 most_run text
     × ArePlain play_items s × (l ≡ load_chosen text s)
 ArePlainFor words (Audit a) =
-    (s : List Setting) × (words ≡ codes "audit" ∷ spelled s) × ArePlain audit_items s × (a ≡ audit_chosen s)
+    (s : List Setting) × (words ≡ codes "audit" ∷ spelled s) × ArePlain shelves_items s × (a ≡ shelves_chosen s)
+ArePlainFor words (Export e) =
+    (s : List Setting) × (words ≡ codes "export" ∷ spelled s) × ArePlain feed_items s × (e ≡ feed_chosen s)
+ArePlainFor words (Follow f) =
+    (s : List Setting) × (words ≡ codes "follow" ∷ spelled s) × ArePlain feed_items s × (f ≡ feed_chosen s)
+ArePlainFor words (Promote p) =
+    (s : List Setting) × (words ≡ codes "promote" ∷ spelled s) × ArePlain shelves_items s × (p ≡ shelves_chosen s)
 
 -- plain words are the program's name, a command, for `load` its number, then its options
 abbrev pub IsPlain : List Text → Command → Type 0
@@ -94,7 +105,13 @@ pub record CanLoad (l : LoadOptions) : Type 0 where
   pub low : 1 ≤ l.number
   pub high : l.number ≤ most_run
 
-pub record CanAudit (a : AuditOptions) : Type 0 where
+-- what the options of `export` and `follow` choose is in range
+pub record CanFeed (f : FeedOptions) : Type 0 where
+  pub journal : 0 < length f.journal
+  pub shelf : f.shelf ≤ last_shelf
+
+-- what the options of `audit` and `promote` choose is in range
+pub record HasShelves (a : ShelvesOptions) : Type 0 where
   pub journal : 0 < length a.journal
   pub shelves : AreShelves a.shelves
 
@@ -104,4 +121,7 @@ IsInRange Check = ⊤
 IsInRange (Play o) = AreInRange o
 IsInRange (Serve s) = CanServe s
 IsInRange (Load l) = CanLoad l
-IsInRange (Audit a) = CanAudit a
+IsInRange (Audit a) = HasShelves a
+IsInRange (Export e) = CanFeed e
+IsInRange (Follow f) = CanFeed f
+IsInRange (Promote p) = HasShelves p

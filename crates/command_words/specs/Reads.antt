@@ -7,13 +7,14 @@ use Rattle.clap.specs.Values.{IsUnsignedIn}
 use Rattle.clap.specs.Walk.{Row, first_of, one_of, rows_of}
 use Rattle.clap.specs.Matches.{found_of}
 use Rattle.clap.specs.declared.parser.matches.ArgMatches.{ArgMatches}
-use Rattle.command_words.specs.Options.{Item, Kind, Text, audit_items, bare, directory, flag, load_items, number, play_items, serve_items}
+use Rattle.command_words.specs.Options.{Item, Kind, Text, shelves_items, bare, directory, feed_items, flag, load_items, number, play_items, serve_items}
 use Rattle.command_words.specs.declared.Command.{Command}
-use Rattle.command_words.specs.declared.Command.TheVariants.{Audit, Check, Play, Serve, Load}
+use Rattle.command_words.specs.declared.Command.TheVariants.{Audit, Check, Export, Follow, Load, Play, Promote, Serve}
 use Rattle.command_words.specs.declared.Options.{Options}
 use Rattle.command_words.specs.declared.Service.{Service}
 use Rattle.command_words.specs.declared.LoadOptions.{LoadOptions}
-use Rattle.command_words.specs.declared.AuditOptions.{AuditOptions}
+use Rattle.command_words.specs.declared.FeedOptions.{FeedOptions}
+use Rattle.command_words.specs.declared.ShelvesOptions.{ShelvesOptions}
 
 -- the rows of options that a parse found
 abbrev pub rows_in : ArgMatches → List Row
@@ -61,8 +62,13 @@ service_at rows = record {
 abbrev pub load_at : List Row → LoadOptions
 load_at rows = record { number = number_at rows (codes "number"); options = options_at rows }
 
-abbrev pub audit_at : List Row → AuditOptions
-audit_at rows = record { journal = text_at rows (codes "journal"); shelves = number_at rows (codes "shelves") }
+-- what a parse found for the options of `audit` and `promote`
+abbrev pub shelves_at : List Row → ShelvesOptions
+shelves_at rows = record { journal = text_at rows (codes "journal"); shelves = number_at rows (codes "shelves") }
+
+-- what a parse found for the options of `export` and `follow`
+abbrev pub feed_at : List Row → FeedOptions
+feed_at rows = record { journal = text_at rows (codes "journal"); shelf = number_at rows (codes "shelf") }
 
 -- the command of this name, with the values in its rows
 abbrev pub asked_as : Text → List Row → Option Command
@@ -71,8 +77,11 @@ asked_as name rows =
     else (if bytes_eq name (codes "play") then Some (Play (options_at rows))
     else (if bytes_eq name (codes "serve") then Some (Serve (service_at rows))
     else (if bytes_eq name (codes "load") then Some (Load (load_at rows))
-    else (if bytes_eq name (codes "audit") then Some (Audit (audit_at rows))
-    else None))))
+    else (if bytes_eq name (codes "audit") then Some (Audit (shelves_at rows))
+    else (if bytes_eq name (codes "export") then Some (Export (feed_at rows))
+    else (if bytes_eq name (codes "follow") then Some (Follow (feed_at rows))
+    else (if bytes_eq name (codes "promote") then Some (Promote (shelves_at rows))
+    else None)))))))
 
 -- the command that the name and the options which a parse found ask for, if they ask for one
 abbrev pub asked_from : Option (Text × List Row) → Option Command
@@ -109,7 +118,10 @@ pub data HoldsFor (name : Text) (rows : List Row) : Type 0 where
   for_play : name ≡ codes "play" → Holds play_items rows → HoldsFor name rows
   for_serve : name ≡ codes "serve" → Holds serve_items rows → HoldsFor name rows
   for_load : name ≡ codes "load" → Holds load_items rows → HoldsFor name rows
-  for_audit : name ≡ codes "audit" → Holds audit_items rows → HoldsFor name rows
+  for_audit : name ≡ codes "audit" → Holds shelves_items rows → HoldsFor name rows
+  for_export : name ≡ codes "export" → Holds feed_items rows → HoldsFor name rows
+  for_follow : name ≡ codes "follow" → Holds feed_items rows → HoldsFor name rows
+  for_promote : name ≡ codes "promote" → Holds shelves_items rows → HoldsFor name rows
 
 -- the name and the options that a parse found have what the command needs
 abbrev pub HoldsAsked : Option (Text × List Row) → Type 0

@@ -4,10 +4,10 @@
 ghost use Rattle.std.specs.Prelude.{◌≡◌, ◌≢◌, ◌<◌, ◌^◌, [], Some, Err, true, false, IfOk, IfErr};
 ghost use Rattle.clap.specs.Simple.{app_of, subcommand_rows_of};
 ghost use Rattle.clap.specs.Walk.{rule_of};
-ghost use Rattle.command_words.specs.App.{IsLocal, app, audit_shape, bare_top, faults_in, load_shape, play_shape, rows_of_words, rule_for, serve_shape, texts, value_rule, with_items};
-ghost use Rattle.command_words.specs.Options.{audit, audit_items, connections, fuel, instances, journal, life, load_items, pages, play_items, port, requests, run_number, serve_items, shelves, workers};
+ghost use Rattle.command_words.specs.App.{IsLocal, app, audit_shape, bare_top, export_shape, faults_in, follow_shape, load_shape, play_shape, promote_shape, rows_of_words, rule_for, serve_shape, texts, value_rule, with_items};
+ghost use Rattle.command_words.specs.Options.{audit, connections, feed_items, fuel, instances, journal, life, load_items, pages, play_items, port, requests, run_number, serve_items, shelf, shelves, shelves_items, workers};
 ghost use Rattle.command_words.specs.Plain.{AcceptsPlain, IsInRange, ReadsPlain};
-ghost use Rattle.command_words.specs.Reads.{AsksFor, Holds, HoldsFlag, HoldsNoNumber, LacksAsked, HoldsText, asked_from, audit_at, flag_at, options_at, load_at, number_at, rows_in, service_at, text_at};
+ghost use Rattle.command_words.specs.Reads.{AsksFor, Holds, HoldsFlag, HoldsNoNumber, LacksAsked, HoldsText, asked_from, feed_at, shelves_at, flag_at, options_at, load_at, number_at, rows_in, service_at, text_at};
 ghost use Rattle.command_words.specs.declared.Command.{Command};
 
 use clap::builder::ValueParser;
@@ -28,6 +28,9 @@ pub const MOST_WORKERS: u32 = 16;
 
 /// The most requests that a link may carry.
 pub const MOST_REQUESTS: u32 = 1000;
+
+/// The greatest number of a shelf.
+pub const LAST_SHELF: u32 = MOST_SHELVES - 1;
 
 /// What the options that `play`, `serve` and `load` share say, each in its range.
 #[derive(Drop)]
@@ -72,13 +75,22 @@ pub struct LoadOptions {
     pub options: Options,
 }
 
-/// What the words of `audit` say, each in its range.
+/// What the words of `audit` and `promote` say, each in its range.
 #[derive(Drop)]
-pub struct AuditOptions {
+pub struct ShelvesOptions {
     /// The directory of the journals, of one byte or more. Where it is `-`, they stand in memory.
     pub journal: Str,
-    /// How many shelves are audited, from 0 on, 1 to `MOST_SHELVES`.
+    /// How many shelves there are, from 0 on, 1 to `MOST_SHELVES`.
     pub shelves: u32,
+}
+
+/// What the words of `export` and `follow` say, each in its range.
+#[derive(Drop)]
+pub struct FeedOptions {
+    /// The directory of the journals, of one byte or more. Where it is `-`, they stand in memory.
+    pub journal: Str,
+    /// The number of the shelf, 0 to `LAST_SHELF`.
+    pub shelf: u32,
 }
 
 /// What the words ask for.
@@ -93,7 +105,13 @@ pub enum Command {
     /// Performs a measured run, and tells what it came to.
     Load(LoadOptions),
     /// Audits the journals of shelves, and tells how many records each has.
-    Audit(AuditOptions),
+    Audit(ShelvesOptions),
+    /// Writes the records of a shelf's journal, for a follower.
+    Export(FeedOptions),
+    /// Reads the records of a leader's journal, and holds each before it acknowledges it.
+    Follow(FeedOptions),
+    /// Makes shelves that follow into shelves like any other.
+    Promote(ShelvesOptions),
 }
 
 /// Why words were refused.
@@ -199,6 +217,19 @@ fn shelves_arg<'a>(alloc: Global) -> Arg<'a>
         value_parser!(u64).range(1..=MOST_SHELVES as i64),
     )
     .default_value("1")
+}
+
+/// `--shelf N`
+fn shelf_arg<'a>(alloc: Global) -> Arg<'a>
+    ensures rule { rule_of result ≡ rule_for shelf }
+    ensures local { result.global ≡ false }
+{
+    value_arg(
+        alloc,
+        "shelf",
+        value_parser!(u64).range(0..=LAST_SHELF as i64),
+    )
+    .default_value("0")
 }
 
 /// `--port N`
@@ -322,6 +353,33 @@ fn audit_command<'a>(alloc: Global) -> Result<clap::Command<'a>, AllocError>
         .arg(shelves_arg(alloc))
 }
 
+fn export_command<'a>(alloc: Global) -> Result<clap::Command<'a>, AllocError>
+    ensures app { IfOk result (λ c. (app_of c).top ≡ export_shape) }
+    ensures local { IfOk result (λ c. IsLocal c) }
+{
+    clap::Command::new(alloc, "export")
+        .arg(journal_arg(alloc))?
+        .arg(shelf_arg(alloc))
+}
+
+fn follow_command<'a>(alloc: Global) -> Result<clap::Command<'a>, AllocError>
+    ensures app { IfOk result (λ c. (app_of c).top ≡ follow_shape) }
+    ensures local { IfOk result (λ c. IsLocal c) }
+{
+    clap::Command::new(alloc, "follow")
+        .arg(journal_arg(alloc))?
+        .arg(shelf_arg(alloc))
+}
+
+fn promote_command<'a>(alloc: Global) -> Result<clap::Command<'a>, AllocError>
+    ensures app { IfOk result (λ c. (app_of c).top ≡ promote_shape) }
+    ensures local { IfOk result (λ c. IsLocal c) }
+{
+    clap::Command::new(alloc, "promote")
+        .arg(journal_arg(alloc))?
+        .arg(shelves_arg(alloc))
+}
+
 fn new_command_line<'a>(alloc: Global) -> clap::Command<'a>
     ensures app { app_of result ≡ record { top = bare_top; subs = [] } }
 {
@@ -338,7 +396,10 @@ fn command_line<'a>(alloc: Global) -> Result<clap::Command<'a>, AllocError>
         .subcommand(play_command(alloc)?)?
         .subcommand(serve_command(alloc)?)?
         .subcommand(load_command(alloc)?)?
-        .subcommand(audit_command(alloc)?)
+        .subcommand(audit_command(alloc)?)?
+        .subcommand(export_command(alloc)?)?
+        .subcommand(follow_command(alloc)?)?
+        .subcommand(promote_command(alloc)?)
 }
 
 /// What `clap` finds in the words.
@@ -437,13 +498,23 @@ fn load_of(alloc: Global, matches: &ArgMatches<'_>) -> Result<LoadOptions, Words
     })
 }
 
-fn audit_of(alloc: Global, matches: &ArgMatches<'_>) -> Result<AuditOptions, WordsFault>
-    ensures value { IfOk result (λ a. a ≡ audit_at (rows_in matches.now)) }
-    ensures refused { result ≡ Err WordsFault.Usage → Holds audit_items (rows_in matches.now) → ⊥ }
+fn shelves_of(alloc: Global, matches: &ArgMatches<'_>) -> Result<ShelvesOptions, WordsFault>
+    ensures value { IfOk result (λ a. a ≡ shelves_at (rows_in matches.now)) }
+    ensures refused { result ≡ Err WordsFault.Usage → Holds shelves_items (rows_in matches.now) → ⊥ }
 {
-    Ok(AuditOptions {
+    Ok(ShelvesOptions {
         journal: text(alloc, matches, "journal")?,
         shelves: short_number(matches, "shelves")?,
+    })
+}
+
+fn feed_of(alloc: Global, matches: &ArgMatches<'_>) -> Result<FeedOptions, WordsFault>
+    ensures value { IfOk result (λ f. f ≡ feed_at (rows_in matches.now)) }
+    ensures refused { result ≡ Err WordsFault.Usage → Holds feed_items (rows_in matches.now) → ⊥ }
+{
+    Ok(FeedOptions {
+        journal: text(alloc, matches, "journal")?,
+        shelf: short_number(matches, "shelf")?,
     })
 }
 
@@ -459,7 +530,10 @@ fn command_of(alloc: Global, matches: &ArgMatches<'_>) -> Result<Command, WordsF
         "play" => Ok(Command::Play(options_of(alloc, inner)?)),
         "serve" => Ok(Command::Serve(service_of(alloc, inner)?)),
         "load" => Ok(Command::Load(load_of(alloc, inner)?)),
-        "audit" => Ok(Command::Audit(audit_of(alloc, inner)?)),
+        "audit" => Ok(Command::Audit(shelves_of(alloc, inner)?)),
+        "export" => Ok(Command::Export(feed_of(alloc, inner)?)),
+        "follow" => Ok(Command::Follow(feed_of(alloc, inner)?)),
+        "promote" => Ok(Command::Promote(shelves_of(alloc, inner)?)),
         _ => Err(WordsFault::Usage),
     }
 }

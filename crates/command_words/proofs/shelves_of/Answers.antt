@@ -1,7 +1,7 @@
 use Rattle.std.proofs.Common.{rules, ◌≡◌, ap, arith, Err}
 use Rattle.server_limits.specs.Limits.{most_shelves}
 use Rattle.command_words.proofs.Reading.{same_error}
-use Rattle.command_words.proofs.audit_of.Goals as goal
+use Rattle.command_words.proofs.shelves_of.Goals as goal
 
 pub returns-in_err-text-clause-refused : goal.returns-in_err-text-clause-refused
 returns-in_err-text-clause-refused c =

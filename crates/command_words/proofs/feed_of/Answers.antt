@@ -1,0 +1,12 @@
+use Rattle.std.proofs.Common.{rules, ◌≡◌, ap, arith, Err}
+use Rattle.command_words.specs.Options.{last_shelf}
+use Rattle.command_words.proofs.Reading.{same_error}
+use Rattle.command_words.proofs.feed_of.Goals as goal
+
+pub returns-in_err-text-clause-refused : goal.returns-in_err-text-clause-refused
+returns-in_err-text-clause-refused c =
+    let is : c.from_residual.result ≡ Err c.in_err-text.field-0.0 = search rules in
+    λ usage held. c.in_err-text.ensures.refused (ap (λ x. Err x) (same_error _ _ _ is usage)) held.0
+
+pub returns-in_err-short_number-clause-refused : goal.returns-in_err-short_number-clause-refused
+returns-in_err-short_number-clause-refused c = λ usage held. c.in_err-short_number.ensures.refused 0 last_shelf (omega arith) held.1.0
