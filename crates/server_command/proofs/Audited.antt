@@ -2,15 +2,13 @@
 use Rattle.std.proofs.Common.{◌≡◌, ◌≤◌, ◌∙◌, inl, inr, ℕ, List, length, Bool, true, false, IsTrue, Option, Some, None, Result, Ok, Err, refl, sym, subst, ap, arith, codes}
 use Rattle.std.specs.Prelude.{⊤, IsErrOf}
 use Rattle.std.specs.Io.KnownBytes.{Consumes, IsAtEnd}
-use Rattle.web_outside.specs.Causes.{Rose}
 use Rattle.web_outside.specs.Limits.{most_of_input}
 use Rattle.web_outside.proofs.Writes.{appends_none}
 use Rattle.web_disk.specs.View.{RackView}
 use Rattle.script_nodes.specs.Setup.{Named}
 use Rattle.disk_trio.proofs.Views.{rose_later}
 use Rattle.command_words.specs.declared.Command.{Command}
-use Rattle.command_words.specs.declared.Command.TheVariants.{Audit, Check, Load, Play, Serve}
-use Rattle.command_words.specs.declared.AuditOptions.{AuditOptions}
+use Rattle.command_words.specs.declared.Command.TheVariants.{Audit, Check, Export, Follow, Load, Play, Promote, Serve}
 use Rattle.command_words.specs.declared.LoadOptions.{LoadOptions}
 use Rattle.command_words.specs.declared.Service.{Service}
 use Rattle.command_words.proofs.Holds.{same_asked}
@@ -23,15 +21,16 @@ use Rattle.server_command.specs.declared.program.Status.{Status}
 use Rattle.server_command.specs.declared.program.Status.TheVariants as status
 use Rattle.server_command.specs.declared.serving.ServeFault.{ServeFault}
 use Rattle.server_command.specs.declared.serving.ServeFault.TheVariants as fault
-use Rattle.server_command.specs.Auditing.{ComesThrough, HoldYes, LeavesAudit, LeavesStopped, no_text, ok_text}
+use Rattle.server_command.specs.Auditing.{ComesThrough, HoldYes, no_text}
 use Rattle.server_command.specs.Command.{Around, CameServing, ComesTo, Ends, Explained, HasCause, IsComplete, IsSetupOf, JournalsOpen, Met, Prints, Untouched, asked_in, asks_in, code_of, met_in, serves_in}
-use Rattle.server_command.specs.Ending.{ComesServed, ComesSo, EndsBehind, HasEnded, ServesSo, WithoutAudits, at_once, audited, behind, from_rack, plainly, served_from, stopped}
+use Rattle.server_command.specs.Ending.{ComesServed, ComesSo, EndsBehind, HasEnded, ServesSo, WithoutAudits, at_once, audited, behind, exported, fed, from_rack, plainly, promoted, served_from, stopped}
 use Rattle.server_command.specs.Order.{Asks, AsksInOrder, AsksRack, ServesInOrder}
-use Rattle.server_command.specs.Output.{Chances, Sinks}
+use Rattle.server_command.specs.Output.{Chances}
 use Rattle.server_command.specs.Racks.{Racks, AtRest, racks_of}
-use Rattle.server_command.specs.Serving.{HaveRisen, LeavesServing, Outside, RackFailed, outside}
+use Rattle.server_command.specs.Serving.{HaveRisen, LeavesServing, Outside, outside}
 use Rattle.server_command.specs.Telling.{TellsOutcome}
 use Rattle.server_command.proofs.Audits.{hold_yes, stopped_leaves}
+use Rattle.server_command.proofs.Caused.{audit_caused, caused, export_caused, follow_caused, promote_caused, stopped_caused}
 use Rattle.server_command.proofs.Causes.{plain_asks, read_to_end, served_came}
 use Rattle.server_command.proofs.Endings.{no_chances, whole_input}
 use Rattle.server_command.proofs.Orders.{outcome_order}
@@ -131,6 +130,9 @@ without_any (Some (Play o)) tells rack = tt
 without_any (Some (Load l)) tells rack = tt
 without_any (Some (Serve s)) tells rack = λ on. refl
 without_any (Some (Audit o)) tells rack = tt
+without_any (Some (Export o)) tells rack = tt
+without_any (Some (Follow o)) tells rack = tt
+without_any (Some (Promote o)) tells rack = tt
 
 -- ---- any other command
 
@@ -148,6 +150,9 @@ job_so view a c how asked other shut undrawn chances comes order =
     none (Load l) other = tt
     none (Serve s) other = absurd other
     none (Audit o) other = tt
+    none (Export o) other = tt
+    none (Follow o) other = tt
+    none (Promote o) other = tt
 
     in_order : (x : Command) → IsNoServing x → AsksRack a.rack x how → AsksInOrder (asks_in a) a.rack (Some x) how
     in_order Check other asks = (undrawn, shut, asks)
@@ -155,6 +160,9 @@ job_so view a c how asked other shut undrawn chances comes order =
     in_order (Load l) other asks = (undrawn, shut, asks)
     in_order (Serve s) other asks = absurd other
     in_order (Audit o) other asks = (undrawn, shut, asks)
+    in_order (Export o) other asks = (undrawn, shut, asks)
+    in_order (Follow o) other asks = (undrawn, shut, asks)
+    in_order (Promote o) other asks = (undrawn, shut, asks)
 
 -- the words are no command
 pub usage_so : {R D P L N : Type 0} (view : R → RackView) (a : Around D P L N) → asked_in a.words ≡ None → Prints (met_in a) (codes "error 2 usage\n")
@@ -182,59 +190,11 @@ has_ended {R = R} {D = D} {P = P} {L = L} {N = N} view a law result how code e =
     by_end (behind s asked on began passed so) = behind s asked on began passed (plain_end law result how code (from_rack a (view began)) so)
     by_end (stopped s asked on p) = stopped s asked on p
     by_end (audited o asked p) = audited o asked p
+    by_end (exported o asked p) = exported o asked p
+    by_end (fed o asked p) = fed o asked p
+    by_end (promoted o asked p) = promoted o asked p
 
 -- ---- causes
-
--- what ends at audits, or behind them, fails only where a call of that failed
-stopped_cause : (rack : Racks) (count : ℕ) (how : Status) (out : Sinks) (text : List (List ℕ) → List ℕ) → LeavesStopped text rack count how out
-    → (code_of how ≡ 7 → Rose rack.before.faults rack.after.faults) × (code_of how ≡ 2 → ⊥) × (code_of how ≡ 5 → ⊥) × (code_of how ≡ 6 → ⊥)
-    × (code_of how ≡ 9 → ⊥) × (code_of how ≡ 14 → ⊥)
-stopped_cause rack count status.Disk out text p =
-    (λ e. p.2.1.all, λ e. omega arith, λ e. omega arith, λ e. omega arith, λ e. omega arith, λ e. omega arith)
-stopped_cause rack count status.Journal out text p =
-    (λ e. absurd (omega arith), λ e. omega arith, λ e. omega arith, λ e. omega arith, λ e. omega arith, λ e. omega arith)
-stopped_cause rack count status.Audit out text p =
-    (λ e. absurd (omega arith), λ e. omega arith, λ e. omega arith, λ e. omega arith, λ e. omega arith, λ e. omega arith)
-stopped_cause rack count status.Memory out text p =
-    (λ e. absurd (omega arith), λ e. omega arith, λ e. omega arith, λ e. omega arith, λ e. omega arith, λ e. omega arith)
-stopped_cause rack count how out text p = absurd p
-
-no_cause : (result : ℕ) (how : Status) (met : Met) (rack : Racks) (count : ℕ) (out : Sinks) (text : List (List ℕ) → List ℕ) → result ≡ code_of how
-    → (Rose rack.before.faults rack.after.faults → RackFailed met.rack) → LeavesStopped text rack count how out → HasCause result met
-no_cause result how met rack count out text code rises p =
-    let is = stopped_cause rack count how out text p in
-    record {
-      usage = λ e. absurd (is.1 (sym code ∙ e));
-      read = λ e. absurd (is.2 (sym code ∙ e));
-      write = λ e. absurd (is.3 (sym code ∙ e));
-      disk = λ e. rises (is.0 (sym code ∙ e));
-      door = λ e. absurd (is.4 (sym code ∙ e));
-      key = λ e. absurd (is.5 (sym code ∙ e));
-    }
-
-audit_cause : {D P L N : Type 0} (a : Around D P L N) (o : AuditOptions) (result : ℕ) (how : Status) → result ≡ code_of how
-    → LeavesAudit a.rack o.shelves how (met_in a).output → HasCause result (met_in a)
-audit_cause a o result status.Done code p = record {
-  usage = λ e. absurd (omega (arith, code, e));
-  read = λ e. absurd (omega (arith, code, e));
-  write = λ e. absurd (omega (arith, code, e));
-  disk = λ e. absurd (omega (arith, code, e));
-  door = λ e. absurd (omega (arith, code, e));
-  key = λ e. absurd (omega (arith, code, e));
-}
-audit_cause a o result status.Write code p = record {
-  usage = λ e. absurd (omega (arith, code, e));
-  read = λ e. absurd (omega (arith, code, e));
-  write = λ e. p.3;
-  disk = λ e. absurd (omega (arith, code, e));
-  door = λ e. absurd (omega (arith, code, e));
-  key = λ e. absurd (omega (arith, code, e));
-}
-audit_cause a o result status.Disk code p = no_cause result status.Disk (met_in a) a.rack o.shelves (met_in a).output (ok_text 0) code (λ r. r) p
-audit_cause a o result status.Journal code p = no_cause result status.Journal (met_in a) a.rack o.shelves (met_in a).output (ok_text 0) code (λ r. r) p
-audit_cause a o result status.Audit code p = no_cause result status.Audit (met_in a) a.rack o.shelves (met_in a).output (ok_text 0) code (λ r. r) p
-audit_cause a o result status.Memory code p = no_cause result status.Memory (met_in a) a.rack o.shelves (met_in a).output (ok_text 0) code (λ r. r) p
-audit_cause a o result how code p = absurd p
 
 pub has_cause : {R D P L N : Type 0} (view : R → RackView) (a : Around D P L N) (result : ℕ) (how : Status) → result ≡ code_of how
     → EndsBehind view how (ComesSo how) a → HasCause result (met_in a)
@@ -250,8 +210,11 @@ has_cause view a result how code (behind s asked on began passed so) =
       key = later.key;
     }
 has_cause view a result how code (stopped s asked on p) =
-    no_cause result how (met_in a) a.rack s.options.shelves (met_in a).output no_text code (λ r. r) p.stops
-has_cause view a result how code (audited o asked p) = audit_cause a o result how code p.leaves
+    caused result how (met_in a) code (stopped_caused (met_in a) no_text s.options.shelves how p.stops)
+has_cause view a result how code (audited o asked p) = caused result how (met_in a) code (audit_caused (met_in a) o.shelves how p.leaves)
+has_cause view a result how code (exported o asked p) = caused result how (met_in a) code (export_caused a.views.disk (met_in a) o.shelf how p.leaves)
+has_cause view a result how code (fed o asked p) = caused result how (met_in a) code (follow_caused a.views.disk a o.shelf how p.leaves)
+has_cause view a result how code (promoted o asked p) = caused result how (met_in a) code (promote_caused a.views.disk (met_in a) o.shelves how p.leaves)
 
 -- ---- lawful inputs
 
@@ -278,3 +241,9 @@ is_complete view a result how code (stopped s asked on p) =
     never_complete result (met_in a) (Serve s) asked (λ scripts opens. audits_open s scripts a.rack on opens) (λ l e. let no : ⊥ = cc in no)
 is_complete view a result how code (audited o asked p) =
     never_complete result (met_in a) (Audit o) asked (λ scripts opens. opens) (λ l e. let no : ⊥ = cc in no)
+is_complete view a result how code (exported o asked p) =
+    never_complete result (met_in a) (Export o) asked (λ scripts opens. opens) (λ l e. let no : ⊥ = cc in no)
+is_complete view a result how code (fed o asked p) =
+    never_complete result (met_in a) (Follow o) asked (λ scripts opens. opens) (λ l e. let no : ⊥ = cc in no)
+is_complete view a result how code (promoted o asked p) =
+    never_complete result (met_in a) (Promote o) asked (λ scripts opens. opens) (λ l e. let no : ⊥ = cc in no)

@@ -11,7 +11,7 @@ use Rattle.web_outside.specs.declared.source.InputFault.{InputFault}
 use Rattle.web_outside.specs.declared.source.InputFault.TheVariants as faults
 use Rattle.command_words.specs.App.{app}
 use Rattle.command_words.specs.Plain.{IsPlain}
-use Rattle.command_words.specs.declared.Command.TheVariants.{Audit, Check, Play, Serve, Load}
+use Rattle.command_words.specs.declared.Command.TheVariants.{Audit, Check, Export, Follow, Load, Play, Promote, Serve}
 use Rattle.command_words.specs.declared.Service.{Service}
 use Rattle.command_words.specs.declared.Command.{Command}
 use Rattle.command_words.specs.Reads.{asked_from}
@@ -51,6 +51,7 @@ comes asked status.Journal met bytes chances read end short p = has_done asked s
 comes asked status.Door met bytes chances read end short p = absurd p
 comes asked status.Key met bytes chances read end short p = absurd p
 comes asked status.Audit met bytes chances read end short p = absurd p
+comes asked status.Feed met bytes chances read end short p = absurd p
 
 pub came : (asked : Command) (s : Status) (met : Met) (bytes : List ℕ) → Consumes met.input met.unread bytes → IsAtEnd met.unread → length bytes ≤ most_of_input
     → Outputs met.rack asked bytes s met.output → Came asked s met
@@ -112,6 +113,7 @@ served_comes serves v status.Journal met bytes chances same read end short p = h
 served_comes serves v status.Door met bytes chances same read end short p =
     (has_served serves v status.Door met bytes chances read end short p, p.2.0)
 served_comes serves v status.Audit met bytes chances same read end short p = absurd p
+served_comes serves v status.Feed met bytes chances same read end short p = absurd p
 served_comes serves v status.Key met bytes chances same read end short p =
     (has_served serves v status.Key met bytes chances read end short p, p.2.0)
 
@@ -152,6 +154,9 @@ never_usage serves (Play o) chances met h = h
 never_usage serves (Serve v) chances met h = h
 never_usage serves (Load l) chances met h = h.1
 never_usage serves (Audit o) chances met h = h
+never_usage serves (Export o) chances met h = h
+never_usage serves (Follow o) chances met h = h
+never_usage serves (Promote o) chances met h = h
 
 -- memory ran out as the words were read
 pub unworded : (serves : Serves) (s : Status) (met : Met) → s ≡ status.Memory → Prints met (codes "error 10 memory\n") → Untouched met → AtRest met.rack

@@ -6,7 +6,7 @@ use Rattle.trio_rack.specs.Trios.{shelves_of}
 use Rattle.web_outside.specs.Causes.{Rose}
 use Rattle.web_outside.specs.Limits.{most_of_input}
 use Rattle.web_outside.specs.Pieces.{ReadsPast}
-use Rattle.command_words.specs.declared.Command.TheVariants.{Audit, Check, Play, Serve, Load}
+use Rattle.command_words.specs.declared.Command.TheVariants.{Audit, Check, Export, Follow, Load, Play, Promote, Serve}
 use Rattle.command_words.specs.declared.LoadOptions.{LoadOptions}
 use Rattle.command_words.specs.declared.Options.{Options}
 use Rattle.command_words.specs.declared.Service.{Service}
@@ -86,6 +86,9 @@ outgrown rack (Some (Check, setup)) chances out h = absurd h
 outgrown rack (Some (Serve v, setup)) chances out h = absurd h
 outgrown rack (Some (Load l, setup)) chances out h = absurd h
 outgrown rack (Some (Audit o, setup)) chances out h = absurd h
+outgrown rack (Some (Export o, setup)) chances out h = absurd h
+outgrown rack (Some (Follow o, setup)) chances out h = absurd h
+outgrown rack (Some (Promote o, setup)) chances out h = absurd h
 outgrown rack None chances out h = absurd h
 
 ends_outgrown : (asked : Command) (met : Met) (bytes : List ℕ) (chances : Chances)
@@ -122,6 +125,7 @@ asked_exact asked status.Journal met bytes chances e is settles h =
 asked_exact asked status.Door met bytes chances e is settles h = absurd h
 asked_exact asked status.Key met bytes chances e is settles h = absurd h
 asked_exact asked status.Audit met bytes chances e is settles h = absurd h
+asked_exact asked status.Feed met bytes chances e is settles h = absurd h
 
 -- what is known of the input that was served
 input_left : (serves : Serves) (v : Service) (s : Status) (met : Met) (bytes : List ℕ) (chances : Chances) → met.input ≡ Some bytes → HasServed serves v chances s met
@@ -200,6 +204,7 @@ serving_exact serves v status.Journal met bytes chances same e is settles h =
 serving_exact serves v status.Door met bytes chances same e is settles h = inr (inr (inr (inr (inl (refl, h.1)))))
 serving_exact serves v status.Key met bytes chances same e is settles h = inr (inr (inr (inr (inr (inl (refl, h.1))))))
 serving_exact serves v status.Audit met bytes chances same e is settles h = absurd h
+serving_exact serves v status.Feed met bytes chances same e is settles h = absurd h
 
 exact_to : (serves : Serves) (asked : Command) (s : Status) (met : Met) (bytes : List ℕ) (chances : Chances) → ReadsInput (asked_in met.words) → serves.rack ≡ met.rack → met.input ≡ Some bytes
     → asked_in met.words ≡ Some asked → Settles met.rack (reached_by (asked_in met.words) bytes) → ComesTo serves asked chances s met
@@ -209,6 +214,9 @@ exact_to serves (Play o) s met bytes chances reads same e is settles h = asked_e
 exact_to serves (Serve v) s met bytes chances reads same e is settles h = serving_exact serves v s met bytes chances same e is settles h
 exact_to serves (Load l) s met bytes chances reads same e is settles h = absurd (subst ReadsInput is reads)
 exact_to serves (Audit o) s met bytes chances reads same e is settles h = absurd h
+exact_to serves (Export o) s met bytes chances reads same e is settles h = absurd h
+exact_to serves (Follow o) s met bytes chances reads same e is settles h = absurd h
+exact_to serves (Promote o) s met bytes chances reads same e is settles h = absurd h
 
 refused_exact : (s : Status) (met : Met) (bytes : List ℕ) (chances : Chances) → Refuses (asked_in met.words) s met → EndsAs (code_of s) met bytes chances
 refused_exact status.Usage met bytes chances h = inl (record {
@@ -285,6 +293,9 @@ setup_status (Serve v) setup chances rack opens taken =
     ⊎ ((unless_shut f (record { text = []; error = []; status = 0 })).status ≡ 4))
     (sym (fit_opens (unfit_left setup.scripts) (shelves_of rack.before).holds 0 chances.disks opens.1 taken.held)) (inl refl)
 setup_status (Audit o) setup chances rack opens taken = absurd opens
+setup_status (Export o) setup chances rack opens taken = absurd opens
+setup_status (Follow o) setup chances rack opens taken = absurd opens
+setup_status (Promote o) setup chances rack opens taken = absurd opens
 setup_status (Load l) setup chances rack opens taken = inl (opens_fine l chances (fit_opens unfit_new (held_anew rack.before) 0 chances.disks opens.1 taken.held))
 
 not_3 : (n : ℕ) → (n ≡ 0) ⊎ (n ≡ 4) → n ≡ 3 → ⊥
@@ -319,6 +330,9 @@ open_settles asked met bytes l opens =
     tells (Serve v) setup h = h.0
     tells (Load l) setup h = h.0
     tells (Audit o) setup h = absurd h
+    tells (Export o) setup h = absurd h
+    tells (Follow o) setup h = absurd h
+    tells (Promote o) setup h = absurd h
 
 -- a run of steps ended well, or at a step that does not fit, or for want of memory; or an edit outgrew a journal
 abbrev PlaysWell : (result : ℕ) → Met → (bytes : List ℕ) → Chances → Type 0
@@ -346,6 +360,7 @@ play_complete o status.Journal met bytes chances e is l opens read write rack h 
 play_complete o status.Door met bytes chances e is l opens read write rack h = absurd h
 play_complete o status.Key met bytes chances e is l opens read write rack h = absurd h
 play_complete o status.Audit met bytes chances e is l opens read write rack h = absurd h
+play_complete o status.Feed met bytes chances e is l opens read write rack h = absurd h
 
 same_setup : (r : Result Parsed Fault) (a b : Parsed) → r ≡ Ok a → r ≡ Ok b → a ≡ b
 same_setup r a b e f = cc
@@ -377,6 +392,7 @@ serving_complete serves v status.Journal met bytes chances same e l opens read w
 serving_complete serves v status.Door met bytes chances same e l opens read write well h = absurd (well.1 h.1)
 serving_complete serves v status.Key met bytes chances same e l opens read write well h = absurd (well.2 h.1)
 serving_complete serves v status.Audit met bytes chances same e l opens read write well h = absurd h
+serving_complete serves v status.Feed met bytes chances same e l opens read write well h = absurd h
 
 -- a check has no steps, and takes no disks
 four : (x : Result Parsed Fault) → (counted x).status ≡ 4 → ⊥
@@ -416,6 +432,7 @@ check_complete status.Journal met bytes chances e l read write h =
 check_complete status.Door met bytes chances e l read write h = absurd h
 check_complete status.Key met bytes chances e l read write h = absurd h
 check_complete status.Audit met bytes chances e l read write h = absurd h
+check_complete status.Feed met bytes chances e l read write h = absurd h
 
 -- a measured run on disks that hold nothing
 loading_complete : (l : LoadOptions) (s : Status) (met : Met) (chances : Chances) → IsTrue met.rack.tells × AreFit unfit_new (held_anew met.rack.before)
@@ -449,6 +466,9 @@ complete_to serves (Play o) s met bytes chances same e is l opens read write wel
 complete_to serves (Serve v) s met bytes chances same e is l opens read write well h =
     inl (serving_complete serves v s met bytes chances same e l opens read write well h)
 complete_to serves (Audit o) s met bytes chances same e is l opens read write well h = absurd h
+complete_to serves (Export o) s met bytes chances same e is l opens read write well h = absurd h
+complete_to serves (Follow o) s met bytes chances same e is l opens read write well h = absurd h
+complete_to serves (Promote o) s met bytes chances same e is l opens read write well h = absurd h
 complete_to serves (Load o) s met bytes chances same e is l opens read write well h = inl (loading_complete o s met chances opens write well h)
 
 memory_ends : (asked : Command) (n : ℕ) → n ≡ 10 → EndsWell asked n
@@ -457,6 +477,9 @@ memory_ends (Play o) n e = inr (inr e)
 memory_ends (Serve v) n e = inr e
 memory_ends (Load l) n e = inr e
 memory_ends (Audit o) n e = inr e
+memory_ends (Export o) n e = inr e
+memory_ends (Follow o) n e = inr e
+memory_ends (Promote o) n e = inr e
 
 -- what was asked for is what is lawful
 record IsLawfulFor (asked : Command) (met : Met) (bytes : List ℕ) : Type 0 where
@@ -482,6 +505,9 @@ door_of serves (Play o) chances met h = absurd h
 door_of serves (Serve v) chances met h = h.1
 door_of serves (Load l) chances met h = absurd h.1
 door_of serves (Audit o) chances met h = absurd h
+door_of serves (Export o) chances met h = absurd h
+door_of serves (Follow o) chances met h = absurd h
+door_of serves (Promote o) chances met h = absurd h
 
 key_of : (serves : Serves) (asked : Command) (chances : Chances) (met : Met) → ComesTo serves asked chances status.Key met → HaveRisen met.seeds
 key_of serves Check chances met h = absurd h
@@ -489,6 +515,9 @@ key_of serves (Play o) chances met h = absurd h
 key_of serves (Serve v) chances met h = h.1
 key_of serves (Load l) chances met h = absurd h.1
 key_of serves (Audit o) chances met h = absurd h
+key_of serves (Export o) chances met h = absurd h
+key_of serves (Follow o) chances met h = absurd h
+key_of serves (Promote o) chances met h = absurd h
 
 disk_of : (serves : Serves) (asked : Command) (chances : Chances) (met : Met) → ComesTo serves asked chances status.Disk met → RackFailed met.rack
 disk_of serves Check chances met h = h.1
@@ -496,6 +525,9 @@ disk_of serves (Play o) chances met h = h.1
 disk_of serves (Serve v) chances met h = h.1
 disk_of serves (Load l) chances met h = h.1.1.all
 disk_of serves (Audit o) chances met h = absurd h
+disk_of serves (Export o) chances met h = absurd h
+disk_of serves (Follow o) chances met h = absurd h
+disk_of serves (Promote o) chances met h = absurd h
 
 is_door : (s : Status) → code_of s ≡ 9 → s ≡ status.Door
 is_door s e = grind (arith, e)

@@ -8,7 +8,7 @@ use Rattle.web_outside.specs.Causes.{Rose}
 use Rattle.web_outside.specs.Pieces.{AppendsUnlessFault}
 use Rattle.web_outside.proofs.Writes.{appends_none, appends_then, appends_kept}
 use Rattle.command_words.specs.declared.Command.{Command}
-use Rattle.command_words.specs.declared.Command.TheVariants.{Audit, Check, Play, Serve, Load}
+use Rattle.command_words.specs.declared.Command.TheVariants.{Audit, Check, Export, Follow, Load, Play, Promote, Serve}
 use Rattle.script_nodes.specs.Setup.{Named}
 use Rattle.setup_reader.specs.declared.setup.Ending.TheVariants.{Input}
 use Rattle.setup_reader.specs.Setup.{Parsed, Fault, setup_of}
@@ -75,6 +75,9 @@ untouched told rack Check setup = at_rest told rack
 untouched told rack (Serve v) setup = tt
 untouched told rack (Load l) setup = tt
 untouched told rack (Audit o) setup = tt
+untouched told rack (Export o) setup = tt
+untouched told rack (Follow o) setup = tt
+untouched told rack (Promote o) setup = tt
 
 unread : (rack : Racks) (asked : Command) (e : Fault) → AtRest rack → Remains rack asked (Err e) no_chances [] IsAny 0
 unread rack Check e rest = rest
@@ -82,6 +85,9 @@ unread rack (Play o) e rest = rest
 unread rack (Serve v) e rest = tt
 unread rack (Load l) e rest = tt
 unread rack (Audit o) e rest = tt
+unread rack (Export o) e rest = tt
+unread rack (Follow o) e rest = tt
+unread rack (Promote o) e rest = tt
 
 -- memory ran out before anything was written
 pub early : (rack : Racks) (asked : Command) (bytes : List ℕ) (s : Status) (old new : Option (List ℕ)) (before after : ℕ) → s ≡ status.Memory
@@ -128,6 +134,9 @@ faulty_output (Play o) reads bytes chances e h = rw h refl
 faulty_output (Serve v) reads bytes chances e h = rw h refl
 faulty_output (Load l) reads bytes chances e h = absurd reads
 faulty_output (Audit o) reads bytes chances e h = absurd reads
+faulty_output (Export o) reads bytes chances e h = absurd reads
+faulty_output (Follow o) reads bytes chances e h = absurd reads
+faulty_output (Promote o) reads bytes chances e h = absurd reads
 
 fault_tells : (rack : Racks) (asked : Command) → ReadsInput (Some asked) → (bytes : List ℕ) (e : Fault) (out : Sinks) → setup_of (ending_of asked) bytes ≡ Err e
     → AppendsUnlessFault out.held out.holds (fault_line e) out.before out.after → AtRest rack → Outputs rack asked bytes status.Setup out

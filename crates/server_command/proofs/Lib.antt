@@ -17,5 +17,9 @@ pub mod Loads
 pub mod Orders
 pub mod Whole
 pub mod Owned
+pub mod Caused
+pub mod Bare
+pub mod Promotes
+pub mod Feeds
 pub mod Audited
 pub mod Lent

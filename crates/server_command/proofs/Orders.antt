@@ -4,7 +4,7 @@ use Rattle.web_disk.specs.View.{RackView}
 use Rattle.web_outside.specs.declared.source.InputFault.{InputFault}
 use Rattle.web_outside.specs.declared.source.InputFault.TheVariants as faults
 use Rattle.command_words.specs.declared.Command.{Command}
-use Rattle.command_words.specs.declared.Command.TheVariants.{Audit, Check, Play, Serve, Load}
+use Rattle.command_words.specs.declared.Command.TheVariants.{Audit, Check, Export, Follow, Load, Play, Promote, Serve}
 use Rattle.request_workers.specs.declared.tally.Tally.{Tally}
 use Rattle.setup_reader.specs.Setup.{Fault}
 use Rattle.site_serving.specs.declared.serving.ServingFault.{ServingFault}
@@ -170,8 +170,17 @@ fault_asked rack (Load l) e status.Setup out p rest = rest
 fault_asked rack (Load l) e status.Memory out p rest = inl rest.asked
 fault_asked rack (Load l) e s out p rest = absurd p
 fault_asked rack (Audit o) e status.Setup out p rest = rest
+fault_asked rack (Export o) e status.Setup out p rest = rest
+fault_asked rack (Follow o) e status.Setup out p rest = rest
+fault_asked rack (Promote o) e status.Setup out p rest = rest
 fault_asked rack (Audit o) e status.Memory out p rest = tt
+fault_asked rack (Export o) e status.Memory out p rest = tt
+fault_asked rack (Follow o) e status.Memory out p rest = tt
+fault_asked rack (Promote o) e status.Memory out p rest = tt
 fault_asked rack (Audit o) e s out p rest = absurd p
+fault_asked rack (Export o) e s out p rest = absurd p
+fault_asked rack (Follow o) e s out p rest = absurd p
+fault_asked rack (Promote o) e s out p rest = absurd p
 
 unheld : (rack : Racks) (asked : Command) → AtRest rack → AsksRack rack asked status.Memory
 unheld rack Check rest = rest
@@ -179,6 +188,9 @@ unheld rack (Play o) rest = inl rest.asked
 unheld rack (Serve v) rest = tt
 unheld rack (Load l) rest = inl rest.asked
 unheld rack (Audit o) rest = tt
+unheld rack (Export o) rest = tt
+unheld rack (Follow o) rest = tt
+unheld rack (Promote o) rest = tt
 
 pub unheld_asked : (rack : Racks) (asked : Command) (s : Status) → s ≡ status.Memory → AtRest rack → AsksRack rack asked s
 unheld_asked rack asked s is rest = subst (AsksRack rack asked) (sym is) (unheld rack asked rest)
@@ -189,10 +201,16 @@ unread rack (Play o) faults.Failed rest = rest
 unread rack (Serve v) faults.Failed rest = rest
 unread rack (Load l) faults.Failed rest = rest
 unread rack (Audit o) faults.Failed rest = rest
+unread rack (Export o) faults.Failed rest = rest
+unread rack (Follow o) faults.Failed rest = rest
+unread rack (Promote o) faults.Failed rest = rest
 unread rack (Play o) faults.Long rest = rest
 unread rack (Serve v) faults.Long rest = rest
 unread rack (Load l) faults.Long rest = rest
 unread rack (Audit o) faults.Long rest = rest
+unread rack (Export o) faults.Long rest = rest
+unread rack (Follow o) faults.Long rest = rest
+unread rack (Promote o) faults.Long rest = rest
 unread rack asked faults.Memory rest = unheld rack asked rest
 
 pub unread_asked : (rack : Racks) (asked : Command) (why : InputFault) (s : Status) → s ≡ unread_status why → AtRest rack → AsksRack rack asked s
@@ -210,6 +228,9 @@ unworded_order asks rack asked s is undrawn shut rest = subst (AsksInOrder asks 
     by_words (Some (Serve s)) = inl rest.asked
     by_words (Some (Load l)) = (undrawn, shut, inl rest.asked)
     by_words (Some (Audit o)) = (undrawn, shut, tt)
+    by_words (Some (Export o)) = (undrawn, shut, tt)
+    by_words (Some (Follow o)) = (undrawn, shut, tt)
+    by_words (Some (Promote o)) = (undrawn, shut, tt)
 
 -- the disks up to those of a shelf, of so many shelves or of the first up to that one
 pub until_own : (count shelf : ℕ) (old new : RackView) → AsksUntil count shelf old new → AsksUntil (shelf + 1) shelf old new

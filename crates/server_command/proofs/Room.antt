@@ -8,16 +8,17 @@ use Rattle.script_nodes.specs.Setup.{Named}
 use Rattle.replay_spec.specs.Admission.{Admission, begins, resumes, refused, admit, or_else, when}
 use Rattle.replay_spec.specs.Book.{Book, Change, Doubt, Work, landing, compacting, sweeps, are_same, draw, spend}
 use Rattle.replay_spec.specs.Change.{longer_by, land}
-use Rattle.replay_spec.specs.Compaction.{renewed_length, reopened_with, worked}
+use Rattle.replay_spec.specs.Compaction.{renewed_length, setup_for, reopened_with, worked}
 use Rattle.replay_spec.specs.Eval.{Segment}
 use Rattle.replay_spec.specs.Next.{Ticket, Visit, comes_to, page_visit, start_visit, url_for}
 use Rattle.replay_spec.specs.Rules.{Rules, Journal}
-use Rattle.replay_spec.specs.Step.{Event, take, publish, sweep, compact, crash, Fate, no_memory, disk_fault, lost, kept, plain, Reply, taken, swept, live, Decision, replies, records, compacts, unless, change_by, freed, full, gone_for, reply_by, down_by, carried_out, doubting, in_doubt, full_journal, with_room, stopped, decide, decide_sweep, publish_comes, sweep_comes, barred, fate_of, settle, recovered, take_by, no_take, take_unless, step}
+use Rattle.replay_spec.specs.Step.{Event, take, publish, sweep, compact, crash, Fate, no_memory, disk_fault, lost, kept, plain, Reply, taken, swept, live, Decision, replies, records, compacts, unless, change_by, freed, full, gone_for, reply_by, carried_out, doubting, in_doubt, full_journal, with_room, stopped, decide, decide_sweep, publish_comes, sweep_comes, barred, fate_of, settle, recovered, take_by, no_take, take_unless, step}
 use Rattle.replay_spec.specs.Runs.{Shelf, empty_shelf}
 use Rattle.replay_spec.specs.Tape as tape
 use Rattle.replay_spec.specs.Tape.{Outcome}
 use Rattle.replay_spec.proofs.Events.{settled_setup, took_setup, swept_setup}
 use Rattle.replay_spec.proofs.Reopened.{same_self}
+use Rattle.replay_spec.proofs.Barred.{barred_by, recovered_setup, some_setup}
 use Rattle.web_disk.specs.View.{RackView}
 use Rattle.play_steps.specs.Rules.{Call, answered, event}
 use Rattle.play_steps.specs.Step as steps
@@ -155,9 +156,10 @@ still_none o (replies r) e = tt
 still_none o (records r c inside) e = e
 still_none o (compacts r) e = e
 
-still_unless : (o : Option Doubt) (d : Decision) → Still o (unless (down_by o) d)
-still_unless None d = still_none None d refl
-still_unless (Some doubt) d = tt
+still_unless : (o : Option Doubt) (follows : Bool) (d : Decision) → Still o (unless (barred_by o follows) d)
+still_unless None false d = still_none None d refl
+still_unless None true d = tt
+still_unless (Some doubt) follows d = tt
 
 carried_room : (rules : Rules) (b : Book) (d : Decision) → HasRoom rules b → Fits rules b d → Still b.down d → HasRoom rules (carried_out rules b d).1
 carried_room rules b (replies r) h fits still = h
@@ -222,8 +224,9 @@ recovered_room rules b (disk_fault count) o short fits = record { short = short;
 -- opened again with the same setup it is as long
 same_length : (j : Option Journal) (scripts : List Named) (c : Book) → c.scripts ≡ scripts → c.length ≤ 2 ^ 30 → (reopened_with j scripts c).length ≤ 2 ^ 30
 same_length j scripts c same short =
-    let test : are_same scripts c.scripts ≡ true = ap (are_same scripts) same ∙ same_self scripts in
-    subst (λ t. (if t then c.length else renewed_length j scripts c.length) ≤ 2 ^ 30) (sym test) short
+    let test : are_same (setup_for c scripts) c.scripts ≡ true =
+    some_setup (λ ss. are_same ss c.scripts ≡ true) c scripts (same_self c.scripts) (ap (are_same scripts) same ∙ same_self scripts) in
+    subst (λ t. (if t then c.length else renewed_length j (setup_for c scripts) c.length) ≤ 2 ^ 30) (sym test) short
 
 -- the book behind the event crash with the setup as it was
 pub crashed_short : (rules : Rules) (b : Book) (nonce : ℕ) (scripts : List Named) (fate : Fate) → b.scripts ≡ scripts → HasRoom rules b
@@ -246,10 +249,10 @@ event_room rules b nonce scripts (take target answer) fate same is h = take_room
 event_room rules b nonce scripts (publish t) fate same is h =
     settled_room rules (spend t.number b) (fate_of rules.journal fate) (publish_comes rules b t) (spent_room rules b t.number h)
     (fits_as_long rules b (spend t.number b) (publish_comes rules b t) (record { length = refl; longer = spend_longer b t.number }) (publish_fits rules b t h.short))
-    (still_unless b.down (decide rules b t (admit b t.target)))
+    (still_unless b.down b.follows (decide rules b t (admit b t.target)))
 event_room rules b nonce scripts (sweep tick) fate same is h =
     swept_room rules b (fate_of rules.journal fate) (sweep_comes rules b tick) (nat_le tick b.clock) h
-    (settled_room rules b (fate_of rules.journal fate) (sweep_comes rules b tick) h (sweep_fits rules b tick h.short) (still_unless b.down (decide_sweep rules tick b)))
+    (settled_room rules b (fate_of rules.journal fate) (sweep_comes rules b tick) h (sweep_fits rules b tick h.short) (still_unless b.down b.follows (decide_sweep rules tick b)))
 event_room rules b nonce scripts compact fate same is h = absurd is
 event_room rules b nonce scripts (crash ss) fate same is h =
     let r = recovered_room rules b fate b.down h.short h.doubt in
@@ -262,7 +265,8 @@ event_setup rules b nonce scripts (take target answer) fate same is = took_setup
 event_setup rules b nonce scripts (publish t) fate same is = settled_setup rules (spend t.number b) (fate_of rules.journal fate) (publish_comes rules b t) ∙ same
 event_setup rules b nonce scripts (sweep tick) fate same is = swept_setup rules b tick (fate_of rules.journal fate) (nat_le tick b.clock) ∙ same
 event_setup rules b nonce scripts compact fate same is = absurd is
-event_setup rules b nonce scripts (crash ss) fate same is = is
+event_setup rules b nonce scripts (crash ss) fate same is =
+    let c = recovered rules fate b.down b in some_setup (λ names. names ≡ scripts) c ss (recovered_setup rules fate b.down b ∙ same) is
 
 -- ---- of a desk
 

@@ -275,3 +275,4 @@ input_served serves v bytes setup s out door seeds is (images, left) = (record {
     by_status status.Read p = absurd p
     by_status status.Long p = absurd p
     by_status status.Audit p = absurd p
+    by_status status.Feed p = absurd p

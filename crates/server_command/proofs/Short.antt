@@ -1,7 +1,7 @@
 -- The scripts of a setup are such as the first record of a journal tells.
 use Rattle.std.proofs.Common.{◌≤◌, List, [], ◌∷◌, ℕ, length, arith}
 use Rattle.script_nodes.specs.Setup.{Named}
-use Rattle.journal_records.specs.Records.{texts_of}
+use Rattle.page_follower.specs.OfShelf.JournalRecords.Records.{texts_of}
 use Rattle.server_limits.specs.Limits.{most_shelves}
 use Rattle.setup_reader.specs.Limits.{AreShort, most_scripts}
 use Rattle.play_desk.proofs.Firsts.{texts_fit}

@@ -1,5 +1,5 @@
 -- Which bytes make no shelf, or too long a journal.
-use Rattle.std.proofs.Common.{◌≡◌, ◌≤◌, ◌<◌, ◌^◌, ◌+◌, ◌∷◌, ◌&&◌, ◌==◌, ◌∙◌, ◌⊎◌, ℕ, zero, suc, List, [], length, take, drop, nat_le, Bool, true, false, Option, Some, None, if◌then◌else◌, refl, sym, ap, subst, arith, inl, inr}
+use Rattle.std.proofs.Common.{◌≡◌, ◌≤◌, ◌<◌, ◌^◌, ◌+◌, ◌∷◌, ◌&&◌, ◌==◌, ◌∙◌, ℕ, zero, suc, List, [], length, take, drop, nat_le, Bool, true, false, Option, Some, None, if◌then◌else◌, refl, sym, ap, subst, arith}
 use Rattle.std.specs.Int.{w32, from_le_bytes}
 use Rattle.std.proofs.lemmas.Bool.{and_parts, le-leb, lt-leb}
 use Rattle.std.proofs.lemmas.Bool.Decides.{nat_tests}
@@ -10,8 +10,7 @@ use Rattle.page_journal.specs.Records as log
 use Rattle.page_journal.specs.Records.{Log, at_rest, bodies_of, format_of, framed, frames, newest, records, records_from, stored, with_first}
 use Rattle.page_journal.proofs.Frames.{length-at_rest, length-framed}
 use Rattle.replay_spec.specs.Book.{Book}
-use Rattle.page_audit.specs.JournalSpec.Before.{Made}
-use Rattle.page_audit.specs.JournalSpec.Making.{Making, nothing, begun, made, damaged, other, made_in}
+use Rattle.page_audit.specs.JournalSpec.Making.{Making, nothing, waits, waited, begun, made, damaged, other, made_in}
 use Rattle.page_audit.specs.JournalSpec.Old.{book_of_format}
 use Rattle.page_audit.specs.JournalSpec.Bytes.{book_in_bytes, by_log}
 use Rattle.page_audit.specs.JournalSpec.Opening.{opened_on}
@@ -115,23 +114,12 @@ read_bodies shelf (b ∷ bytes) x none is = by_newest (f == newest)
     kept : List (List ℕ)
     kept = stored (b ∷ bytes)
 
-    same : (l : Log) → by_log f setup_of_texts shelf l ≡ x → made_in (book_of_format f setup_of_texts shelf (bodies_of l)) ≡ None ⊎ (bodies_of l ≡ [])
-    same (log.Damaged place) is = inr refl
-    same (log.Intact bodies) is = inl (ap made_in is ∙ none)
-
-    by_no_book : (bs : List (List ℕ)) → bodies_by f shelf bs None ≡ bs
-    by_no_book [] = refl
-    by_no_book (first ∷ bs) = refl
-
-    by_none : (o : Option Made) → bodies_by f shelf [] o ≡ []
-    by_none None = refl
-    by_none (Some m) = refl
+    no_book : (l : Log) → by_log f setup_of_texts shelf l ≡ x → made_in (book_of_format f setup_of_texts shelf (bodies_of l)) ≡ None
+    no_book (log.Damaged place) is = refl
+    no_book (log.Intact bodies) is = ap made_in is ∙ none
 
     older : bodies_by f shelf kept (made_in (book_of_format f setup_of_texts shelf kept)) ≡ kept
-    older = elim (same (records (b ∷ bytes)) is) [
-      | inl no_book ↦ ap (bodies_by f shelf kept) no_book ∙ by_no_book kept
-      | inr empty ↦ subst (λ (bs : List (List ℕ)). bodies_by f shelf bs (made_in (book_of_format f setup_of_texts shelf bs)) ≡ bs) (sym empty) (by_none (made_in (book_of_format f setup_of_texts shelf [])))
-    ]
+    older = ap (bodies_by f shelf kept) (no_book (records (b ∷ bytes)) is)
 
     by_newest : (t : Bool) → length (at_rest (if t then kept else bodies_by f shelf kept (made_in (book_of_format f setup_of_texts shelf kept)))) ≤ 2 ^ 30
     by_newest true = stored_short (b ∷ bytes)
@@ -153,6 +141,8 @@ made_fits scripts k image b (earlier, is) short fits = by_read (book_in_bytes se
     by_read : (m : Making) → book_in_bytes setup_of_texts k image ≡ m
         → unfit_read m (unfit_file (bodies_after k image) (unfit_made (opened_on k scripts (now_in_bytes k image)))) ≡ None
     by_read nothing read = opens
+    by_read (waits s) read = opens
+    by_read waited read = opens
     by_read (begun m) read = opens
     by_read (made m) read = opens
     by_read (damaged place) read = absurd (never (damaged place) refl (read_now k image (damaged place) refl read))
@@ -171,6 +161,8 @@ long_behind scripts k image n p = by_read (book_in_bytes setup_of_texts k image)
     by_read : (m : Making) → book_in_bytes setup_of_texts k image ≡ m
         → unfit_read m (unfit_file (bodies_after k image) (unfit_made (opened_on k scripts (now_in_bytes k image)))) ≡ Some (full n)
     by_read nothing read = too_long
+    by_read (waits s) read = too_long
+    by_read waited read = too_long
     by_read (begun m) read = too_long
     by_read (made m) read = too_long
     by_read (damaged place) read = absurd (never (damaged place) refl (read_now k image (damaged place) refl read))
@@ -192,6 +184,8 @@ long_anew scripts k image n p = by_read (book_in_bytes setup_of_texts k image) r
     by_read : (m : Making) → book_in_bytes setup_of_texts k image ≡ m
         → unfit_read m (unfit_file (bodies_after k image) (unfit_made (opened_on k scripts (now_in_bytes k image)))) ≡ Some (full n)
     by_read nothing read = too_long
+    by_read (waits s) read = too_long
+    by_read waited read = too_long
     by_read (begun m) read = too_long
     by_read (made m) read = too_long
     by_read (damaged place) read = absurd (never (damaged place) refl read)

@@ -2,7 +2,7 @@
 use Rattle.std.proofs.Common.{◌≡◌, ◌≤◌, ◌∙◌, inl, inr, ℕ, None, IfSome, refl, sym, subst, arith}
 use Rattle.web_outside.specs.Causes.{Rose}
 use Rattle.command_words.specs.declared.Command.{Command}
-use Rattle.command_words.specs.declared.Command.TheVariants.{Audit, Check, Play, Serve, Load}
+use Rattle.command_words.specs.declared.Command.TheVariants.{Audit, Check, Export, Follow, Load, Play, Promote, Serve}
 use Rattle.play_desk.specs.Laws.{TranscriptsAreRuns}
 use Rattle.server_command.specs.declared.program.Status.{Status}
 use Rattle.server_command.specs.declared.program.Status.TheVariants as status
@@ -55,6 +55,9 @@ read_by serves (Play o) chances met h = h.0
 read_by serves (Serve v) chances met h = h.0.0
 read_by serves (Load l) chances met h = absurd h.1
 read_by serves (Audit o) chances met h = absurd h
+read_by serves (Export o) chances met h = absurd h
+read_by serves (Follow o) chances met h = absurd h
+read_by serves (Promote o) chances met h = absurd h
 
 read_of : (serves : Serves) (chances : Chances) (met : Met) → Explains serves status.Read chances met → Rose met.input_before met.input_after
 read_of serves chances met (inl h) = absurd h
@@ -67,6 +70,9 @@ write_by serves (Play o) chances met h = h.1
 write_by serves (Serve v) chances met h = h.1
 write_by serves (Load l) chances met h = h.1.0
 write_by serves (Audit o) chances met h = absurd h
+write_by serves (Export o) chances met h = absurd h
+write_by serves (Follow o) chances met h = absurd h
+write_by serves (Promote o) chances met h = absurd h
 
 write_of : (serves : Serves) (chances : Chances) (met : Met) → Explains serves status.Write chances met → Rose met.output.before met.output.after
 write_of serves chances met (inl h) = absurd h

@@ -20,7 +20,7 @@ use Rattle.script_nodes.specs.Setup.{Named}
 use Rattle.command_words.specs.App.{app}
 use Rattle.command_words.specs.Plain.{IsPlain}
 use Rattle.command_words.specs.declared.Command.{Command}
-use Rattle.command_words.specs.declared.Command.TheVariants.{Audit, Check, Play, Serve, Load}
+use Rattle.command_words.specs.declared.Command.TheVariants.{Audit, Check, Export, Follow, Load, Play, Promote, Serve}
 use Rattle.command_words.specs.declared.Options.{Options}
 use Rattle.command_words.specs.declared.LoadOptions.{LoadOptions}
 use Rattle.command_words.specs.declared.Service.{Service}
@@ -78,6 +78,7 @@ code_of status.Door = 9
 code_of status.Memory = 10
 code_of status.Long = 11
 code_of status.Audit = 12
+code_of status.Feed = 13
 code_of status.Key = 14
 
 -- what a command met: the words; the bytes that its input had, and those that are left of it, where these are told; the input's
@@ -302,6 +303,9 @@ ComesTo serves (Play o) chances how met = Comes (Play o) chances how met
 ComesTo serves (Serve s) chances how met = ComesServing serves s chances how met
 ComesTo serves (Load l) chances how met = ComesLoading l chances how met
 ComesTo serves (Audit o) chances how met = ⊥
+ComesTo serves (Export o) chances how met = ⊥
+ComesTo serves (Follow o) chances how met = ⊥
+ComesTo serves (Promote o) chances how met = ⊥
 
 -- words without a command, or want of memory for them, leave the input unread and the disks where they are
 abbrev pub Refuses : Option Command → Status → Met → Type 0
@@ -345,10 +349,14 @@ EndsAs status met bytes chances =
     ⊎ (((status ≡ 9) × HaveRisen met.door)
     ⊎ (((status ≡ 14) × HaveRisen met.seeds) ⊎ ((status ≡ 10) ⊎ EndsOutgrown status met bytes chances))))))
 
--- the words ask for anything but a measured run or an audit, which read no input
+-- The words ask for what a whole input decides: a check, a run of steps or a serving. A feed is read as far as it is followed, and no other command reads
+-- its input.
 abbrev pub ReadsInput : Option Command → Type 0
 ReadsInput (Some (Load l)) = ⊥
 ReadsInput (Some (Audit o)) = ⊥
+ReadsInput (Some (Export o)) = ⊥
+ReadsInput (Some (Follow o)) = ⊥
+ReadsInput (Some (Promote o)) = ⊥
 ReadsInput _ = ⊤
 
 -- the status of a measured run is the one that is due, by the disks that were taken
@@ -399,13 +407,17 @@ pub record IsLawful (asked : Command) (bytes : List ℕ) : Type 0 where
 abbrev pub AreFit : (ℕ → List ℕ → Option Unfit) → (ℕ → List ℕ → Type 0) → Type 0
 AreFit unfit holds = (shelf : ℕ) (image : List ℕ) → holds shelf image → unfit shelf image ≡ None
 
--- The journals on the rack are such that the command opens each of its shelves with these scripts; of an audit this is never said.
+-- The journals on the rack are such that the command opens each of its shelves with these scripts; of an audit, an
+-- export, a feed that is followed and a promotion this is never said.
 abbrev pub JournalsOpen : Command → List Named → Racks → Type 0
 JournalsOpen Check scripts rack = ⊤
 JournalsOpen (Play o) scripts rack = IsTrue rack.tells × AreFit unfit_new (held_anew rack.before)
 JournalsOpen (Load l) scripts rack = IsTrue rack.tells × AreFit unfit_new (held_anew rack.before)
 JournalsOpen (Serve s) scripts rack = IsTrue rack.tells × AreFit (unfit_left scripts) (shelves_of rack.before).holds × (s.audit ≡ false)
 JournalsOpen (Audit o) scripts rack = ⊥
+JournalsOpen (Export o) scripts rack = ⊥
+JournalsOpen (Follow o) scripts rack = ⊥
+JournalsOpen (Promote o) scripts rack = ⊥
 
 -- neither the rack nor the door nor the seeds failed, where they are asked for
 abbrev pub GoesWell : Command → Met → Type 0
@@ -413,6 +425,9 @@ GoesWell Check met = ⊤
 GoesWell (Play o) met = ¬ (RackFailed met.rack)
 GoesWell (Load l) met = ¬ (RackFailed met.rack)
 GoesWell (Audit o) met = ¬ (RackFailed met.rack)
+GoesWell (Export o) met = ¬ (RackFailed met.rack)
+GoesWell (Follow o) met = ¬ (RackFailed met.rack)
+GoesWell (Promote o) met = ¬ (RackFailed met.rack)
 GoesWell (Serve s) met = ¬ (RackFailed met.rack) × ¬ (HaveRisen met.door) × ¬ (HaveRisen met.seeds)
 
 -- a command ended well, at a step that does not fit, or for want of memory

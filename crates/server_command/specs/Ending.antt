@@ -1,10 +1,11 @@
--- How a command ended: an audit; a serving behind the audits of its journals, or at one of them; or a command before which nothing is audited.
+-- How a command ended: an audit; what was sent, followed or promoted; a serving behind the audits of its journals, or at one of them; or a command before which nothing is audited.
 use Rattle.std.specs.Prelude.{⊤, ◌≡◌, ℕ, List, Option, Some, IfSome, IsTrue, Result, Ok, Err}
 use Rattle.web_disk.specs.View.{RackView}
 use Rattle.script_nodes.specs.Setup.{Named}
 use Rattle.command_words.specs.declared.Command.{Command}
-use Rattle.command_words.specs.declared.Command.TheVariants.{Audit, Serve}
-use Rattle.command_words.specs.declared.AuditOptions.{AuditOptions}
+use Rattle.command_words.specs.declared.Command.TheVariants.{Audit, Export, Follow, Promote, Serve}
+use Rattle.command_words.specs.declared.FeedOptions.{FeedOptions}
+use Rattle.command_words.specs.declared.ShelvesOptions.{ShelvesOptions}
 use Rattle.command_words.specs.declared.Service.{Service}
 use Rattle.setup_reader.specs.declared.setup.Ending.TheVariants.{Input}
 use Rattle.setup_reader.specs.Setup.{Parsed, setup_of}
@@ -16,6 +17,7 @@ use Rattle.server_command.specs.declared.serving.ServeFault.{ServeFault}
 use Rattle.server_command.specs.declared.serving.ServeFault.TheVariants as fault
 use Rattle.server_command.specs.Auditing.{HaveAllPassed, LeavesAudit, LeavesStopped, StopsAt, no_text}
 use Rattle.server_command.specs.Command.{Around, Ends, Explained, ReadToEnd, Untouched, asked_in, asks_in, code_of, met_in, serves_in}
+use Rattle.server_command.specs.Feeding.{LeavesExport, LeavesFollow, LeavesPromotes}
 use Rattle.server_command.specs.Order.{Asks, AsksInOrder, ComesInOrder}
 use Rattle.server_command.specs.Racks.{Racks, racks_of}
 use Rattle.server_command.specs.Serving.{Outside, ServesBy, serves_over}
@@ -69,11 +71,31 @@ pub record IsStopped {D P L N : Type 0} (s : Service) (how : Status) (a : Around
   pub stops : LeavesStopped no_text a.rack s.options.shelves how (met_in a).output
 
 -- An audit read nothing of its input, and neither the seeds nor the door were asked.
-pub record HasAudited {D P L N : Type 0} (o : AuditOptions) (how : Status) (a : Around D P L N) : Type 0 where
+pub record HasAudited {D P L N : Type 0} (o : ShelvesOptions) (how : Status) (a : Around D P L N) : Type 0 where
   pub untouched : Untouched (met_in a)
   pub undrawn : (asks_in a).undrawn
   pub shut : (asks_in a).shut
   pub leaves : LeavesAudit a.rack o.shelves how (met_in a).output
+
+-- An export read nothing of its input, and neither the seeds nor the door were asked.
+pub record HasExported {D P L N : Type 0} (o : FeedOptions) (how : Status) (a : Around D P L N) : Type 0 where
+  pub untouched : Untouched (met_in a)
+  pub undrawn : (asks_in a).undrawn
+  pub shut : (asks_in a).shut
+  pub leaves : LeavesExport a.views.disk a.rack o.shelf how (met_in a).output
+
+-- Following read a feed from the input, and neither the seeds nor the door were asked.
+pub record HasBeenFed {D P L N : Type 0} (o : FeedOptions) (how : Status) (a : Around D P L N) : Type 0 where
+  pub undrawn : (asks_in a).undrawn
+  pub shut : (asks_in a).shut
+  pub leaves : LeavesFollow a.views.disk a.rack o.shelf how a.input.before a.input.after a.output.before a.output.after
+
+-- Promoting read nothing of its input, and neither the seeds nor the door were asked.
+pub record HasPromoted {D P L N : Type 0} (o : ShelvesOptions) (how : Status) (a : Around D P L N) : Type 0 where
+  pub untouched : Untouched (met_in a)
+  pub undrawn : (asks_in a).undrawn
+  pub shut : (asks_in a).shut
+  pub leaves : LeavesPromotes a.views.disk a.rack o.shelves how (met_in a).output
 
 -- nothing was audited: the words ask for no serving with audits, or no disk was asked for
 abbrev pub WithoutAudits : Option Command → Racks → Type 0
@@ -88,7 +110,10 @@ pub data EndsBehind {R D P L N : Type 0} (view : R → RackView) (how : Status) 
       → HaveAllPassed (racks_of a.rack.tells a.rack.before (view began)) s.options.shelves
       → Plainly (from_rack a (view began)) → EndsBehind view how Plainly a
   stopped : (s : Service) → asked_in a.words ≡ Some (Serve s) → IsTrue s.audit → IsStopped s how a → EndsBehind view how Plainly a
-  audited : (o : AuditOptions) → asked_in a.words ≡ Some (Audit o) → HasAudited o how a → EndsBehind view how Plainly a
+  audited : (o : ShelvesOptions) → asked_in a.words ≡ Some (Audit o) → HasAudited o how a → EndsBehind view how Plainly a
+  exported : (o : FeedOptions) → asked_in a.words ≡ Some (Export o) → HasExported o how a → EndsBehind view how Plainly a
+  fed : (o : FeedOptions) → asked_in a.words ≡ Some (Follow o) → HasBeenFed o how a → EndsBehind view how Plainly a
+  promoted : (o : ShelvesOptions) → asked_in a.words ≡ Some (Promote o) → HasPromoted o how a → EndsBehind view how Plainly a
 
 -- How the command ended: as `Ends` says where nothing is audited, and else behind audits, or at one.
 pub record HasEnded {R D P L N : Type 0} (view : R → RackView) (result : ℕ) (a : Around D P L N) : Type 0 where

@@ -8,6 +8,8 @@ pub mod Order
 pub mod Outside
 pub mod Command
 pub mod Ending
+pub mod Bare
+pub mod Feeding
 pub mod Telling
 pub mod Loading
 pub mod Vectors

@@ -4,7 +4,7 @@ use Rattle.web_disk.specs.View.{View, RackView, AreAmong}
 use Rattle.trio_rack.specs.Trios.{shelves_of}
 use Rattle.script_nodes.specs.Setup.{Named}
 use Rattle.replay_spec.specs.Rules.{Rules}
-use Rattle.journal_records.specs.Records.{IsInGrammar, begin_of}
+use Rattle.page_follower.specs.OfShelf.JournalRecords.Records.{IsInGrammar, begin_of}
 use Rattle.site_serving.specs.Shelves.{BeginFault, Opening, Rules as Limits, rules_of}
 use Rattle.command_words.specs.declared.Options.{Options}
 use Rattle.server_command.specs.Output.{rules_for}

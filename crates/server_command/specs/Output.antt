@@ -16,7 +16,7 @@ use Rattle.setup_reader.specs.declared.setup.Ending.TheVariants.{Steps, Input}
 use Rattle.setup_reader.specs.Setup.{Parsed, Fault, setup_of}
 use Rattle.setup_reader.specs.Faults.{fault_line}
 use Rattle.command_words.specs.declared.Command.{Command}
-use Rattle.command_words.specs.declared.Command.TheVariants.{Audit, Check, Play, Serve, Load}
+use Rattle.command_words.specs.declared.Command.TheVariants.{Audit, Check, Export, Follow, Load, Play, Promote, Serve}
 use Rattle.command_words.specs.declared.Options.{Options}
 use Rattle.command_words.specs.declared.LoadOptions.{LoadOptions}
 use Rattle.measured_run.specs.Generator.{source_of}
@@ -124,6 +124,9 @@ ending_of (Play c) = Steps
 ending_of (Serve s) = Input
 ending_of (Load l) = Input
 ending_of (Audit o) = Input
+ending_of (Export o) = Input
+ending_of (Follow o) = Input
+ending_of (Promote o) = Input
 
 -- What a command writes for this setup and these chances.
 abbrev pub written : Command → Result Parsed Fault → Chances → Output
@@ -132,8 +135,11 @@ written (Play o) setup chances = played o setup chances
 written (Serve s) setup chances = served setup chances
 written (Load l) setup chances = loaded l chances
 written (Audit o) setup chances = record { text = []; error = []; status = 0 }
+written (Export o) setup chances = record { text = []; error = []; status = 0 }
+written (Follow o) setup chances = record { text = []; error = []; status = 0 }
+written (Promote o) setup chances = record { text = []; error = []; status = 0 }
 
--- what a command writes for an input, which an audit does not read
+-- what a command writes for an input, but for audits and for what is done with feeds and followers, of which nothing is said here
 abbrev pub output_of : Command → List ℕ → Chances → Output
 output_of asked input chances = written asked (setup_of (ending_of asked) input) chances
 

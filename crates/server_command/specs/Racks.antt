@@ -94,7 +94,7 @@ unfit_read m why = why
 
 -- Why a shelf that is served with this setup is not opened on these bytes, if so. It goes on with what the records make, of an older format with
 -- those that stay, and has written its setup there, where that is another than the last one: the file of the records may be too long, and so may
--- it be with the setup.
+-- it be with the setup. A shelf that follows another one's journal writes no setup.
 abbrev pub unfit_left : List Named → (shelf : ℕ) → List ℕ → Option Unfit
 unfit_left scripts shelf image =
     unfit_read (book_in_bytes setup_of_texts shelf image)

@@ -1,5 +1,5 @@
 -- What serving a setup over HTTP comes to.
-use Rattle.std.specs.Prelude.{⊤, ◌≡◌, ◌≢◌, ◌≤◌, ◌<◌, ◌==◌, ◌⊎◌, ◌++◌, ◌∷◌, [], ℕ, ◌+◌, ◌^◌, Bool, List, length, Some, None, IfSome, IsTrue, Result, Ok, Err, codes, slice_get, if◌then◌else◌}
+use Rattle.std.specs.Prelude.{⊤, ◌≡◌, ◌≢◌, ◌≤◌, ◌<◌, ◌==◌, ◌⊎◌, ◌++◌, ◌∷◌, [], ℕ, ◌+◌, ◌^◌, Bool, false, List, length, Some, None, IfSome, IsTrue, Result, Ok, Err, codes, slice_get, if◌then◌else◌}
 use Rattle.std.specs.Fmt.{decimal}
 use Rattle.web_outside.specs.Causes.{Rose}
 use Rattle.web_outside.specs.View.{DoorView, SeedsView}
@@ -84,11 +84,12 @@ watch_of s = record { port = s.port; workers = s.workers; connections = s.connec
 
 -- The shelf of this number was opened with this setup and under these rules, with nonces of this source: its book is what the bytes of
 -- its disk make, of an older format what those make that stay, opened again with this setup, whatever setup they told last; and empty where they
--- have no record. The file of these records is not too long. Where the records are
--- own ones, it was opened as an own shelf; on a disk that tells no bytes it was where its book had no instance.
+-- have no record. A shelf that follows another one's journal is not told the setup, and has the last one that its own journal tells. The file of
+-- these records is not too long. Where the records are own ones, it was opened as an own shelf; on a disk that tells no bytes it was where its
+-- book had no instance.
 pub record IsOpened {D N : Type 0} (view : D → View) (tells : Bool) (told : Type 0) (nonce : N → ℕ → ℕ) (rules : Rules)
     (scripts : List Named) (k : ℕ) (image : List ℕ) (source : N) (o : Opening D N) : Type 0 where
-  pub setup : scripts_in o ≡ scripts
+  pub setup : (book_in view o.shelf.value).follows ≡ false → scripts_in o ≡ scripts
   pub limits : rules_of o.shelf.value.rules ≡ rules
   pub number : o.shelf.value.rules.number ≡ k
   pub book : told → IsMadeBook (opened_on k scripts (now_in_bytes k image)) (book_in view o.shelf.value)
@@ -129,7 +130,8 @@ HaveRisenBy count rack = RoseBy count rack.before.faults rack.after.faults
 -- Links were served from shelves that were opened on disks which held this, with nonces of the sources that the seeds gave, and this
 -- was kept of it: a history of each shelf, and what each worker counted. Where the shelf was opened as an own one, the history is
 -- legal, and ends with the book that its disk stands for. Where all were, the rack's count rose by one at least for each fault of a
--- disk that the histories tell. Where the journals were audited before and the disks tell their bytes, all were, whoever wrote these.
+-- disk that the histories tell. Where the journals were audited before and the disks tell their bytes, all were, whoever wrote these. A shelf
+-- that followed another one's journal put each visit off, and nothing was written on its disk since it was opened.
 pub record Served {D P L N : Type 0} (o : Outside D P L N) (s : Service) (scripts : List Named) (images : List (List ℕ)) (end : WorkEnd)
     (kept : Kept) : Type 0 where
   pub sources : List N

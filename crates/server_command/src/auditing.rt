@@ -1,6 +1,6 @@
 ghost use Rattle.std.specs.Prelude.{◌&&◌, ◌≡◌, ◌<◌, ◌≤◌, false, IsTrue, Ok};
 ghost use Rattle.server_limits.specs.Limits.{most_shelves};
-ghost use Rattle.command_words.specs.Plain.{CanAudit, CanServe};
+ghost use Rattle.command_words.specs.Plain.{HasShelves, CanServe};
 ghost use Rattle.play_desk.specs.Opening.{AreHome};
 ghost use Rattle.server_command.specs.Auditing.{ComesOne, ComesThrough, LeavesAudit, LeavesShelves, counted_of, untaken_for};
 ghost use Rattle.server_command.specs.Output.{Hands, sinks_of};
@@ -8,7 +8,7 @@ ghost use Rattle.server_command.specs.Racks.{AreBack, racks_of};
 
 use crate::program::Status;
 use crate::telling::{hand_on, tell_audited, tell_end};
-use command_words::{AuditOptions, Service};
+use command_words::{Service, ShelvesOptions};
 use page_audit::{AuditFault, Audited, Word, audit};
 use std::alloc::Global;
 use trio_rack::{give_trio, take_trio};
@@ -128,11 +128,11 @@ pub(crate) fn audit_first<D: Disk, R: Rack<D>>(
 /// Audits the journals of shelves, in order, and tells of each how many records it has, up to the first that is not answered yes.
 pub(crate) fn audit_all<O: Sink, D: Disk, R: Rack<D>>(
     alloc: Global,
-    options: &AuditOptions,
+    options: &ShelvesOptions,
     output: &mut O,
     rack: &mut R,
 ) -> Status
-    requires range { CanAudit options.now }
+    requires range { HasShelves options.now }
     requires home { AreHome (R.view rack.old).out }
     ensures leaves { LeavesAudit
         (racks_of (R.tells && D.tells) (R.view rack.old) (R.view rack.new))

@@ -1,7 +1,8 @@
-//! The commands `check`, `play`, `serve`, `load` and `audit`, over any streams, disks, sockets and clock: for `main`.
+//! The commands `check`, `play`, `serve`, `load`, `audit`, `export`, `follow` and `promote`, over any streams, disks, sockets and clock: for `main`.
 #![tactic(auto)]
 
 mod auditing;
+mod feeding;
 mod jobs;
 mod loading;
 mod opening;

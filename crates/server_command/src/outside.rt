@@ -19,6 +19,7 @@ ghost use Rattle.server_command.specs.Racks.{AreBack, KeepsHome, racks_of};
 ghost use Rattle.server_command.specs.Serving.{AreDrawn, outside};
 
 use crate::auditing::{audit_all, audit_first};
+use crate::feeding::{export_shelf, follow_feed, promote_all};
 use crate::jobs::{Job, run_job};
 use crate::loading::load_all;
 use crate::opening::{give_all, open_site};
@@ -139,6 +140,11 @@ where
             Ok(Command::Load(options)) => load_all(self.alloc, &options, output, self.rack),
             Ok(Command::Serve(service)) => self.run_service(&service, input, output),
             Ok(Command::Audit(options)) => audit_all(self.alloc, &options, output, self.rack),
+            Ok(Command::Export(options)) => export_shelf(self.alloc, &options, output, self.rack),
+            Ok(Command::Follow(options)) => {
+                follow_feed(self.alloc, &options, input, output, self.rack)
+            }
+            Ok(Command::Promote(options)) => promote_all(self.alloc, &options, output, self.rack),
             Err(WordsFault::Usage) => {
                 write_or_drop(output, b"error 2 usage\n");
                 Status::Usage

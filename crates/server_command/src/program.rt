@@ -46,6 +46,8 @@ pub enum Status {
     Key,
     /// The audit of a journal says no to one of its records.
     Audit,
+    /// The input is no feed that the shelf can follow to its end.
+    Feed,
 }
 
 // The status that the process ends with.
@@ -66,11 +68,12 @@ fn code_of(status: Status) -> u8
         Status::Long => 11,
         Status::Key => 14,
         Status::Audit => 12,
+        Status::Feed => 13,
     }
 }
 
-/// Does what the words ask for with the setup and the steps that the input has, or performs a measured run or an audit, which
-/// read no input; writes what is due, and answers the process's status.
+/// Does what the words ask for with the setup and the steps that the input has; or performs a measured run or an audit, sends the
+/// records of a shelf or promotes shelves, which read no input; or lets a shelf follow the feed that the input is; writes what is due, and answers the process's status.
 ///
 /// Each visit that is accepted shows what its instance's own script, run again from its start, shows next when fed the answers of
 /// its page's own ancestors and their reads of shared cells, and then its own; each other reply is the script's own

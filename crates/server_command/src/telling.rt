@@ -11,12 +11,14 @@ ghost use Rattle.server_command.specs.Output.{Hands, HandsOnIfDone, PrintsTo, me
 ghost use Rattle.server_command.specs.Racks.{damaged, disk_line, full, not_empty, other, unfit_line};
 ghost use Rattle.server_command.specs.Serving.{TellsCount, count_line};
 ghost use Rattle.server_command.specs.Auditing.{TellsAudited, TellsEnd, end_line, end_status, finding_line, ok_line, word_text};
+ghost use Rattle.server_command.specs.Feeding.{TellsFeed, TellsFeedFault, TellsFollowed, TellsPromoted, feed_line, promoted_line};
 ghost use Rattle.server_command.specs.Telling.{TellsOutcome, TellsUnopened, unopened_line, unopened_status};
 
 use crate::auditing::{AuditCause, AuditEnd};
 use crate::program::Status;
 use crate::serving::ServeFault;
 use page_audit::Word;
+use page_follower::{FeedFault, FollowEnd};
 use play_desk::{OpenCause, OpenFault};
 use request_workers::Tally;
 use script_nodes::Setup;
@@ -339,6 +341,108 @@ pub fn tell_end<O: Sink>(alloc: Global, end: AuditEnd, output: &mut O) -> Status
             end_status(end.why)
         }
         Err(_) => no_memory(output),
+    }
+}
+
+// The line of a feed that is not followed on, at this place of it.
+fn feed_error(alloc: Global, place: u64, word: &str) -> Result<String, AllocError>
+    ensures { IfOk result (λ text. string_bytes text ≡ feed_line place word.now) }
+{
+    format!(in alloc; "error 13 {place} {word}\n")
+}
+
+// Tells at which place of a feed it is not followed on, and why.
+fn tell_feed<O: Sink>(alloc: Global, place: u64, word: &str, output: &mut O) -> Status
+    ensures tells { TellsFeed (feed_line place word.now) result
+        (sinks_of (O.view output.old) (O.view output.new)) }
+    ensures handed { HandsAllOn (O.view output.old) (O.view output.new) }
+    ensures later { (O.view output.old).faults ≤ (O.view output.new).faults }
+    ensures other { result ≢ Status.Done }
+{
+    match feed_error(alloc, place, word) {
+        Ok(text) => {
+            write_or_drop(output, text.as_bytes());
+            Status::Feed
+        }
+        Err(_) => no_memory(output),
+    }
+}
+
+// Tells why a feed was not read on.
+fn tell_feed_fault<O: Sink>(alloc: Global, fault: FeedFault, output: &mut O) -> Status
+    ensures tells { TellsFeedFault fault result
+        (sinks_of (O.view output.old) (O.view output.new)) }
+    ensures handed { HandsAllOn (O.view output.old) (O.view output.new) }
+    ensures later { (O.view output.old).faults ≤ (O.view output.new).faults }
+    ensures other { result ≢ Status.Done }
+{
+    match fault {
+        FeedFault::Head => tell_feed(alloc, 0, "head", output),
+        FeedFault::Cut { place } => tell_feed(alloc, place, "cut", output),
+        FeedFault::Long => tell_unread(InputFault::Long, output),
+        FeedFault::Failed => tell_unread(InputFault::Failed, output),
+        FeedFault::Memory => no_memory(output),
+    }
+}
+
+/// Tells how following a feed ended.
+pub fn tell_followed<O: Sink>(alloc: Global, shelf: u32, end: FollowEnd, output: &mut O) -> Status
+    ensures tells { TellsFollowed shelf end result
+        (sinks_of (O.view output.old) (O.view output.new)) }
+    // Where a line could not be written, nothing more is.
+    ensures handed { end ≢ FollowEnd.Unwritten →
+        HandsAllOn (O.view output.old) (O.view output.new) }
+    ensures later { (O.view output.old).faults ≤ (O.view output.new).faults }
+    ensures done { HandsOnIfDone result (O.view output.new) }
+{
+    match end {
+        FollowEnd::Held => hand_on(output),
+        FollowEnd::Promoted => tell_feed(alloc, 0, "promoted", output),
+        FollowEnd::Feed(fault) => tell_feed_fault(alloc, fault, output),
+        FollowEnd::Other { place } => tell_feed(alloc, place, "other", output),
+        FollowEnd::Record { place } => tell_feed(alloc, place, "record", output),
+        FollowEnd::Full { len } => {
+            let why = OpenCause::Full { len };
+            tell_unopened(alloc, OpenFault { shelf, why }, output)
+        }
+        FollowEnd::DiskFault => {
+            let why = OpenCause::Disk;
+            tell_unopened(alloc, OpenFault { shelf, why }, output)
+        }
+        FollowEnd::Unwritten => Status::Write,
+        FollowEnd::Memory => no_memory(output),
+    }
+}
+
+// The line of a shelf, which followed and was promoted, or did not follow.
+fn promoted_line(alloc: Global, shelf: u32, followed: bool) -> Result<String, AllocError>
+    ensures { IfOk result (λ text. string_bytes text ≡ promoted_line shelf followed) }
+{
+    if followed {
+        format!(in alloc; "shelf {shelf} promoted\n")
+    } else {
+        format!(in alloc; "shelf {shelf} leader\n")
+    }
+}
+
+/// Tells of a shelf whether it followed and was promoted.
+pub fn tell_promoted<O: Sink>(
+    alloc: Global,
+    shelf: u32,
+    followed: bool,
+    output: &mut O,
+) -> Result<(), Status>
+    ensures tells { TellsPromoted shelf followed result
+        (sinks_of (O.view output.old) (O.view output.new)) }
+    ensures hands { IfErr result (λ how. Hands how (O.view output.old) (O.view output.new)) }
+    ensures later { (O.view output.old).faults ≤ (O.view output.new).faults }
+{
+    let Ok(text) = promoted_line(alloc, shelf, followed) else {
+        return Err(no_memory(output));
+    };
+    match write_all(output, text.as_bytes()) {
+        Ok(()) => Ok(()),
+        Err(_) => Err(Status::Write),
     }
 }
 

@@ -1,11 +1,11 @@
 use Rattle.std.proofs.Common.{◌≡◌, Ok, Err, refl, rules}
 use Rattle.std.specs.Prelude.{◌&&◌}
-use Rattle.command_words.specs.declared.Command.TheVariants.{Audit, Check, Load, Play, Serve}
+use Rattle.command_words.specs.declared.Command.TheVariants.{Audit, Check, Export, Follow, Load, Play, Promote, Serve}
 use Rattle.command_words.specs.declared.WordsFault.TheVariants.{Usage}
 use Rattle.disk_trio.specs.Trio.{trio_view}
 use Rattle.site_serving.specs.Serving.{pasts_of, views}
 use Rattle.server_command.specs.Command.{around, asked_in, asks_in, met_in, serves_in, texts}
-use Rattle.server_command.specs.Ending.{audited}
+use Rattle.server_command.specs.Ending.{audited, exported, fed, promoted}
 use Rattle.server_command.specs.Order.{both}
 use Rattle.server_command.specs.Racks.{racks_of}
 use Rattle.server_command.proofs.Audited.{job_so, usage_so, without_any, unworded_so}
@@ -62,6 +62,27 @@ returns-in-Ok-Audit-clause-ended g c =
     audited c.in-Ok-Audit.options
     (asks_if (texts c.args.words.now) _ (Audit c.in-Ok-Audit.options) is c.read_words.ensures.fine c.read_words.ensures.found)
     (record { untouched = (refl, refl); undrawn = refl; shut = (refl, refl); leaves = c.audit_all.ensures.leaves })
+
+pub returns-in-Ok-Export-clause-ended : goal.returns-in-Ok-Export-clause-ended
+returns-in-Ok-Export-clause-ended g c =
+    let is : c.read_words.result ≡ Ok (Export c.in-Ok-Export.options) = search rules in
+    exported c.in-Ok-Export.options
+    (asks_if (texts c.args.words.now) _ (Export c.in-Ok-Export.options) is c.read_words.ensures.fine c.read_words.ensures.found)
+    (record { untouched = (refl, refl); undrawn = refl; shut = (refl, refl); leaves = c.export_shelf.ensures.leaves })
+
+pub returns-in-Ok-Follow-clause-ended : goal.returns-in-Ok-Follow-clause-ended
+returns-in-Ok-Follow-clause-ended g c =
+    let is : c.read_words.result ≡ Ok (Follow c.in-Ok-Follow.options) = search rules in
+    fed c.in-Ok-Follow.options
+    (asks_if (texts c.args.words.now) _ (Follow c.in-Ok-Follow.options) is c.read_words.ensures.fine c.read_words.ensures.found)
+    (record { undrawn = refl; shut = (refl, refl); leaves = c.follow_feed.ensures.leaves })
+
+pub returns-in-Ok-Promote-clause-ended : goal.returns-in-Ok-Promote-clause-ended
+returns-in-Ok-Promote-clause-ended g c =
+    let is : c.read_words.result ≡ Ok (Promote c.in-Ok-Promote.options) = search rules in
+    promoted c.in-Ok-Promote.options
+    (asks_if (texts c.args.words.now) _ (Promote c.in-Ok-Promote.options) is c.read_words.ensures.fine c.read_words.ensures.found)
+    (record { untouched = (refl, refl); undrawn = refl; shut = (refl, refl); leaves = c.promote_all.ensures.leaves })
 
 pub returns-in-Err-Usage-clause-ended : goal.returns-in-Err-Usage-clause-ended
 returns-in-Err-Usage-clause-ended g c =
