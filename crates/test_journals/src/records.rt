@@ -54,6 +54,8 @@ fn told_of_logged(alloc: Global, logged: &Logged, body: &[u8]) -> Result<String,
         Logged::Drawn { number } => {
             told_of_record(alloc, &Recorded::Drawn { number: *number }, body)
         }
+        Logged::Follow => told_of_record(alloc, &Recorded::Follow, body),
+        Logged::Promoted => told_of_record(alloc, &Recorded::Promoted, body),
     }
 }
 

@@ -44,7 +44,7 @@ fn a_page_is_sent_as_html(rt: HostRuntime) -> Result<(), Fail> {
 }
 
 // What is no page, with its status and its word.
-fn words() -> [(Reply, &'static str, &'static str); 20] {
+fn words() -> [(Reply, &'static str, &'static str); 21] {
     [
         (Reply::Refused(Refusal::Unknown), "404 Not Found", "unknown"),
         (Reply::Refused(Refusal::Revoked), "410 Gone", "revoked"),
@@ -103,6 +103,7 @@ fn words() -> [(Reply, &'static str, &'static str); 20] {
         ),
         (Reply::DiskFault(1), "503 Service Unavailable", "disk"),
         (Reply::Down(1), "503 Service Unavailable", "down"),
+        (Reply::Following, "503 Service Unavailable", "following"),
         (Reply::Worn, "503 Service Unavailable", "worn"),
         (Reply::Memory, "503 Service Unavailable", "memory"),
     ]
