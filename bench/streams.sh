@@ -53,6 +53,32 @@ look "play of a folder" $? "$(cat "$work/out")" 5 "error 5 read"
 "$program" play </dev/null >"$work/out" 2>/dev/null
 look "play of nothing" $? "$(cat "$work/out")" 3 "error 3"
 
+# A feed that nobody reads on, and acknowledgments that nobody takes: what was held stays, and the next time all of it is.
+{
+    cat "$work/setup"
+    echo steps
+    yes 'get 0 /servlets/shop' | head -n 2000
+} >"$work/small"
+"$program" play --instances 4096 --journal "$work/leader" <"$work/small" >/dev/null 2>&1
+{
+    "$program" export --journal "$work/leader" 2>/dev/null
+    echo $? >"$work/status"
+} | head -c 1000 >"$work/first"
+look "export | head -c 1000" "$(cat "$work/status")" "$(head -c 6 "$work/first")" 6 KSFEED
+
+"$program" follow --journal "$work/follower" <"$work/first" >"$work/out" 2>/dev/null
+look "follow of 1,000 bytes" $? "$(tail -n 1 "$work/out")" 13 " cut"
+
+"$program" export --journal "$work/leader" >"$work/feed" 2>/dev/null
+"$program" follow --journal "$work/follower" <"$work/feed" >/dev/full 2>/dev/null
+look "follow >/dev/full" $? "" 6 ""
+
+"$program" follow --journal "$work/follower" <"$work/feed" >"$work/out" 2>/dev/null
+look "follow once more" $? "$(tail -n 1 "$work/out")" 0 "ack 2001"
+
+"$program" follow --journal "$work/follower" <"$work" >"$work/out" 2>/dev/null
+look "follow of a folder" $? "$(cat "$work/out")" 5 "error 5 read"
+
 # A word of bytes that are no text stands for no words at all.
 "$program" "$(printf 'check\377')" <"$work/setup" >"$work/out" 2>/dev/null
 look "a word that is no text" $? "$(cat "$work/out")" 2 "error 2 usage"
