@@ -144,6 +144,8 @@ pub struct Watch<'r, R> {
     seconds: u64,
     counts: Counts,
     stage: Stage,
+    // Whether the length of a body of one byte was read last: what is read next may be that body, and is no mark then.
+    is_short: bool,
 }
 
 impl<'r, R: Clock + Eprint> Watch<'r, R> {
@@ -157,6 +159,7 @@ impl<'r, R: Clock + Eprint> Watch<'r, R> {
             seconds: 0,
             counts: Counts::NONE,
             stage: Stage::Audit,
+            is_short: false,
         }
     }
 
@@ -244,11 +247,13 @@ impl<'r, R: Clock + Eprint> Watch<'r, R> {
 
     /// These bytes were read at this place. The records end at the first gate behind one that is not open.
     pub fn saw(&mut self, place: u64, bytes: &[u8]) {
+        let is_body = self.is_short;
+        self.is_short = matches!(bytes, [1, 0, 0, 0]);
         if !self.stage.tells_records() {
             return;
         }
         if let [gate] = bytes {
-            if *gate != OPEN && self.counts.records > 0 {
+            if *gate != OPEN && !is_body && self.counts.records > 0 {
                 self.end();
                 return;
             }

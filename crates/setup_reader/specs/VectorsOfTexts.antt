@@ -4,7 +4,8 @@ use Rattle.std.specs.Str.{is_utf8, chars}
 use Rattle.std.specs.Str.Lossy.{utf8_valid_len}
 use Rattle.std.proofs.Math.Utf8.{encode}
 use Rattle.core_syntax.specs.Definitions.{expanded}
-use Rattle.core_syntax.specs.Heads.{syntax_of, page_form_of, number_operation_of, test_of, list_operation_of, text_operation_of}
+use Rattle.core_syntax.specs.Heads.{syntax_of, page_form_of}
+use Rattle.script_nodes.specs.PrimSpec.Table.{number_operation_of, test_of, list_operation_of, text_operation_of}
 use Rattle.script_nodes.specs.Setup.{texts_of}
 use Rattle.setup_reader.specs.Texts.{setup_of_texts}
 
