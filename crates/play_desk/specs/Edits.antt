@@ -1,8 +1,9 @@
 -- Edits of a setup.
-use Rattle.std.specs.Prelude.{◌≡◌, ℕ, List, [], ◌∷◌, ◌++◌, length, nat_lt, slice_get, slice_set, Option, Some, None, if◌then◌else◌}
+use Rattle.std.specs.Prelude.{◌≡◌, ℕ, List, [], ◌∷◌, ◌++◌, length, nat_lt, slice_get, slice_set, option_map, Option, Some, None, if◌then◌else◌}
 use Rattle.script_nodes.specs.Setup.{Named, place_named}
-use Rattle.script_nodes.specs.Views.{named_of}
+use Rattle.script_nodes.specs.Views.{named_of, scripts_of}
 use Rattle.script_nodes.specs.declared.setup.NamedScript.{NamedScript}
+use Rattle.script_nodes.specs.declared.setup.Setup.{Setup}
 use Rattle.setup_reader.specs.Limits.{most_scripts}
 use Rattle.setup_reader.specs.Texts.{script_of_text}
 
@@ -25,3 +26,7 @@ edited scripts name text = with_script scripts (script_of_text (name, text))
 -- the script is the one that stands at a place of a setup that has this one at another
 abbrev pub IsAt : List Named → (place : ℕ) → Named → (other : ℕ) → NamedScript → Type 0
 IsAt scripts k s j copy = slice_get (slice_set scripts k s) j ≡ Some (named_of copy)
+
+-- The setup that is found, if one is, has this script behind those of another one.
+abbrev pub IsPlacedBehind : List Named → Named → (found : Option Setup) → Type 0
+IsPlacedBehind scripts s found = option_map scripts_of found ≡ placed_at scripts s None

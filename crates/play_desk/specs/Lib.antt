@@ -7,3 +7,5 @@ pub mod Laws
 pub mod Vectors
 pub mod Staff
 pub mod Opening
+pub mod Failing
+pub mod Told

@@ -20,7 +20,7 @@ use Rattle.shelf.specs.Tickets.{GoesOnFromItsPage}
 use Rattle.shelf.specs.declared.shelf.Shelf.{Shelf}
 use Rattle.script_value.specs.declared.outcome.Reply.{Reply}
 use Rattle.play_steps.specs.Rules.{Takes, Publishes, Sweeps, Compacts}
-use Rattle.play_desk.specs.Desk.{Desk, desk_rules}
+use Rattle.play_desk.specs.Desk.{Desk, desk_rules, without_shelf}
 use Rattle.play_desk.specs.Target.{shelf_for}
 use Rattle.play_desk.specs.declared.staff.Staff.{Staff}
 
@@ -74,6 +74,10 @@ place_of count worker t = shelf_for count worker (target_of t.target)
 abbrev pub KeepsOthers : (count place : ℕ) → (old new : List (Option Ticket)) → Type 0
 KeepsOthers count place old new =
     (w : ℕ) (t : Ticket) → slice_get new w ≡ Some (Some t) → (slice_get old w ≡ Some (Some t)) × (place_of count w t ≢ place)
+
+-- Of so many shelves, the tickets of the one at this place are lost, and all others are held as before.
+abbrev pub LosesTickets : (count place : ℕ) → (old new : List (Option Ticket)) → Type 0
+LosesTickets count place old new = map (option_map ticket_of) new ≡ without_shelf count place 0 (map (option_map ticket_of) old)
 
 -- this holds of the ticket on the shelf at a place
 pub record HoldsAt {D : Type 0} (Q : Shelf D Counting → Ticket → Type 0) (shelves : List (Shelf D Counting)) (place : ℕ) (t : Ticket) : Type 0 where

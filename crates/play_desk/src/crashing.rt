@@ -1,13 +1,14 @@
-ghost use Rattle.std.specs.Prelude.{◌≡◌, ◌≤◌, ◌<◌, [], IsTrue, IfErr, IfOk, OnErr, OnOk, IsErrOf, length};
-ghost use Rattle.web_outside.specs.Causes.{Rose};
+ghost use Rattle.std.specs.Prelude.{◌≡◌, ◌<◌, [], IsTrue, OnErr, OnOk, length};
 ghost use Rattle.script_nodes.specs.Views.{scripts_of};
 ghost use Rattle.disk_trio.specs.Trio.{trio_view};
 ghost use Rattle.trio_rack.specs.Trios.{shelves_of};
 ghost use Rattle.play_steps.specs.Rules.{StaysFirst};
 ghost use Rattle.setup_reader.specs.Texts.{IsReadSetup};
 ghost use Rattle.play_desk.specs.Asking.{HasAsked};
-ghost use Rattle.play_desk.specs.Opening.{CrashesShelf, FailsAt, FailuresStay, IsLeft, IsNeverDamaged, IsNeverOther, IsPutBack, KeepsShelvesBut, LeavesLost, TellsItsRoom};
-ghost use Rattle.play_desk.specs.Staff.{AreLow, HaveOwnNumbers, IsFit, IsHome, IsOwn, KeepsOwn, desk_of, faults_in, total};
+ghost use Rattle.play_desk.specs.Opening.{FailuresStay, IsNeverDamaged, IsNeverOther, IsPutBack, KeepsShelvesBut};
+ghost use Rattle.play_desk.specs.Staff.{AreLow, HaveOwnNumbers, IsFit, IsHome, KeepsOwn};
+ghost use Rattle.play_desk.specs.Failing.{FailsOf, FailsThere, FaultsRise, FaultsStay};
+ghost use Rattle.play_desk.specs.Told.{CrashesOwn, LeavesAll, LeavesOwn, OutgrowsOwn};
 
 use crate::desk_disks::put_all_back;
 use crate::opening::{put_back, reopened};
@@ -34,10 +35,8 @@ fn reopen_at<F: Disk, R: Rack<F>>(
     requires read { IsReadSetup (scripts_of setup.now) }
     requires fit { IsFit trio_view F.tells staff.old }
     requires home { IsHome staff.old.shelves.items (shelves_of (R.view rack.old)).out }
-    ensures step { IsTrue R.tells → IsTrue F.tells →
-        IsOwn trio_view F.tells staff.old →
-        IfOk result (λ live.
-        CrashesShelf trio_view (scripts_of setup.now) staff.old place live staff.new) }
+    ensures step { CrashesOwn trio_view R.tells F.tells
+        setup.now staff.old place result staff.new }
     ensures count { OnOk result (length staff.new.shelves.items ≡ length staff.old.shelves.items) }
     ensures fit { OnOk result (IsFit trio_view F.tells staff.new) }
     ensures own { IsTrue R.tells → IsTrue F.tells →
@@ -48,22 +47,19 @@ fn reopen_at<F: Disk, R: Rack<F>>(
         (IsPutBack staff.old.shelves.items place (shelves_of (R.view rack.new)).out) }
     ensures others { OnErr result
         (KeepsShelvesBut place staff.old.shelves.items staff.new.shelves.items) }
-    ensures left { IsTrue R.tells → IsTrue F.tells →
-        IsOwn trio_view F.tells staff.old → OnErr result (LeavesLost trio_view
-        (scripts_of setup.now) staff.old.shelves.items place (shelves_of (R.view rack.new)).holds) }
-    ensures room { IsTrue R.tells → IsTrue F.tells → IsOwn trio_view F.tells staff.old →
-        IfErr result (TellsItsRoom trio_view (scripts_of setup.now)
-        staff.old.shelves.items place (shelves_of (R.view rack.new)).holds) }
+    ensures left { LeavesOwn trio_view R.tells F.tells
+        setup.now staff.old place result (R.view rack.new) }
+    ensures room { OutgrowsOwn trio_view R.tells F.tells
+        setup.now staff.old place result (R.view rack.new) }
     ensures home { IsHome staff.new.shelves.items (shelves_of (R.view rack.new)).out }
     ensures damaged { IsTrue R.tells → IsTrue F.tells → IsNeverDamaged result }
     ensures other { IsTrue R.tells → IsTrue F.tells → IsNeverOther result }
-    ensures disk { IsErrOf result Reopen.Disk →
-        Rose (total (R.view rack.old).faults (faults_in trio_view staff.old.shelves.items))
-        (total (R.view rack.new).faults (faults_in trio_view staff.new.shelves.items)) }
-    ensures here { IsErrOf result Reopen.Disk →
-        FailsAt trio_view staff.old.shelves.items place (R.view rack.old) (R.view rack.new) }
-    ensures later { total (R.view rack.old).faults (faults_in trio_view staff.old.shelves.items)
-        ≤ total (R.view rack.new).faults (faults_in trio_view staff.new.shelves.items) }
+    ensures disk { FaultsRise trio_view result
+        (R.view rack.old) staff.old (R.view rack.new) staff.new }
+    ensures here { FailsThere trio_view result
+        staff.old place (R.view rack.old) (R.view rack.new) }
+    ensures later { FaultsStay trio_view
+        (R.view rack.old) staff.old (R.view rack.new) staff.new }
     ensures failed_later { FailuresStay (R.view rack.old) (R.view rack.new) }
     ensures asked { StaysFirst (HasAsked (R.view rack.old)) (HasAsked (R.view rack.new)) }
 {
@@ -101,32 +97,25 @@ pub fn crash<F: Disk, R: Rack<F>>(
     requires read { IsReadSetup (scripts_of setup.now) }
     requires fit { IsFit trio_view F.tells staff.old }
     requires home { IsHome staff.old.shelves.items (shelves_of (R.view rack.old)).out }
-    ensures step { IsTrue R.tells → IsTrue F.tells →
-        IsOwn trio_view F.tells staff.old →
-        IfOk result (λ live.
-        CrashesShelf trio_view (scripts_of setup.now) staff.old place live staff.new) }
+    ensures step { CrashesOwn trio_view R.tells F.tells
+        setup.now staff.old place result staff.new }
     ensures count { OnOk result (length staff.new.shelves.items ≡ length staff.old.shelves.items) }
     ensures closed { OnErr result (staff.new.shelves.items ≡ []) }
     ensures fit { IsFit trio_view F.tells staff.new }
     ensures own { IsTrue R.tells → IsTrue F.tells →
         KeepsOwn trio_view F.tells staff.old staff.new }
-    ensures left { IsTrue R.tells → IsTrue F.tells →
-        IsOwn trio_view F.tells staff.old →
-        IfErr result (IsLeft (R.view rack.new)
-        (desk_of trio_view (scripts_of setup.now) staff.old) place) }
+    ensures left { LeavesAll trio_view R.tells F.tells
+        setup.now staff.old place result (R.view rack.new) }
     ensures home { IsHome staff.new.shelves.items (shelves_of (R.view rack.new)).out }
     ensures damaged { IsTrue R.tells → IsTrue F.tells → IsNeverDamaged result }
     ensures other { IsTrue R.tells → IsTrue F.tells → IsNeverOther result }
-    ensures disk { IsErrOf result Reopen.Disk →
-        Rose (total (R.view rack.old).faults (faults_in trio_view staff.old.shelves.items))
-        (total (R.view rack.new).faults (faults_in trio_view staff.new.shelves.items)) }
-    ensures here { IsErrOf result Reopen.Disk →
-        FailsAt trio_view staff.old.shelves.items place (R.view rack.old) (R.view rack.new) }
-    ensures failed { IsErrOf result Reopen.Disk →
-        Rose ((shelves_of (R.view rack.old)).failed place)
-        ((shelves_of (R.view rack.new)).failed place) }
-    ensures later { total (R.view rack.old).faults (faults_in trio_view staff.old.shelves.items)
-        ≤ total (R.view rack.new).faults (faults_in trio_view staff.new.shelves.items) }
+    ensures disk { FaultsRise trio_view result
+        (R.view rack.old) staff.old (R.view rack.new) staff.new }
+    ensures here { FailsThere trio_view result
+        staff.old place (R.view rack.old) (R.view rack.new) }
+    ensures failed { FailsOf result place (R.view rack.old) (R.view rack.new) }
+    ensures later { FaultsStay trio_view
+        (R.view rack.old) staff.old (R.view rack.new) staff.new }
     ensures failed_later { FailuresStay (R.view rack.old) (R.view rack.new) }
     ensures asked { StaysFirst (HasAsked (R.view rack.old)) (HasAsked (R.view rack.new)) }
 {

@@ -1,13 +1,14 @@
-ghost use Rattle.std.specs.Prelude.{◌≡◌, ◌≤◌, ◌<◌, ◌+◌, ℕ, false, length, IsTrue, IfOk, IfErr, IsErrOf, OnErr, OnOk};
+ghost use Rattle.std.specs.Prelude.{◌≡◌, ◌≤◌, ◌<◌, false, length, IsTrue, IfOk, IfErr, IsErrOf, OnErr, OnOk};
 ghost use Rattle.script_nodes.specs.Views.{scripts_of};
 ghost use Rattle.setup_reader.specs.Texts.{IsReadSetup};
 ghost use Rattle.shelf.specs.Ranges.{AreInRange};
 ghost use Rattle.disk_trio.specs.Trio.{trio_view};
-ghost use Rattle.trio_rack.specs.Trios.{shelves_of, MayBeBare};
-ghost use Rattle.play_desk.specs.Desk.{first_desk};
-ghost use Rattle.play_desk.specs.Staff.{AreLow, HaveOwnNumbers, IsHome, IsOwn, IsReady, desk_of, faults_in, total};
+ghost use Rattle.trio_rack.specs.Trios.{shelves_of};
+ghost use Rattle.play_desk.specs.Staff.{AreLow, HaveOwnNumbers, IsHome, IsOwn, IsReady, faults_in, total};
 ghost use Rattle.play_desk.specs.Asking.{AsksForFirst, AsksForNone, AsksForOne, AsksForSome, AsksUntil};
-ghost use Rattle.play_desk.specs.Opening.{AllStayKept, AreHome, AreOpened, CountStays, FailedFor, FailuresStay, GivesOne, HoldImages, HoldTheBooks, IsClosedBy, IsRefusedBy, KeepsClosed, LeaveOthers, OpensNext, numbered, rules_at};
+ghost use Rattle.play_desk.specs.Opening.{AreHome, CountStays, FailedFor, FailuresStay, GivesOne, IsRefusedBy, LeaveOthers, OpensNext, numbered};
+ghost use Rattle.play_desk.specs.Failing.{faults_beside};
+ghost use Rattle.play_desk.specs.Told.{AllHoldAsLeft, AllStayIfClosed, AsksIfUsed, ClosesOwn, IsFirst, OpensAll, StaysIfClosed, TellsCause, WereBare};
 
 use crate::desk::Desk;
 use crate::opening::{OpenCause, OpenFault, opened, put_back};
@@ -43,8 +44,8 @@ pub(crate) fn put_all_back<F: Disk, R: Rack<F>>(
     requires low { AreLow shelves.items }
     requires home { IsHome shelves.items (shelves_of (R.view rack.old)).out }
     ensures home { AreHome (shelves_of (R.view rack.new)).out }
-    ensures images { IsTrue R.tells → IsTrue F.tells →
-        HoldImages trio_view shelves.items (shelves_of (R.view rack.new)).holds }
+    ensures images { AllHoldAsLeft trio_view R.tells F.tells
+        shelves.items (R.view rack.new) }
     ensures others { LeaveOthers shelves.items (R.view rack.old) (R.view rack.new) }
     ensures later { total (R.view rack.old).faults (faults_in trio_view shelves.items)
         ≤ (R.view rack.new).faults }
@@ -77,10 +78,8 @@ fn open_next<F: Disk, R: Rack<F>>(
     ensures given { OnErr result (GivesOne rules.number (R.view rack.old) (R.view rack.new)) }
     ensures why { IsTrue R.tells → IsTrue F.tells →
         IfErr result (IsRefusedBy (R.view rack.old) rules.number) }
-    ensures keeps { IsTrue R.tells → IsTrue F.tells →
-        KeepsClosed (scripts_of setup.now) rules.number
-        ((shelves_of (R.view rack.old)).holds rules.number)
-        ((shelves_of (R.view rack.new)).holds rules.number) result }
+    ensures keeps { StaysIfClosed R.tells F.tells setup.now rules
+        (R.view rack.old) (R.view rack.new) result }
     ensures disk { IsErrOf result OpenCause.Disk →
         FailedFor rules.number (R.view rack.old) (R.view rack.new) }
     ensures later { OnErr result
@@ -111,14 +110,11 @@ fn open_all<F: Disk, R: Rack<F>>(
     requires range { AreInRange rules }
     requires read { IsReadSetup (scripts_of setup.now) }
     requires home { AreHome (shelves_of (R.view rack.old)).out }
-    ensures opened { IfOk result (λ shelves.
-        AreOpened trio_view R.tells F.tells (scripts_of setup.now) rules (R.view rack.old)
-        rules.shelves shelves.items (R.view rack.new)) }
-    ensures closed { IsTrue R.tells → IsTrue F.tells →
-        IfErr result (λ e. IsClosedBy (R.view rack.old) rules.shelves e.shelf e.why) }
-    ensures keeps { IsTrue R.tells → IsTrue F.tells →
-        IfErr result (λ e. AllStayKept (scripts_of setup.now)
-        (shelves_of (R.view rack.old)).holds (shelves_of (R.view rack.new)).holds e.shelf e.why) }
+    ensures opened { OpensAll trio_view R.tells F.tells setup.now rules
+        (R.view rack.old) (R.view rack.new) result }
+    ensures closed { TellsCause R.tells F.tells (R.view rack.old) rules.shelves result }
+    ensures keeps { AllStayIfClosed R.tells F.tells setup.now
+        (R.view rack.old) (R.view rack.new) result }
     ensures all_home { IfErr result (λ e. AreHome (shelves_of (R.view rack.new)).out) }
     ensures disk { IfErr result (λ e. e.why ≡ OpenCause.Disk →
         FailedFor e.shelf (R.view rack.old) (R.view rack.new)) }
@@ -126,8 +122,7 @@ fn open_all<F: Disk, R: Rack<F>>(
     ensures failed_later { FailuresStay (R.view rack.old) (R.view rack.new) }
     ensures asked { IfErr result (λ e.
         AsksUntil rules.shelves e.shelf (R.view rack.old) (R.view rack.new)) }
-    ensures asked_shut { IfErr result (λ e. e.why ≡ OpenCause.NotEmpty →
-        AsksForFirst (e.shelf + 1) (R.view rack.old) (R.view rack.new)) }
+    ensures asked_shut { AsksIfUsed result (R.view rack.old) (R.view rack.new) }
 {
     // A count is below 2^64, so it does not fall where those of the disks are added.
     let _count = rack.faults();
@@ -160,33 +155,28 @@ pub fn open_desk<'s, F: Disk, R: Rack<F>>(
     requires home { AreHome (shelves_of (R.view rack.old)).out }
     ensures setup { IfOk result (λ d. d.setup ≡ setup) }
     ensures desk { IsTrue R.tells → IsTrue F.tells →
-        IfOk result (λ d. desk_of trio_view (scripts_of d.setup) d.staff
-        ≡ first_desk (rules_at rules) (scripts_of setup) rules.shelves) }
+        IfOk result (λ d. IsFirst trio_view rules setup d.setup d.staff) }
     ensures count { IfOk result (λ d. length d.staff.shelves.items ≡ rules.shelves) }
-    ensures empty { IsTrue R.tells → IsTrue F.tells →
-        IfOk result (λ d. (k : ℕ) → k < rules.shelves → MayBeBare (R.view rack.old) k) }
+    ensures empty { WereBare R.tells F.tells (R.view rack.old) rules.shelves result }
     ensures sound { IfOk result (λ d. IsReady trio_view F.tells (scripts_of d.setup) d.staff) }
     ensures own { IsTrue R.tells → IsTrue F.tells →
         IfOk result (λ d. IsOwn trio_view F.tells d.staff) }
     ensures home { IfOk result (λ d.
         IsHome d.staff.shelves.items (shelves_of (R.view rack.new)).out) }
-    ensures closed { IsTrue R.tells → IsTrue F.tells →
-        IfErr result (λ e. IsClosedBy (R.view rack.old) rules.shelves e.shelf e.why) }
-    ensures keeps { IsTrue R.tells → IsTrue F.tells →
-        IfErr result (λ e. AllStayKept (scripts_of setup)
-        (shelves_of (R.view rack.old)).holds (shelves_of (R.view rack.new)).holds e.shelf e.why) }
+    ensures closed { TellsCause R.tells F.tells (R.view rack.old) rules.shelves result }
+    ensures keeps { AllStayIfClosed R.tells F.tells setup
+        (R.view rack.old) (R.view rack.new) result }
     ensures all_home { IfErr result (λ e. AreHome (shelves_of (R.view rack.new)).out) }
     ensures disk { IfErr result (λ e. e.why ≡ OpenCause.Disk →
         FailedFor e.shelf (R.view rack.old) (R.view rack.new)) }
     ensures later { (R.view rack.old).faults ≤ (R.view rack.new).faults }
     ensures failed_later { FailuresStay (R.view rack.old) (R.view rack.new) }
-    ensures later_open { IfOk result (λ d. (R.view rack.old).faults
-        ≤ total (R.view rack.new).faults (faults_in trio_view d.staff.shelves.items)) }
+    ensures later_open { IfOk result (λ d.
+        (R.view rack.old).faults ≤ faults_beside trio_view (R.view rack.new) d.staff) }
     ensures asked { OnOk result (AsksForFirst rules.shelves (R.view rack.old) (R.view rack.new)) }
     ensures asked_until { IfErr result (λ e.
         AsksUntil rules.shelves e.shelf (R.view rack.old) (R.view rack.new)) }
-    ensures asked_shut { IfErr result (λ e. e.why ≡ OpenCause.NotEmpty →
-        AsksForFirst (e.shelf + 1) (R.view rack.old) (R.view rack.new)) }
+    ensures asked_shut { AsksIfUsed result (R.view rack.old) (R.view rack.new) }
 {
     match open_all(alloc, rack, directory, &setup, rules) {
         Ok(shelves) => Ok(Desk {
@@ -210,12 +200,9 @@ impl<'s, F: Disk, R: Rack<F>> Desk<'s, F, R> {
         requires sound { IsReady trio_view F.tells (scripts_of self.setup) self.staff }
         requires home { IsHome self.staff.shelves.items (shelves_of (R.view rack.old)).out }
         ensures home { AreHome (shelves_of (R.view rack.new)).out }
-        ensures books { IsTrue R.tells → IsTrue F.tells →
-            IsOwn trio_view F.tells self.entry.staff → HoldTheBooks
-            (desk_of trio_view (scripts_of self.entry.setup) self.entry.staff)
-            (shelves_of (R.view rack.new)).holds }
-        ensures later { total (R.view rack.old).faults
-            (faults_in trio_view self.entry.staff.shelves.items)
+        ensures books { ClosesOwn trio_view R.tells F.tells
+            self.entry.setup self.entry.staff (R.view rack.new) }
+        ensures later { faults_beside trio_view (R.view rack.old) self.entry.staff
             ≤ (R.view rack.new).faults }
         ensures failed_later { FailuresStay (R.view rack.old) (R.view rack.new) }
         ensures others { LeaveOthers self.entry.staff.shelves.items

@@ -1,6 +1,6 @@
 ghost use Rattle.std.specs.Prelude.{◌≡◌, ◌<◌, None, length, option_map, slice_set, IfOk};
 ghost use Rattle.script_nodes.specs.Views.{named_of, scripts_of};
-ghost use Rattle.play_desk.specs.Edits.{IsAt, edited, placed_at};
+ghost use Rattle.play_desk.specs.Edits.{IsAt, IsPlacedBehind, edited};
 
 use script_nodes::{NamedScript, Setup};
 use setup_reader::script_of;
@@ -53,8 +53,7 @@ fn with_script_behind(
     setup: &Setup,
     script: NamedScript,
 ) -> Result<Option<Setup>, AllocError>
-    ensures { IfOk result (λ found. option_map scripts_of found
-        ≡ placed_at (scripts_of setup.now) (named_of script) None) }
+    ensures { IfOk result (IsPlacedBehind (scripts_of setup.now) (named_of script)) }
 {
     if setup.len() >= MOST_SCRIPTS {
         return Ok(None);

@@ -1,17 +1,15 @@
-ghost use Rattle.std.specs.Prelude.{◌≡◌, ◌≤◌, ◌<◌, ◌+◌, [], true, false, IsTrue, IfOk, IfErr, OnOk, OnErr, IsErrOf};
+ghost use Rattle.std.specs.Prelude.{◌≡◌, ◌≤◌, ◌<◌, true, false, IsTrue, IfOk, IfErr, OnOk, OnErr, IsErrOf};
 ghost use Rattle.script_nodes.specs.Views.{scripts_of};
 ghost use Rattle.setup_reader.specs.Texts.{IsReadSetup};
-ghost use Rattle.web_disk.specs.View.{AreAmong};
 ghost use Rattle.disk_trio.specs.Trio.{trio_view};
 ghost use Rattle.server_limits.specs.Limits.{most_shelves};
 ghost use Rattle.trio_rack.specs.Trios.{shelves_of, AreFrom};
-ghost use Rattle.web_outside.specs.Causes.{Rose};
 ghost use Rattle.shelf.specs.Ranges.{AreInRange};
 ghost use Rattle.play_desk.specs.Asking.{AsksForNone, AsksForOne, AsksForSome};
-ghost use Rattle.play_desk.specs.Opening.{BeginsEmpty, CountRose, CountStays, FailedFor, Finds, GivesOne, GivesUnread, HasCrashed, IsNeverDamaged, IsNeverOther, IsOutside, KeepsBegun, KeepsOpened, LeavesNoRoom, OpensEmpty, OpensOne, StandsLost, StaysLost, TakesEmpty, TakesOrLeaves, TellsRoom, cause_of, disk_faults, faults_left, left_on, reopen_of};
-ghost use Rattle.shelf.specs.Opening.{IsOfNow};
-ghost use Rattle.shelf.specs.Owning.{IsOwnImage};
-ghost use Rattle.shelf.specs.Views.{IsInOrder, IsOwnShelf, book_in, rules_of};
+ghost use Rattle.play_desk.specs.Opening.{CountStays, FailedFor, GivesOne, IsNeverDamaged, IsNeverOther, IsOutside, OpensOne, TakesEmpty, TakesOrLeaves, cause_of, disk_faults, faults_left, reopen_of};
+ghost use Rattle.shelf.specs.Views.{IsInOrder, IsOwnShelf};
+ghost use Rattle.play_desk.specs.Failing.{CountsFor, FailsOn, RisesInAll, StaysInAll};
+ghost use Rattle.play_desk.specs.Told.{BeginsBare, BeginsOwn, ComesBack, ComesBackOwn, FindsNow, GivesHeld, HasNoRoomIn, HoldsAsLeft, KeepsHeld, OpensBare, OutgrowsAfter, StandsAfter, StandsBegun, StaysBegun, StaysInOpening, StaysUnread};
 
 use disk_trio::Disks;
 use play_steps::Reopen;
@@ -77,13 +75,10 @@ fn taken<F: Disk, R: Rack<F>>(
 ) -> Result<Disks<F>, Reopen>
     requires { number < most_shelves }
     ensures unopened { IfOk result (λ disks. disks.known ≡ false) }
-    ensures images { IsTrue R.tells → IfOk result (λ disks.
-        AreAmong (trio_view disks).images ((shelves_of (R.view rack.old)).holds number)) }
+    ensures images { GivesHeld trio_view R.tells number (R.view rack.old) result }
     ensures each { IsTrue R.tells →
         IfOk result (λ disks. AreFrom (R.view rack.old) number disks) }
-    ensures left { IsTrue R.tells → OnErr result (AreAmong
-        ((shelves_of (R.view rack.new)).holds number)
-        ((shelves_of (R.view rack.old)).holds number)) }
+    ensures left { KeepsHeld R.tells number (R.view rack.old) (R.view rack.new) result }
     ensures fresh { IfOk result (λ disks. (trio_view disks).faults ≡ 0) }
     ensures rack { TakesOrLeaves number result (R.view rack.old) (R.view rack.new) }
     ensures disk { IsErrOf result Reopen.Disk →
@@ -128,32 +123,23 @@ fn begun<F: Disk, R: Rack<F>>(
     ensures in_order { IfOk result (IsInOrder trio_view F.tells) }
     ensures rules { IfOk result (λ s. s.rules ≡ rules) }
     ensures nonces { IfOk result (λ s. s.nonces ≡ nonces) }
-    ensures found { IsTrue F.tells → IsOfNow (trio_view disks) →
-        Finds trio_view (scripts_of setup.now) rules.number (trio_view disks).images result }
-    ensures empty { IsTrue F.tells → (trio_view disks).seen ≡ [] →
-        BeginsEmpty trio_view (scripts_of setup.now) rules result }
-    ensures own { IsTrue F.tells →
-        IsOwnImage rules.number (trio_view disks).seen →
-        IfOk result (IsOwnShelf trio_view F.tells) }
-    ensures keeps { IsTrue R.tells → IsTrue F.tells →
-        KeepsBegun trio_view (scripts_of setup.now) rules.number
-        (trio_view disks) (shelves_of (R.view rack.new)).holds result }
-    ensures left { IsTrue R.tells → IsTrue F.tells → IsOfNow (trio_view disks) →
-        StaysLost (scripts_of setup.now) rules.number (trio_view disks)
-        (left_on trio_view rules.number (shelves_of (R.view rack.new)).holds result) }
-    ensures full { IsTrue R.tells → IsTrue F.tells →
-        LeavesNoRoom (scripts_of setup.now) rules.number
-        ((shelves_of (R.view rack.new)).holds rules.number) result }
+    ensures found { FindsNow trio_view F.tells
+        setup.now rules.number (trio_view disks) result }
+    ensures empty { BeginsBare trio_view F.tells setup.now rules (trio_view disks) result }
+    ensures own { BeginsOwn trio_view F.tells rules.number (trio_view disks) result }
+    ensures keeps { StaysBegun trio_view R.tells F.tells
+        setup.now rules (trio_view disks) result (R.view rack.new) }
+    ensures left { StandsBegun trio_view R.tells F.tells
+        setup.now rules (trio_view disks) result (R.view rack.new) }
+    ensures full { HasNoRoomIn R.tells F.tells setup.now rules.number result (R.view rack.new) }
     ensures kept { OnOk result (rack.new ≡ rack.old) }
     ensures given { OnErr result (GivesOne rules.number (R.view rack.old) (R.view rack.new)) }
-    ensures disk { IsErrOf result Reopen.Disk →
-        CountRose (R.view rack.old).faults (trio_view disks).faults
-        (R.view rack.new).faults (faults_left trio_view result) }
-    ensures here { IsErrOf result Reopen.Disk →
-        Rose ((shelves_of (R.view rack.old)).failed rules.number + (trio_view disks).faults)
-        ((shelves_of (R.view rack.new)).failed rules.number) }
-    ensures later { CountStays (R.view rack.old).faults (trio_view disks).faults
-        (R.view rack.new).faults (faults_left trio_view result) }
+    ensures disk { RisesInAll trio_view result (trio_view disks)
+        (R.view rack.old) (R.view rack.new) }
+    ensures here { FailsOn result rules.number (trio_view disks)
+        (R.view rack.old) (R.view rack.new) }
+    ensures later { StaysInAll trio_view result (trio_view disks)
+        (R.view rack.old) (R.view rack.new) }
     ensures asked { AsksForNone (R.view rack.old) (R.view rack.new) }
 {
     match Shelf::begin(alloc, disks, nonces, setup, rules) {
@@ -169,12 +155,10 @@ fn begun<F: Disk, R: Rack<F>>(
 pub fn put_back<F: Disk, R: Rack<F>>(rack: &mut R, shelf: Shelf<Disks<F>, Counting>) -> Counting
     requires low { shelf.rules.number < most_shelves }
     ensures nonces { result ≡ shelf.nonces }
-    ensures images { IsTrue R.tells → IsTrue F.tells →
-        AreAmong ((shelves_of (R.view rack.new)).holds shelf.rules.number)
-        (trio_view shelf.journal.disk).images }
-    ensures counted { (shelves_of (R.view rack.old)).failed shelf.rules.number
-        + (trio_view shelf.journal.disk).faults
-        ≤ (shelves_of (R.view rack.new)).failed shelf.rules.number }
+    ensures images { HoldsAsLeft R.tells F.tells
+        shelf.rules.number (trio_view shelf.journal.disk) (R.view rack.new) }
+    ensures counted { CountsFor shelf.rules.number (trio_view shelf.journal.disk)
+        (R.view rack.old) (R.view rack.new) }
     ensures given { GivesOne shelf.rules.number (R.view rack.old) (R.view rack.new) }
     ensures later { CountStays (R.view rack.old).faults (trio_view shelf.journal.disk).faults
         (R.view rack.new).faults 0 }
@@ -200,34 +184,21 @@ pub fn reopened<F: Disk, R: Rack<F>>(
     ensures in_order { IfOk result (IsInOrder trio_view F.tells) }
     ensures rules { IfOk result (λ s. s.rules ≡ shelf.rules) }
     ensures nonces { IfOk result (λ s. s.nonces ≡ shelf.nonces) }
-    ensures crashed { IsTrue R.tells → IsTrue F.tells →
-        IsOwnShelf trio_view F.tells shelf →
-        IfOk result (HasCrashed trio_view (scripts_of setup.now) shelf) }
-    ensures own { IsTrue R.tells → IsTrue F.tells →
-        IsOwnShelf trio_view F.tells shelf →
-        IfOk result (IsOwnShelf trio_view F.tells) }
-    ensures left { IsTrue R.tells → IsTrue F.tells →
-        IsOwnShelf trio_view F.tells shelf →
-        StandsLost (rules_of shelf.rules) (scripts_of setup.now)
-        shelf.rules.number
-        (left_on trio_view shelf.rules.number (shelves_of (R.view rack.new)).holds result)
-        (book_in trio_view shelf) }
-    ensures room { IsTrue R.tells → IsTrue F.tells → IsOwnShelf trio_view F.tells shelf →
-        IfErr result (TellsRoom (rules_of shelf.rules) (scripts_of setup.now)
-        shelf.rules.number ((shelves_of (R.view rack.new)).holds shelf.rules.number)
-        (book_in trio_view shelf)) }
+    ensures crashed { ComesBack trio_view R.tells F.tells setup.now shelf result }
+    ensures own { ComesBackOwn trio_view R.tells F.tells shelf result }
+    ensures left { StandsAfter trio_view R.tells F.tells
+        setup.now shelf result (R.view rack.new) }
+    ensures room { OutgrowsAfter trio_view R.tells F.tells
+        setup.now shelf result (R.view rack.new) }
     ensures damaged { IsTrue R.tells → IsTrue F.tells → IsNeverDamaged result }
     ensures other { IsTrue R.tells → IsTrue F.tells → IsNeverOther result }
     ensures rack { OpensOne shelf.rules.number result (R.view rack.old) (R.view rack.new) }
-    ensures disk { IsErrOf result Reopen.Disk →
-        CountRose (R.view rack.old).faults (trio_view shelf.journal.disk).faults
-        (R.view rack.new).faults (faults_left trio_view result) }
-    ensures here { IsErrOf result Reopen.Disk →
-        Rose ((shelves_of (R.view rack.old)).failed shelf.rules.number
-        + (trio_view shelf.journal.disk).faults)
-        ((shelves_of (R.view rack.new)).failed shelf.rules.number) }
-    ensures later { CountStays (R.view rack.old).faults (trio_view shelf.journal.disk).faults
-        (R.view rack.new).faults (faults_left trio_view result) }
+    ensures disk { RisesInAll trio_view result (trio_view shelf.journal.disk)
+        (R.view rack.old) (R.view rack.new) }
+    ensures here { FailsOn result shelf.rules.number
+        (trio_view shelf.journal.disk) (R.view rack.old) (R.view rack.new) }
+    ensures later { StaysInAll trio_view result (trio_view shelf.journal.disk)
+        (R.view rack.old) (R.view rack.new) }
     ensures asked { AsksForSome shelf.rules.number (R.view rack.old) (R.view rack.new) }
 {
     images_make_books();
@@ -250,9 +221,8 @@ fn taken_empty<F: Disk, R: Rack<F>>(
     ensures unopened { IfOk result (λ disks. disks.known ≡ false) }
     ensures empty { IsTrue R.tells → IsTrue F.tells →
         TakesEmpty trio_view (R.view rack.old) number result }
-    ensures images { IsTrue R.tells → IsTrue F.tells → GivesUnread trio_view
-        ((shelves_of (R.view rack.old)).holds number)
-        ((shelves_of (R.view rack.new)).holds number) result }
+    ensures images { StaysUnread trio_view R.tells F.tells number
+        (R.view rack.old) (R.view rack.new) result }
     ensures rack { OpensOne number result (R.view rack.old) (R.view rack.new) }
     ensures disk { IsErrOf result OpenCause.Disk →
         FailedFor number (R.view rack.old) (R.view rack.new) }
@@ -294,14 +264,11 @@ pub fn opened<F: Disk, R: Rack<F>>(
     requires home { (shelves_of (R.view rack.old)).out rules.number ≡ false }
     ensures in_order { IfOk result (IsInOrder trio_view F.tells) }
     ensures rules { IfOk result (λ s. s.rules ≡ rules) }
-    ensures empty { IsTrue R.tells → IsTrue F.tells →
-        OpensEmpty trio_view (scripts_of setup.now) rules (R.view rack.old) result }
+    ensures empty { OpensBare trio_view R.tells F.tells setup.now rules (R.view rack.old) result }
     ensures own { IsTrue R.tells → IsTrue F.tells →
         IfOk result (IsOwnShelf trio_view F.tells) }
-    ensures keeps { IsTrue R.tells → IsTrue F.tells →
-        KeepsOpened trio_view (scripts_of setup.now) rules.number
-        ((shelves_of (R.view rack.old)).holds rules.number)
-        (shelves_of (R.view rack.new)).holds result }
+    ensures keeps { StaysInOpening trio_view R.tells F.tells setup.now rules
+        (R.view rack.old) (R.view rack.new) result }
     ensures rack { OpensOne rules.number result (R.view rack.old) (R.view rack.new) }
     ensures disk { IsErrOf result OpenCause.Disk →
         FailedFor rules.number (R.view rack.old) (R.view rack.new) }

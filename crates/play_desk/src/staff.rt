@@ -1,12 +1,11 @@
-ghost use Rattle.std.specs.Prelude.{◌≡◌, ◌≢◌, ◌<◌, ◌^◌, IfOk, IfSome, is_some, length, map, option_map, replicate, slice_get, slice_set, Some, None};
+ghost use Rattle.std.specs.Prelude.{◌≡◌, ◌≢◌, ◌<◌, ◌^◌, IfOk, IfSome, is_some, length, option_map, replicate, slice_get, slice_set, Some, None};
 ghost use Rattle.script_nodes.specs.Views.{library_of};
 ghost use Rattle.page_names.specs.Views.{target_of};
 ghost use Rattle.disk_trio.specs.Trio.{trio_view};
 ghost use Rattle.shelf.specs.Visits.{IsRunnable, ticket_of};
-ghost use Rattle.play_desk.specs.Staff.{KeepsOthers};
+ghost use Rattle.play_desk.specs.Staff.{KeepsOthers, LosesTickets};
 ghost use Rattle.shelf.specs.Views.{IsRunIfAny};
 ghost use Rattle.play_desk.specs.Desk as spec;
-ghost use Rattle.play_desk.specs.Desk.{without_shelf};
 ghost use Rattle.play_desk.specs.Target.{shelf_for};
 ghost use Rattle.play_desk.specs.Staff.{HoldsTicket, IsFit, KeepsOwn, CompactsShelf, PublishesTicket, StaysThere, SweepsShelf, TakesTicket, held_by, place_of};
 
@@ -87,8 +86,7 @@ fn left_of(held: Option<Ticket>, count: usize, place: usize, worker: u32) -> Opt
 pub fn lose_tickets(tickets: &mut [Option<Ticket>; 16], count: usize, place: usize)
     requires some { 0 < count }
     requires workers { length tickets.old ≡ 16 }
-    ensures held { map (option_map ticket_of) tickets.new
-        ≡ without_shelf count place 0 (map (option_map ticket_of) tickets.old) }
+    ensures held { LosesTickets count place tickets.old tickets.new }
     ensures kept { KeepsOthers count place tickets.old tickets.new }
     ensures workers { length tickets.new ≡ 16 }
 {
