@@ -1,7 +1,7 @@
-ghost use Rattle.std.specs.Prelude.{◌≡◌, ◌<◌, ◌≤◌, ◌+◌, ◌^◌, ◌∷◌, [], ℕ, IfOk, OnOk, IsErrOf, IsTrue, string_bytes};
-ghost use Rattle.web_outside.specs.Causes.{Rose};
+ghost use Rattle.std.specs.Prelude.{◌≡◌, ◌<◌, ◌≤◌, ◌+◌, ◌^◌, ◌∷◌, [], IfOk, OnOk, IsTrue, string_bytes};
 ghost use Rattle.measured_run.specs.Fnv.{goes_on};
 ghost use Rattle.play_steps.specs.Played.{spot};
+ghost use Rattle.play_steps.specs.Losses.{LosesBy, NoneIsLostToDamage, NoneIsLostToMemory, NoneIsLostToOther, RoseAtLost, RoseForLost};
 ghost use Rattle.play_steps.specs.Rules.{KeepsShelves, StaysFirst, StaysUp};
 ghost use Rattle.play_steps.specs.Texts.{print};
 ghost use Rattle.measured_run.specs.Generator.{source_of};
@@ -10,7 +10,7 @@ ghost use Rattle.measured_run.specs.Drawing.{HasLearned};
 ghost use Rattle.measured_run.specs.Course.{GoesOn, Measures, halt_in, shelves_of};
 
 use crate::{Fnv1a, Generator, Tally};
-use play_steps::{Halt, Reopen, Report, Stage, perform, print};
+use play_steps::{Halt, Report, Stage, perform, print};
 use std::alloc::{AllocError, Global};
 
 /// How many steps a measured run has.
@@ -98,17 +98,14 @@ fn go_on<T: Stage>(
     ensures own { IsTrue T.tells → T.own stage.old → T.own stage.new }
     ensures home { T.at_home stage.new devices.new }
     ensures later { T.faults stage.old devices.old ≤ T.faults stage.new devices.new }
-    ensures disk { (shelf : ℕ) → IsErrOf result (Halt.Reopen shelf Reopen.Disk) →
-        Rose (T.faults stage.old devices.old) (T.faults stage.new devices.new) }
-    ensures failed { (shelf : ℕ) → IsErrOf result (Halt.Reopen shelf Reopen.Disk) →
-        Rose (T.failed devices.old shelf) (T.failed devices.new shelf) }
+    ensures disk { RoseForLost (LosesBy result)
+        (T.faults stage.old devices.old) (T.faults stage.new devices.new) }
+    ensures failed { RoseAtLost (LosesBy result) (T.failed devices.old) (T.failed devices.new) }
     ensures failed_later { StaysUp (T.failed devices.old) (T.failed devices.new) }
     ensures asked { StaysFirst (T.asked devices.old) (T.asked devices.new) }
-    ensures why { (shelf : ℕ) → IsErrOf result (Halt.Reopen shelf Reopen.Memory) → ⊥ }
-    ensures damaged { IsTrue T.tells → (shelf place : ℕ) →
-        IsErrOf result (Halt.Reopen shelf (Reopen.Damaged place)) → ⊥ }
-    ensures other { IsTrue T.tells → (shelf place : ℕ) →
-        IsErrOf result (Halt.Reopen shelf (Reopen.Other place)) → ⊥ }
+    ensures why { NoneIsLostToMemory (LosesBy result) }
+    ensures damaged { IsTrue T.tells → NoneIsLostToDamage (LosesBy result) }
+    ensures other { IsTrue T.tells → NoneIsLostToOther (LosesBy result) }
 {
     let shelves = stage.shelves();
     let workers = holders(stage);
@@ -166,17 +163,14 @@ pub fn load<T: Stage>(
     ensures own { IsTrue T.tells → T.own stage.old → T.own stage.new }
     ensures home { T.at_home stage.new devices.new }
     ensures later { T.faults stage.old devices.old ≤ T.faults stage.new devices.new }
-    ensures disk { (shelf : ℕ) → IsErrOf result (Halt.Reopen shelf Reopen.Disk) →
-        Rose (T.faults stage.old devices.old) (T.faults stage.new devices.new) }
-    ensures failed { (shelf : ℕ) → IsErrOf result (Halt.Reopen shelf Reopen.Disk) →
-        Rose (T.failed devices.old shelf) (T.failed devices.new shelf) }
+    ensures disk { RoseForLost (LosesBy result)
+        (T.faults stage.old devices.old) (T.faults stage.new devices.new) }
+    ensures failed { RoseAtLost (LosesBy result) (T.failed devices.old) (T.failed devices.new) }
     ensures failed_later { StaysUp (T.failed devices.old) (T.failed devices.new) }
     ensures asked { StaysFirst (T.asked devices.old) (T.asked devices.new) }
-    ensures why { (shelf : ℕ) → IsErrOf result (Halt.Reopen shelf Reopen.Memory) → ⊥ }
-    ensures damaged { IsTrue T.tells → (shelf place : ℕ) →
-        IsErrOf result (Halt.Reopen shelf (Reopen.Damaged place)) → ⊥ }
-    ensures other { IsTrue T.tells → (shelf place : ℕ) →
-        IsErrOf result (Halt.Reopen shelf (Reopen.Other place)) → ⊥ }
+    ensures why { NoneIsLostToMemory (LosesBy result) }
+    ensures damaged { IsTrue T.tells → NoneIsLostToDamage (LosesBy result) }
+    ensures other { IsTrue T.tells → NoneIsLostToOther (LosesBy result) }
 {
     let mut course = Course {
         generator: Generator::new(alloc, number),

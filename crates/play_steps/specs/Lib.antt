@@ -6,5 +6,6 @@ pub mod Transcript
 pub mod Views
 pub mod Courses
 pub mod Played
+pub mod Losses
 pub mod Laws
 pub mod Vectors

@@ -1,10 +1,10 @@
-ghost use Rattle.std.specs.Prelude.{◌≡◌, ◌≤◌, ◌<◌, ◌^◌, ◌∷◌, [], ℕ, IsTrue, IsErrOf, OnOk, true, false};
-ghost use Rattle.web_outside.specs.Causes.{Rose};
+ghost use Rattle.std.specs.Prelude.{◌≡◌, ◌≤◌, ◌<◌, ◌^◌, ◌∷◌, [], IsTrue, OnOk, true, false};
 ghost use Rattle.play_steps.specs.Step.{IsTold, IsWithin, is_edit, tick};
 ghost use Rattle.play_steps.specs.Rules.{KeepsShelves, StaysFirst, StaysHome, StaysUp};
 ghost use Rattle.play_steps.specs.Transcript.{fits};
 ghost use Rattle.play_steps.specs.Views.{meaning};
 ghost use Rattle.play_steps.specs.Played.{Lengthens, Performs, SweepsAll, TellsCrash, TellsOne, spot};
+ghost use Rattle.play_steps.specs.Losses.{LosesBy, NoneIsLostToDamage, NoneIsLostToMemory, NoneIsLostToOther, RoseAtLost, RoseForLost};
 ghost use Rattle.play_steps.specs.declared.performing.Halt.TheVariants.{Memory as HaltMemory};
 
 use crate::report::Report;
@@ -134,17 +134,14 @@ pub fn perform<T: Stage>(
     ensures own { IsTold T.tells (meaning step.now) → T.own stage.old → T.own stage.new }
     ensures home { T.at_home stage.new devices.new }
     ensures later { T.faults stage.old devices.old ≤ T.faults stage.new devices.new }
-    ensures disk { (shelf : ℕ) → IsErrOf result (Halt.Reopen shelf Reopen.Disk) →
-        Rose (T.faults stage.old devices.old) (T.faults stage.new devices.new) }
-    ensures failed { (shelf : ℕ) → IsErrOf result (Halt.Reopen shelf Reopen.Disk) →
-        Rose (T.failed devices.old shelf) (T.failed devices.new shelf) }
+    ensures disk { RoseForLost (LosesBy result)
+        (T.faults stage.old devices.old) (T.faults stage.new devices.new) }
+    ensures failed { RoseAtLost (LosesBy result) (T.failed devices.old) (T.failed devices.new) }
     ensures failed_later { StaysUp (T.failed devices.old) (T.failed devices.new) }
     ensures asked { StaysFirst (T.asked devices.old) (T.asked devices.new) }
-    ensures why { (shelf : ℕ) → IsErrOf result (Halt.Reopen shelf Reopen.Memory) → ⊥ }
-    ensures damaged { IsTrue T.tells → (shelf place : ℕ) →
-        IsErrOf result (Halt.Reopen shelf (Reopen.Damaged place)) → ⊥ }
-    ensures other { IsTrue T.tells → (shelf place : ℕ) →
-        IsErrOf result (Halt.Reopen shelf (Reopen.Other place)) → ⊥ }
+    ensures why { NoneIsLostToMemory (LosesBy result) }
+    ensures damaged { IsTrue T.tells → NoneIsLostToDamage (LosesBy result) }
+    ensures other { IsTrue T.tells → NoneIsLostToOther (LosesBy result) }
 {
     match step {
         Step::Take { worker, target } => {

@@ -1,7 +1,8 @@
-ghost use Rattle.std.specs.Prelude.{◌≡◌, ◌≤◌, ℕ, IsTrue, true, false};
+ghost use Rattle.std.specs.Prelude.{◌≡◌, ◌≤◌, IsTrue, true, false};
 ghost use Rattle.web_outside.specs.Causes.{Rose};
 ghost use Rattle.play_steps.specs.Step.{IsTold, IsWithin, is_told, steps_of};
 ghost use Rattle.play_steps.specs.Played.{end_of, played, scene, spot, Leaves, Turns, TurnsEdit};
+ghost use Rattle.play_steps.specs.Losses.{LosesAtEnd, LosesInTurn, NoneIsLostToDamage, NoneIsLostToMemory, NoneIsLostToOther, RoseAtLost, RoseForLost};
 ghost use Rattle.play_steps.specs.Rules.{StaysAt, StaysFirst, StaysHome, StaysUp};
 ghost use Rattle.play_steps.specs.Views.{meaning};
 
@@ -89,17 +90,14 @@ fn play_step<T: Stage, O: Sink>(
     ensures own { IsTold T.tells (meaning step.now) → T.own stage.old → T.own stage.new }
     ensures home { T.at_home stage.new devices.new }
     ensures devices_later { T.faults stage.old devices.old ≤ T.faults stage.new devices.new }
-    ensures disk { (shelf : ℕ) → result ≡ Turn.Halted (Halt.Reopen shelf Reopen.Disk) →
-        Rose (T.faults stage.old devices.old) (T.faults stage.new devices.new) }
-    ensures failed { (shelf : ℕ) → result ≡ Turn.Halted (Halt.Reopen shelf Reopen.Disk) →
-        Rose (T.failed devices.old shelf) (T.failed devices.new shelf) }
+    ensures disk { RoseForLost (LosesInTurn result)
+        (T.faults stage.old devices.old) (T.faults stage.new devices.new) }
+    ensures failed { RoseAtLost (LosesInTurn result) (T.failed devices.old) (T.failed devices.new) }
     ensures failed_later { StaysUp (T.failed devices.old) (T.failed devices.new) }
     ensures asked { StaysFirst (T.asked devices.old) (T.asked devices.new) }
-    ensures why { (shelf : ℕ) → result ≡ Turn.Halted (Halt.Reopen shelf Reopen.Memory) → ⊥ }
-    ensures damaged { IsTrue T.tells → (shelf place : ℕ) →
-        result ≡ Turn.Halted (Halt.Reopen shelf (Reopen.Damaged place)) → ⊥ }
-    ensures other { IsTrue T.tells → (shelf place : ℕ) →
-        result ≡ Turn.Halted (Halt.Reopen shelf (Reopen.Other place)) → ⊥ }
+    ensures why { NoneIsLostToMemory (LosesInTurn result) }
+    ensures damaged { IsTrue T.tells → NoneIsLostToDamage (LosesInTurn result) }
+    ensures other { IsTrue T.tells → NoneIsLostToOther (LosesInTurn result) }
 {
     if let Step::Edit { name, text } = step {
         return play_edit(stage, name, text);
@@ -152,17 +150,14 @@ pub fn play<T: Stage, O: Sink>(
     ensures own { is_told T.tells (steps_of text.now) ≡ true → T.own stage.old → T.own stage.new }
     ensures home { T.at_home stage.new devices.new }
     ensures devices_later { T.faults stage.old devices.old ≤ T.faults stage.new devices.new }
-    ensures disk { (shelf : ℕ) → result ≡ PlayEnd.Reopen shelf Reopen.Disk →
-        Rose (T.faults stage.old devices.old) (T.faults stage.new devices.new) }
-    ensures failed { (shelf : ℕ) → result ≡ PlayEnd.Reopen shelf Reopen.Disk →
-        Rose (T.failed devices.old shelf) (T.failed devices.new shelf) }
+    ensures disk { RoseForLost (LosesAtEnd result)
+        (T.faults stage.old devices.old) (T.faults stage.new devices.new) }
+    ensures failed { RoseAtLost (LosesAtEnd result) (T.failed devices.old) (T.failed devices.new) }
     ensures failed_later { StaysUp (T.failed devices.old) (T.failed devices.new) }
     ensures asked { StaysFirst (T.asked devices.old) (T.asked devices.new) }
-    ensures why { (shelf : ℕ) → result ≡ PlayEnd.Reopen shelf Reopen.Memory → ⊥ }
-    ensures damaged { IsTrue T.tells → (shelf place : ℕ) →
-        result ≡ PlayEnd.Reopen shelf (Reopen.Damaged place) → ⊥ }
-    ensures other { IsTrue T.tells → (shelf place : ℕ) →
-        result ≡ PlayEnd.Reopen shelf (Reopen.Other place) → ⊥ }
+    ensures why { NoneIsLostToMemory (LosesAtEnd result) }
+    ensures damaged { IsTrue T.tells → NoneIsLostToDamage (LosesAtEnd result) }
+    ensures other { IsTrue T.tells → NoneIsLostToOther (LosesAtEnd result) }
 {
     let mut course = Course::new(text, stage.shelves());
     let mut number = 1u64;
