@@ -1,5 +1,5 @@
 -- What contracts see of definitions.
-use Rattle.std.specs.Prelude.{◌≡◌, ◌+◌, ℕ, List, Result, length, map, ⊤}
+use Rattle.std.specs.Prelude.{◌≡◌, ◌+◌, ℕ, List, Option, Result, Err, IsOk, length, map, option_map, ⊤}
 use Rattle.script_value.specs.Val.{Val}
 use Rattle.script_value.specs.Views.{meaning, meanings}
 use Rattle.script_value.specs.declared.value.Value.{Value}
@@ -10,11 +10,12 @@ use Rattle.core_syntax.specs.declared.task_forms.TaskForm.{TaskForm as TaskFormO
 use Rattle.core_syntax.specs.declared.defined.Defined.{Defined as DefinedOf}
 use Rattle.core_syntax.specs.declared.faults.SyntaxKind.{SyntaxKind}
 use Rattle.core_syntax.specs.declared.faults.ReadFault.{ReadFault}
+use Rattle.core_syntax.specs.declared.faults.ReadFault.TheVariants.{Memory}
 use Rattle.core_syntax.specs.Gives.{Gives}
 use Rattle.core_syntax.specs.RowsSeen.{seen}
 use Rattle.core_syntax.specs.TaskNames.{names_in}
-use Rattle.core_syntax.specs.Headings.{Definition, TaskForm, task_of}
-use Rattle.core_syntax.specs.Definitions.{Defined, definition_seen, form_defined, task_definable, task_defined, task_within}
+use Rattle.core_syntax.specs.Headings.{Definition, TaskForm, definition_of, task_named, task_of}
+use Rattle.core_syntax.specs.Definitions.{Defined, definable, definition_seen, form_defined, task_definable, task_defined, task_within}
 
 -- the definition of a cell that the program's value stands for
 abbrev pub definition : DefinitionOf → Definition
@@ -28,6 +29,10 @@ maker m = (m.kind, meaning m.value.now)
 abbrev pub task_form : TaskFormOf → TaskForm
 task_form t = record { name = t.name.now; parameters = meanings t.parameters.now; body = meanings t.body.now }
 
+-- What is answered is the task of this name, with these parameters and this body, where the table has one.
+abbrev pub IsTaskNamed : Option TaskFormOf → (name : Option (List ℕ)) → (parameters body : List Value) → Type 0
+IsTaskNamed result name parameters body = option_map task_form result ≡ task_named name (meanings parameters) (meanings body)
+
 -- what is defined so far: the cells and tasks, as the table has them
 abbrev pub cells_of : DefinedOf → Defined
 cells_of d = record { names = d.names; web = d.web; cells = d.instance; tasks = d.tasks.items }
@@ -35,6 +40,10 @@ cells_of d = record { names = d.names; web = d.web; cells = d.instance; tasks = 
 -- what is defined then is what is wanted, or the fault is answered
 abbrev pub Defines : {A : Type 0} → DefinedOf → Result A ReadFault → Result Defined SyntaxKind → Type 0
 Defines d result wanted = Gives (λ _. cells_of d) result wanted
+
+-- Where memory runs out as a form is defined, the table would define it.
+abbrev pub LacksMemoryAlone : {A : Type 0} → DefinedOf → Result A ReadFault → Value → Type 0
+LacksMemoryAlone old result form = result ≡ Err Memory → IsOk (definable (definition_of (meaning form)) (cells_of old))
 
 -- how many cells and tasks there are
 abbrev pub count_of : DefinedOf → ℕ

@@ -1,11 +1,15 @@
 -- What contracts see of rows, and of a reader.
-use Rattle.std.specs.Prelude.{Result, Ok, Err}
+use Rattle.std.specs.Prelude.{◌≡◌, List, Option, Result, Ok, Err, option_map}
+use Rattle.std.specs.Borrow.{Bor}
 use Rattle.script_value.specs.Val.{Vals}
 use Rattle.script_value.specs.Views.{meaning, meanings}
+use Rattle.script_value.specs.declared.value.Value.{Value}
+use Rattle.script_nodes.specs.declared.script.SendKind.{SendKind}
 use Rattle.core_syntax.specs.declared.faults.SyntaxKind.{SyntaxKind}
 use Rattle.core_syntax.specs.declared.rows.Row.{Row as RowOf}
 use Rattle.core_syntax.specs.declared.rows.Row.TheVariants as variant
 use Rattle.core_syntax.specs.declared.rows.Bound.{Bound}
+use Rattle.core_syntax.specs.Names.{CellNames}
 use Rattle.core_syntax.specs.Rows.{Row}
 use Rattle.core_syntax.specs.Rows as row
 
@@ -42,3 +46,12 @@ seen view (Err k) = Err k
 -- the row of the table that the program found, or the fault
 abbrev pub seen_row : Result RowOf SyntaxKind → Result Row SyntaxKind
 seen_row result = seen row_seen result
+
+-- The name that a reference is to, if there is one.
+abbrev pub name_seen : {A : Type 0} → Option (Bor A) → Option A
+name_seen name = option_map (λ x. x.now) name
+
+-- What is answered is the table's row of a page's function: a word, parameters and a body.
+abbrev pub IsFunctionBy : Result RowOf SyntaxKind → CellNames → SendKind → (word parameters : Value) → (body : List Value) → Type 0
+IsFunctionBy result cells kind word parameters body =
+    seen_row result ≡ row.function_by cells kind (meaning word) (meaning parameters) (meanings body)

@@ -1,6 +1,6 @@
 //! The cells and tasks of a script.
 
-ghost use Rattle.std.specs.Prelude.{◌≡◌, ◌∷◌, false, ◌<◌, ◌+◌, Some, Err, IsOk, OnOk, option_map};
+ghost use Rattle.std.specs.Prelude.{◌≡◌, ◌∷◌, false, ◌<◌, ◌+◌, Some, Err, OnOk, option_map};
 ghost use Rattle.script_value.specs.Views.{meaning, meanings};
 ghost use Rattle.core_syntax.specs.Definitions.{definable, defined, nothing_defined, parameters_taken, with_value};
 ghost use Rattle.core_syntax.specs.Expands.{IsOpen};
@@ -42,7 +42,7 @@ pub struct Defined<'a> {
 }
 
 impl<'a> Defined<'a> {
-    ghost use Rattle.core_syntax.specs.DefinitionsSeen.{ChecksTask, Defines, DefinesForm, DefinesTask, DefinesWithin, cells_of, count_of, definition, tells};
+    ghost use Rattle.core_syntax.specs.DefinitionsSeen.{ChecksTask, Defines, DefinesForm, DefinesTask, DefinesWithin, LacksMemoryAlone, cells_of, count_of, definition, tells};
     ghost use Rattle.core_syntax.specs.RowsSeen.{seen};
 
     /// No cells and no tasks.
@@ -124,7 +124,7 @@ impl<'a> Defined<'a> {
     /// Puts the cell that a form defines behind the others. Why there is none is told whatever memory there is.
     pub fn define(&mut self, alloc: Global, form: &'a Value) -> Result<(), ReadFault>
         ensures cells { Defines self.new result (defined (definition_of (meaning form.now)) (cells_of self.old)) }
-        ensures memory { result ≡ Err ReadFault.Memory → IsOk (definable (definition_of (meaning form.now)) (cells_of self.old)) }
+        ensures memory { LacksMemoryAlone self.old result form.now }
     {
         let cell = self.checked(form)?;
         self.names.push(cell.kind, cell.name)?;

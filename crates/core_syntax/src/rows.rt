@@ -1,11 +1,11 @@
 //! The row of the table of forms that data are. It takes no memory to tell it, or the fault that is seen first.
 
-ghost use Rattle.std.specs.Prelude.{◌≡◌, option_map};
+ghost use Rattle.std.specs.Prelude.{◌≡◌};
 ghost use Rattle.script_value.specs.Views.{meaning, meanings};
 ghost use Rattle.core_syntax.specs.Forms.{written as spec_written};
 ghost use Rattle.core_syntax.specs.Shapes.{is_empty as spec_is_empty};
 ghost use Rattle.core_syntax.specs.Rows as spec;
-ghost use Rattle.core_syntax.specs.RowsSeen.{seen, seen_row, bound_parts};
+ghost use Rattle.core_syntax.specs.RowsSeen.{IsFunctionBy, bound_parts, name_seen, seen, seen_row};
 
 use crate::cell_names::CellNames;
 use crate::faults::SyntaxKind;
@@ -248,7 +248,7 @@ fn bind_taken(cells: &CellNames<'_>, bindings: &[Value]) -> bool
 }
 
 fn is_taken_name(cells: &CellNames<'_>, name: Option<&Str>) -> bool
-    ensures { result ≡ spec.is_taken_name cells.now (option_map (λ x. x.now) name.entry) }
+    ensures { result ≡ spec.is_taken_name cells.now (name_seen name.entry) }
 {
     match name {
         None => false,
@@ -296,7 +296,7 @@ fn named<'a>(
     name: Option<&'a Str>,
     body: &[Value],
 ) -> Result<&'a Str, SyntaxKind>
-    ensures { seen (λ x. x.now) result ≡ spec.named cells.now (option_map (λ x. x.now) name.entry) (meanings body.now) }
+    ensures { seen (λ x. x.now) result ≡ spec.named cells.now (name_seen name.entry) (meanings body.now) }
 {
     match name {
         None => Err(SyntaxKind::Shape),
@@ -459,7 +459,7 @@ fn function_by<'a>(
     parameters: &'a Value,
     body: &'a [Value],
 ) -> Result<Row<'a>, SyntaxKind>
-    ensures { seen_row result ≡ spec.function_by cells.now kind (meaning word.now) (meaning parameters.now) (meanings body.now) }
+    ensures { IsFunctionBy result cells.now kind word.now parameters.now body.now }
 {
     if !is_word("lambda", word) {
         return Err(SyntaxKind::Shape);
@@ -496,8 +496,8 @@ fn call_by<'a>(
     name: Option<&Str>,
     operands: &'a [Value],
 ) -> Result<Row<'a>, SyntaxKind>
-    ensures { seen_row result ≡ spec.call_by cells.now (option_map (λ x. x.now) name.entry)
-        (meanings operands.now) }
+    ensures { seen_row result
+        ≡ spec.call_by cells.now (name_seen name.entry) (meanings operands.now) }
 {
     match name {
         None => Err(SyntaxKind::Shape),

@@ -4,7 +4,8 @@ ghost use Rattle.std.specs.Prelude.{◌≡◌, [], IfOk, option_map};
 ghost use Rattle.script_value.specs.Val.{list};
 ghost use Rattle.script_value.specs.Views.{meaning, meanings};
 ghost use Rattle.core_syntax.specs.Headings as spec;
-ghost use Rattle.core_syntax.specs.DefinitionsSeen.{task_form};
+ghost use Rattle.core_syntax.specs.RowsSeen.{name_seen};
+ghost use Rattle.core_syntax.specs.DefinitionsSeen.{IsTaskNamed, task_form};
 
 use crate::definitions::definition_of;
 use crate::names::Names;
@@ -65,9 +66,7 @@ fn task_named<'a>(
     parameters: &'a [Value],
     body: &'a [Value],
 ) -> Option<TaskForm<'a>>
-    ensures { option_map task_form result
-        ≡ spec.task_named (option_map (λ x. x.now) name.entry) (meanings parameters.now)
-        (meanings body.now) }
+    ensures { IsTaskNamed result (name_seen name.entry) parameters.now body.now }
 {
     match name {
         None => None,

@@ -1,11 +1,11 @@
 //! Forms that bind names.
 
 ghost use Rattle.std.specs.Prelude.{◌≡◌, ◌∷◌, [], OnOk};
-ghost use Rattle.script_value.specs.Views.{meaning, meanings};
+ghost use Rattle.script_value.specs.Views.{meanings};
 ghost use Rattle.core_syntax.specs.Forms as spec;
 ghost use Rattle.core_syntax.specs.RowCores as spec_of;
 ghost use Rattle.core_syntax.specs.Gives.{Reads, ReadsAll};
-ghost use Rattle.core_syntax.specs.ReaderSeen.{here, here_within};
+ghost use Rattle.core_syntax.specs.ReaderSeen.{ReadsBehind, ReadsBound, ReadsTurns, here, here_within};
 
 use super::Reader;
 use crate::faults::{ReadFault, SyntaxKind};
@@ -57,7 +57,7 @@ impl<'a, 'c> Reader<'a, 'c> {
         bindings: &'a [Value],
         body: &'a [Value],
     ) -> Result<Tree, ReadFault>
-        ensures tree { Reads result (here self.old spec_of.bind_core in_page (meanings bindings.now) (meanings body.now)) }
+        ensures tree { ReadsBound result self.old spec_of.bind_core in_page bindings.now body.now }
         ensures kept { OnOk result (self.new ≡ self.old) }
     {
         let names = names_in(self.alloc, bindings)?;
@@ -74,7 +74,7 @@ impl<'a, 'c> Reader<'a, 'c> {
         body: &'a [Value],
     ) -> Result<Tree, ReadFault>
         requires { names.now ≡ spec_of.names_in (meanings bindings.now) [] }
-        ensures tree { Reads result (here self.old spec_of.bind_core in_page (meanings bindings.now) (meanings body.now)) }
+        ensures tree { ReadsBound result self.old spec_of.bind_core in_page bindings.now body.now }
         ensures kept { OnOk result (self.new ≡ self.old) }
     {
         if names.repeat() {
@@ -107,7 +107,7 @@ impl<'a, 'c> Reader<'a, 'c> {
         bindings: &'a [Value],
         body: &'a [Value],
     ) -> Result<Tree, ReadFault>
-        ensures tree { Reads result (here self.old spec_of.bind_in_turn_core in_page (meanings bindings.now) (meanings body.now)) }
+        ensures tree { ReadsBound result self.old spec_of.bind_in_turn_core in_page bindings.now body.now }
         ensures kept { OnOk result (self.new ≡ self.old) }
     {
         let values = self.read_values_in_turn(in_page, bindings)?;
@@ -123,7 +123,7 @@ impl<'a, 'c> Reader<'a, 'c> {
         bindings: &'a [Value],
         body: &'a [Value],
     ) -> Result<Tree, ReadFault>
-        ensures tree { Reads result (here_within (spec_of.names_in (meanings bindings.now) []) self.old spec.body_of in_page (meanings body.now)) }
+        ensures tree { ReadsBehind result self.old in_page bindings.now body.now }
         ensures kept { OnOk result (self.new ≡ self.old) }
     {
         let names = names_in(self.alloc, bindings)?;
@@ -162,7 +162,7 @@ impl<'a, 'c> Reader<'a, 'c> {
         count: &'a Value,
         body: &'a [Value],
     ) -> Result<Tree, ReadFault>
-        ensures tree { Reads result (here self.old spec_of.turns_core in_page name.now (meaning count.now) (meanings body.now)) }
+        ensures tree { ReadsTurns result self.old in_page name.now count.now body.now }
         ensures kept { OnOk result (self.new ≡ self.old) }
     {
         let count = self.read(in_page, count)?;

@@ -1,13 +1,12 @@
 //! Forms that choose.
 
-ghost use Rattle.std.specs.Prelude.{◌≡◌, [], map, OnOk};
+ghost use Rattle.std.specs.Prelude.{◌≡◌, [], OnOk};
 ghost use Rattle.script_value.specs.Val.{list};
 ghost use Rattle.script_value.specs.Views.{meaning, meanings};
 ghost use Rattle.core_syntax.specs.Forms as spec;
-ghost use Rattle.core_syntax.specs.RowCores.{both};
 ghost use Rattle.core_syntax.specs.Trees.{pair_of};
 ghost use Rattle.core_syntax.specs.Gives.{Gives, Reads};
-ghost use Rattle.core_syntax.specs.ReaderSeen.{here};
+ghost use Rattle.core_syntax.specs.ReaderSeen.{ReadsChoice, here};
 ghost use Rattle.core_syntax.specs.Views.{if_parts};
 
 use super::Reader;
@@ -41,7 +40,7 @@ impl<'a, 'c> Reader<'a, 'c> {
         test: &'a Value,
         chosen: &'a Value,
     ) -> Result<Vec<Choice>, ReadFault>
-        ensures tree { Gives (λ v. map pair_of v.items) result (here self.old both in_page (meaning test.now) (meaning chosen.now)) }
+        ensures tree { ReadsChoice result self.old in_page test.now chosen.now }
         ensures kept { OnOk result (self.new ≡ self.old) }
     {
         let test = self.read(in_page, test)?;
