@@ -1,5 +1,5 @@
 -- What a turn asks of its function, and what it gives.
-use Rattle.std.specs.Prelude.{◌≡◌, ℕ, ◌+◌, ◌<◌, [], ◌∷◌, length}
+use Rattle.std.specs.Prelude.{◌≡◌, ℕ, ◌+◌, ◌<◌, List, [], ◌∷◌, length, Result, MatchResult}
 use Rattle.std.specs.Fn.{Once, FnOnceReturnsAtMut}
 use denote.Ref.{MutBor}
 use Rattle.shelf_lock.specs.declared.kept.Kept.{Ghosts}
@@ -7,7 +7,7 @@ use Rattle.atomic_table.specs.Seated.{TableId}
 use Rattle.atomic_table.specs.declared.shared.Seat.{Seat}
 use Rattle.shelf_lock.specs.declared.view.Role.TheVariants.{Outside, Inside}
 use Rattle.shelf_lock.specs.declared.view.View.{View}
-use Rattle.shelf_lock.specs.Order.{Of, Begins, IsWithin, Adds, posed, entry_limit}
+use Rattle.shelf_lock.specs.Order.{Of, Begins, Each, GoesOn, IsWithin, Adds, MakesNone, MakesOne, Told, longer, posed, entry_limit}
 
 -- a table of one word, which is the gate, and one slot, which is the value's
 abbrev pub IsSized : TableId → Type 0
@@ -21,6 +21,18 @@ module _ {S O E : Type 0} where
   -- the two seats are one, before and after: of one table, under one number
   abbrev pub IsSameSeat : Seat S (View O E) → Seat S (View O E) → Type 0
   IsSameSeat a b = (b.table_id ≡ a.table_id) × (b.id ≡ a.id)
+
+  -- Both seats are of this table.
+  abbrev pub AreOf : TableId → Seat S (View O E) → Seat S (View O E) → Type 0
+  AreOf z a b = (a.table_id ≡ z) × (b.table_id ≡ z)
+
+  -- Both seats are of this table, which is of one word and one slot.
+  abbrev pub AreSeated : TableId → Seat S (View O E) → Seat S (View O E) → Type 0
+  AreSeated z a b = (a.table_id ≡ z) × (b.table_id ≡ z) × IsSized z
+
+  -- The view v where it has taken in the note n: it has seen the longer of both histories.
+  abbrev pub joined : View O E → View O E → View O E
+  joined v n = posed Outside (longer v.seen n.seen) v
 
 module _ {S O E : Type 0} (g : Ghosts S O E) where
   -- the seat has the value x, whose history begins with all that it had seen, and has no other entry of its caller
@@ -50,6 +62,39 @@ module _ {S O E : Type 0} (g : Ghosts S O E) where
   -- a value was found whose next entry would have the number of the limit; nothing was done to it
   abbrev pub FoundWorn : View O E → View O E → Type 0
   FoundWorn v w = (x : S) × g.sound x × Of g x v × Begins g (g.history x) v × (g.first x + length (g.history x) ≡ entry_limit) × (w ≡ posed Outside (g.history x) v)
+
+  -- A turn gave an answer, or found the value worn.
+  abbrev pub HasTurned : {F A W : Type 0} → Once F (MutBor S × Unit {0}) (A × (MutBor S × Unit {0})) → F → View O E → Result A W → View O E → Type 0
+  HasTurned call f v result w = MatchResult result (λ a. Turned call f v a w) (λ _. FoundWorn v w)
+
+  -- The seat has a value that a turn on another one left, whose history it had seen whole.
+  abbrev pub MayLeave : Seat S (View O E) → Type 0
+  MayLeave a =
+      (x : S) × (y : S) × (a.me.1 ≡ (0, y) ∷ []) × (a.me.0.role ≡ Inside) × (a.me.0.seen ≡ g.history x) × Of g x a.me.0 × KeepsAll a.me.0.caller x y × IsWithin g y
+
+  -- The seat has put the value back, whose history it has seen then.
+  abbrev pub HasLeft : Seat S (View O E) → Seat S (View O E) → Type 0
+  HasLeft a b = (x : S) → a.me.1 ≡ (0, x) ∷ [] → b.me ≡ (posed Outside (g.history x) a.me.0, [])
+
+  -- The seat has a sound value, whose history it has seen whole.
+  abbrev pub MayShut : Seat S (View O E) → Type 0
+  MayShut a = (x : S) × (a.me.1 ≡ (0, x) ∷ []) × (a.me.0.role ≡ Inside) × (a.me.0.seen ≡ g.history x) × g.sound x × Of g x a.me.0
+
+  -- The seat has compared what it took in: its history goes on from both.
+  abbrev pub HasCompared : Seat S (View O E) → Seat S (View O E) → Type 0
+  HasCompared a b = (b.me ≡ (posed Outside a.me.0.seen a.me.0, [])) × GoesOn g a.me.0.caller a.me.0.seen a.me.0.told
+
+  -- What the view w has seen begins with what v had seen, has no further entry of this caller, and begins with what n had seen.
+  abbrev pub GoesOnFrom : ℕ → View O E → View O E → View O E → Type 0
+  GoesOnFrom who v n w = GoesOn g who w.seen (v.seen ∷ n.seen ∷ [])
+
+  -- The history tells of a caller with this view, and of all that the view has heard of.
+  abbrev pub Tells : List E → ℕ → View O E → Type 0
+  Tells log who v = Told g log (who, v.seen) × Each (Told g log) v.heard
+
+-- A turn that gave an answer made one entry at most, by this caller; one that found the value worn made none by it.
+abbrev pub MakesInTurn : {A W E : Type 0} → (E → ℕ) → ℕ → List E → Result A W → List E → Type 0
+MakesInTurn caller who seen result now = MatchResult result (λ _. MakesOne caller who seen now) (λ _. MakesNone caller who seen now)
 
 -- a seat of a caller that has seen nothing yet
 abbrev pub IsNewSeat : {S O E : Type 0} → TableId → O → ℕ → Seat S (View O E) → Type 0

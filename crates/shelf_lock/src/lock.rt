@@ -1,9 +1,8 @@
 //! The lock.
-ghost use Rattle.std.specs.Prelude.{◌≡◌, ℕ, ◌+◌, ◌<◌, ◌≤◌, ◌^◌, [], ◌∷◌, Some, length, slice_get, IfOk, IfErr, MatchResult};
-ghost use Rattle.shelf_lock.specs.Order.{Begins, Each, Told, GoesOn, MadeBelow, MakesOne, MakesNone, maker, posed, both, longer};
+ghost use Rattle.std.specs.Prelude.{◌≡◌, ℕ, ◌+◌, ◌<◌, ◌≤◌, ◌^◌, [], Some, length, slice_get, IfOk, IfErr};
+ghost use Rattle.shelf_lock.specs.Order.{Begins, MadeBelow, maker, both};
 ghost use mathlib.Core.List.{IsPrefix};
-ghost use Rattle.shelf_lock.specs.declared.view.Role.TheVariants.{Outside};
-ghost use Rattle.shelf_lock.specs.Turns.{IsSized, IsSameSeat, IsNewSeat, MayCall, KeepsEach, Turned, FoundWorn};
+ghost use Rattle.shelf_lock.specs.Turns.{IsSized, IsSameSeat, IsNewSeat, MayCall, KeepsEach, AreOf, GoesOnFrom, HasTurned, MakesInTurn, Tells, joined};
 
 use crate::kept::Kept;
 use crate::pass::{Note, Pass};
@@ -88,13 +87,11 @@ impl<V: Kept> ShelfLock<V> {
         requires callable { MayCall V.Kept F.FnOnce f pass.old.seat.me.0 }
         requires keeps { KeepsEach V.Kept F.FnOnce f pass.old.seat.me.0 }
         ensures own { IsSameSeat pass.old.seat pass.new.seat × (pass.new.caller ≡ pass.old.caller) }
-        ensures turned { MatchResult result
-            (λ a. Turned V.Kept F.FnOnce f pass.old.seat.me.0 a pass.new.seat.me.0)
-            (λ _. FoundWorn V.Kept pass.old.seat.me.0 pass.new.seat.me.0) }
+        ensures turned { HasTurned V.Kept F.FnOnce f
+            pass.old.seat.me.0 result pass.new.seat.me.0 }
         ensures grows { IsPrefix pass.old.seat.me.0.seen pass.new.seat.me.0.seen }
-        ensures made { MatchResult result
-            (λ _. MakesOne V.caller pass.old.caller pass.old.seat.me.0.seen pass.new.seat.me.0.seen)
-            (λ _. MakesNone V.caller pass.old.caller pass.old.seat.me.0.seen pass.new.seat.me.0.seen) }
+        ensures made { MakesInTurn V.caller pass.old.caller
+            pass.old.seat.me.0.seen result pass.new.seat.me.0.seen }
     {
         steps::turn(rt, &self.board.shared, &self.sleepers, &mut pass.seat, f)
     }
@@ -113,10 +110,11 @@ impl<V: Kept> ShelfLock<V> {
     /// Takes a note in: the pass has then seen the longer of what it had and what the note's maker had. Both are of one
     /// history, and the pass made no entry behind what it had seen.
     pub fn join(&self, pass: &mut Pass<V>, note: Note<V>)
-        requires own { (pass.old.seat.table_id ≡ self.now.board.shared.table_id) × (note.seat.table_id ≡ self.now.board.shared.table_id) }
+        requires own { AreOf self.now.board.shared.table_id pass.old.seat note.seat }
         ensures own { IsSameSeat pass.old.seat pass.new.seat × (pass.new.caller ≡ pass.old.caller) }
-        ensures seen { pass.new.seat.me.0 ≡ posed Outside (longer pass.old.seat.me.0.seen note.seat.me.0.seen) pass.old.seat.me.0 }
-        ensures one { GoesOn V.Kept pass.old.caller pass.new.seat.me.0.seen (pass.old.seat.me.0.seen ∷ note.seat.me.0.seen ∷ []) }
+        ensures seen { pass.new.seat.me.0 ≡ joined pass.old.seat.me.0 note.seat.me.0 }
+        ensures one { GoesOnFrom V.Kept pass.old.caller
+            pass.old.seat.me.0 note.seat.me.0 pass.new.seat.me.0 }
     {
         let Note { seat } = note;
         steps::hear(&self.board.shared, &mut pass.seat, seat);
@@ -125,7 +123,7 @@ impl<V: Kept> ShelfLock<V> {
     /// Takes another pass in, for one that closes many locks and has no list of each lock's passes. What `close_with` then
     /// tells of this pass is told of both.
     pub fn absorb(&self, pass: &mut Pass<V>, other: Pass<V>)
-        requires own { (pass.old.seat.table_id ≡ self.now.board.shared.table_id) × (other.seat.table_id ≡ self.now.board.shared.table_id) }
+        requires own { AreOf self.now.board.shared.table_id pass.old.seat other.seat }
         ensures own { IsSameSeat pass.old.seat pass.new.seat × (pass.new.caller ≡ pass.old.caller) }
         ensures both { pass.new.seat.me.0 ≡ both pass.old.seat.me.0 other.seat.me.0 }
     {
@@ -166,7 +164,8 @@ impl<V: Kept> ShelfLock<V> {
         ensures first { V.first result ≡ V.first self.board.shared.key.value.value }
         ensures within { V.first result + length (V.history result) ≤ 2 ^ 62 }
         ensures callers { MadeBelow V.Kept self.board.shared.key.seats (V.history result) }
-        ensures told { (k : ℕ) (p : _) → slice_get passes.items k ≡ Some p → Told V.Kept (V.history result) (p.caller, p.seat.me.0.seen) × Each (Told V.Kept (V.history result)) p.seat.me.0.heard }
+        ensures told { (k : ℕ) (p : _) → slice_get passes.items k ≡ Some p →
+            Tells V.Kept (V.history result) p.caller p.seat.me.0 }
     {
         let mut pass = passes.pop().unwrap();
         while let Some(other) = passes.pop() {

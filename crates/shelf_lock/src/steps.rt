@@ -1,8 +1,8 @@
 //! What a seat does in a turn, and between turns.
-ghost use Rattle.std.specs.Prelude.{◌≡◌, ◌+◌, ◌<◌, [], ◌∷◌, length, MatchResult};
-ghost use Rattle.shelf_lock.specs.declared.view.Role.TheVariants.{Outside, Inside, Closer, Comparing, Noted};
-ghost use Rattle.shelf_lock.specs.Order.{Of, IsWithin, posed, both, noted, longer, GoesOn};
-ghost use Rattle.shelf_lock.specs.Turns.{IsSized, IsOutside, IsSameSeat, HasEntered, KeepsAll, MayCall, KeepsEach, Turned, FoundWorn};
+ghost use Rattle.std.specs.Prelude.{◌≡◌, ◌+◌, ◌<◌, [], length};
+ghost use Rattle.shelf_lock.specs.declared.view.Role.TheVariants.{Closer, Comparing, Noted};
+ghost use Rattle.shelf_lock.specs.Order.{IsWithin, posed, both, noted};
+ghost use Rattle.shelf_lock.specs.Turns.{IsSized, IsOutside, IsSameSeat, HasEntered, MayCall, KeepsEach, AreSeated, GoesOnFrom, HasCompared, HasLeft, HasTurned, MayLeave, MayShut, joined};
 
 use crate::kept::Kept;
 use crate::lock::Worn;
@@ -50,9 +50,9 @@ pub fn enter<V: Kept, R: Wait>(rt: &R, top: &Top<V>, sleepers: &Sleepers, seat: 
 // Puts the value back.
 fn leave<V: Kept>(top: &Top<V>, sleepers: &Sleepers, seat: &mut Place<V>)
     requires table { (seat.old.table_id ≡ top.now.table_id) × IsSized top.now.table_id }
-    requires kept { (x : V) × (y : V) × (seat.old.me.1 ≡ (0, y) ∷ []) × (seat.old.me.0.role ≡ Inside) × (seat.old.me.0.seen ≡ V.history x) × Of V.Kept x seat.old.me.0 × KeepsAll V.Kept seat.old.me.0.caller x y × IsWithin V.Kept y }
+    requires kept { MayLeave V.Kept seat.old }
     ensures same { IsSameSeat seat.old seat.new }
-    ensures left { (x : V) → seat.old.me.1 ≡ (0, x) ∷ [] → seat.new.me ≡ (posed Outside (V.history x) seat.old.me.0, []) }
+    ensures left { HasLeft V.Kept seat.old seat.new }
 {
     top.store::<Leave<V>>(seat, GATE, HOME);
     sleepers.wake(top);
@@ -79,9 +79,7 @@ pub fn turn<V: Kept, R: Wait, A, F: FnOnce(&mut V) -> A>(
     requires callable { MayCall V.Kept F.FnOnce f seat.old.me.0 }
     requires keeps { KeepsEach V.Kept F.FnOnce f seat.old.me.0 }
     ensures same { IsSameSeat seat.old seat.new × (seat.new.me.1 ≡ []) }
-    ensures turned { MatchResult result
-        (λ a. Turned V.Kept F.FnOnce f seat.old.me.0 a seat.new.me.0)
-        (λ _. FoundWorn V.Kept seat.old.me.0 seat.new.me.0) }
+    ensures turned { HasTurned V.Kept F.FnOnce f seat.old.me.0 result seat.new.me.0 }
 {
     enter(rt, top, sleepers, seat);
     let value = seat.slot_mut(top, VALUE);
@@ -99,7 +97,7 @@ fn compare<V: Kept>(top: &Top<V>, seat: &mut Place<V>)
     requires table { (seat.old.table_id ≡ top.now.table_id) × IsSized top.now.table_id }
     requires role { (seat.old.me.0.role ≡ Comparing) × (seat.old.me.1 ≡ []) }
     ensures same { IsSameSeat seat.old seat.new }
-    ensures seen { (seat.new.me ≡ (posed Outside seat.old.me.0.seen seat.old.me.0, [])) × GoesOn V.Kept seat.old.me.0.caller seat.old.me.0.seen seat.old.me.0.told }
+    ensures seen { HasCompared V.Kept seat.old seat.new }
 {
     top.load::<Look<V>>(seat, GATE);
 }
@@ -116,11 +114,11 @@ pub fn note<V: Kept>(top: &Top<V>, seat: &mut Place<V>) -> Place<V>
 
 // Takes a note in.
 pub fn hear<V: Kept>(top: &Top<V>, seat: &mut Place<V>, note: Place<V>)
-    requires table { (seat.old.table_id ≡ top.now.table_id) × (note.table_id ≡ top.now.table_id) × IsSized top.now.table_id }
+    requires table { AreSeated top.now.table_id seat.old note }
     requires out { IsOutside seat.old × (note.me.0.role ≡ Noted) × (note.me.1 ≡ []) }
     ensures same { IsSameSeat seat.old seat.new }
-    ensures seen { seat.new.me ≡ (posed Outside (longer seat.old.me.0.seen note.me.0.seen) seat.old.me.0, []) }
-    ensures one { GoesOn V.Kept seat.old.me.0.caller seat.new.me.0.seen (seat.old.me.0.seen ∷ note.me.0.seen ∷ []) }
+    ensures seen { seat.new.me ≡ (joined seat.old.me.0 note.me.0, []) }
+    ensures one { GoesOnFrom V.Kept seat.old.me.0.caller seat.old.me.0 note.me.0 seat.new.me.0 }
 {
     top.join_seat::<Hear>(seat, note);
     compare(top, seat);
@@ -128,7 +126,7 @@ pub fn hear<V: Kept>(top: &Top<V>, seat: &mut Place<V>, note: Place<V>)
 
 // Takes another seat in.
 pub fn absorb<V: Kept>(top: &Top<V>, seat: &mut Place<V>, other: Place<V>)
-    requires table { (seat.old.table_id ≡ top.now.table_id) × (other.table_id ≡ top.now.table_id) × IsSized top.now.table_id }
+    requires table { AreSeated top.now.table_id seat.old other }
     requires out { IsOutside seat.old × IsOutside other }
     ensures same { IsSameSeat seat.old seat.new }
     ensures both { seat.new.me ≡ (both seat.old.me.0 other.me.0, []) }
@@ -139,7 +137,7 @@ pub fn absorb<V: Kept>(top: &Top<V>, seat: &mut Place<V>, other: Place<V>)
 // Puts the value back for good.
 pub fn shut<V: Kept>(top: &Top<V>, seat: &mut Place<V>)
     requires table { (seat.old.table_id ≡ top.now.table_id) × IsSized top.now.table_id }
-    requires kept { (x : V) × (seat.old.me.1 ≡ (0, x) ∷ []) × (seat.old.me.0.role ≡ Inside) × (seat.old.me.0.seen ≡ V.history x) × V.sound x × Of V.Kept x seat.old.me.0 }
+    requires kept { MayShut V.Kept seat.old }
     ensures same { IsSameSeat seat.old seat.new }
     ensures left { seat.new.me ≡ (posed Closer seat.old.me.0.seen seat.old.me.0, []) }
 {
