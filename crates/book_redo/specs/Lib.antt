@@ -1,4 +1,5 @@
 pub mod Redo
+pub mod Landing
 pub mod Lands
 pub mod Again
 pub mod Behind

@@ -1,14 +1,15 @@
 ghost use Rattle.std.specs.Prelude.{◌≡◌, ◌<◌, ◌≤◌, ◌+◌, ◌^◌, false, true, Some, None, map, IfOk, OnOk, OnErr};
 ghost use Rattle.script_nodes.specs.Setup.{Library as Scripts};
-ghost use Rattle.script_nodes.specs.Views.{library_of, named_of};
+ghost use Rattle.script_nodes.specs.Views.{library_of};
 ghost use Rattle.instance_cells.specs.Views.{effect_of};
 ghost use Rattle.replay_spec.specs.Book.{ends, finishes, sweeps};
 ghost use Rattle.journal_records.specs.Fields.{start, answered};
 ghost use Rattle.journal_records.specs.Records.{IsInGrammar, EndingFits, FinishFits};
-ghost use Rattle.journal_records.specs.Views.{origin_of, page_change, ending_of, finish_of, logged_of};
+ghost use Rattle.journal_records.specs.Views.{origin_of, ending_of, finish_of, logged_of};
 ghost use Rattle.instance_book.specs.Makes.{count_of, Makes, HasPlaces, HasSomeStates, KeepsPlaces, KeepsStates, Reopens, StaysLow};
 ghost use Rattle.instance_book.specs.Changes.{HasRoomFor, KeepsPlacesBy, KeepsStatesBy};
-ghost use Rattle.book_redo.specs.Redo.{counted_to, Counts, LandsAs, EndsIn, IsFree, IsLanded, number_by, IsRedoneBy, IsBeginning, OpensAt, KeepsPlacesAt, KeepsStatesOpened, IsAnswered, IsLandedRecord, IsUnchanged, UnlessTaken};
+ghost use Rattle.book_redo.specs.Redo.{counted_to, Counts, LandsAs, EndsIn, IsFree, IsLanded, number_by, IsBeginning, KeepsPlacesAt, IsAnswered, IsUnchanged, UnlessTaken};
+ghost use Rattle.book_redo.specs.Landing.{KeepsStatesBegun, LandsAnyhow, LandsPage, LandsRecord, OpensBegun, RedoesRecord};
 
 use crate::takes::{are_held, can_open, takes};
 use crate::told::{state_told, told_there};
@@ -85,13 +86,9 @@ fn open(
 ) -> Result<(), AllocError>
     requires number { told.ticket < 2 ^ 62 }
     requires few { count_of book.old + 1 < 2 ^ 32 }
-    ensures opens { OnOk result
-        (OpensAt begins.entry.place (named_of begins.entry.script.now) told page
-        book.old book.new) }
+    ensures opens { OpensBegun begins.entry told page result book.old book.new }
     ensures placed { OnOk result (KeepsPlacesAt begins.entry.place book.old book.new) }
-    ensures states { OnOk result
-        (KeepsStatesOpened begins.entry.place (named_of begins.entry.script.now) told page
-        book.old book.new) }
+    ensures states { KeepsStatesBegun begins.entry told page result book.old book.new }
     ensures low { OnOk result (StaysLow book.old book.new) }
     ensures same { OnErr result (IsUnchanged book.old book.new) }
 {
@@ -123,8 +120,7 @@ fn redo_opening(
     requires start { origin_of told.origin ≡ start script }
     requires few { count_of book.old + 1 < 2 ^ 32 }
     requires placed { HasPlaces (library_of library.now).all book.old }
-    ensures landed { IfOk result (λ read. IsLanded (library_of library.now)
-        (page_change told) (Some state) again read book.old book.new) }
+    ensures landed { LandsPage (library_of library.now) told state again result book.old book.new }
     ensures placed { OnOk result (HasPlaces (library_of library.now).all book.new) }
     ensures low { OnOk result (StaysLow book.old book.new) }
     ensures same { UnlessTaken result (IsUnchanged book.old book.new) }
@@ -198,8 +194,7 @@ fn redo_extension(
     requires kept { HasSomeStates (library_of library.now).all book.old }
     requires free { again ≡ false
         → IsFree (library_of library.now).all (Some told.ticket) book.old }
-    ensures landed { IfOk result (λ read. IsLanded (library_of library.now)
-        (page_change told) (Some state) again read book.old book.new) }
+    ensures landed { LandsPage (library_of library.now) told state again result book.old book.new }
     ensures placed { OnOk result (HasPlaces (library_of library.now).all book.new) }
     ensures low { OnOk result (StaysLow book.old book.new) }
     ensures same { UnlessTaken result (IsUnchanged book.old book.new) }
@@ -240,8 +235,7 @@ fn redo_page(
     requires kept { HasSomeStates (library_of library.now).all book.old }
     requires free { again ≡ false
         → IsFree (library_of library.now).all (Some told.ticket) book.old }
-    ensures landed { IfOk result (λ read. IsLanded (library_of library.now)
-        (page_change told) (Some state) again read book.old book.new) }
+    ensures landed { LandsPage (library_of library.now) told state again result book.old book.new }
     ensures placed { OnOk result (HasPlaces (library_of library.now).all book.new) }
     ensures low { OnOk result (StaysLow book.old book.new) }
     ensures same { UnlessTaken result (IsUnchanged book.old book.new) }
@@ -292,8 +286,7 @@ fn redo_ending(
     again: bool,
 ) -> Result<(), AllocError>
     requires { EndingFits (ending_of ended) }
-    ensures landed { OnOk result ((library : Scripts)
-        → IsLanded library (ends (ending_of ended)) None again true book.old book.new) }
+    ensures landed { OnOk result (LandsAnyhow (ends (ending_of ended)) again book.old book.new) }
     ensures placed { KeepsPlaces book.old book.new }
     ensures low { OnOk result (StaysLow book.old book.new) }
     ensures same { OnErr result (IsUnchanged book.old book.new) }
@@ -325,8 +318,7 @@ fn redo_ending(
 // is passed over. It takes no memory.
 fn redo_finish(alloc: Global, book: &mut Book, finish: FinishRecord, again: bool)
     requires { FinishFits (finish_of finish) }
-    ensures landed { (library : Scripts)
-        → IsLanded library (finishes (finish_of finish)) None again true book.old book.new }
+    ensures landed { LandsAnyhow (finishes (finish_of finish)) again book.old book.new }
     ensures placed { KeepsPlaces book.old book.new }
     ensures low { StaysLow book.old book.new }
 {
@@ -390,8 +382,8 @@ fn redo_record(
     requires kept { HasSomeStates (library_of library.now).all book.old }
     requires free { again ≡ false
         → IsFree (library_of library.now).all (number_by (logged_of logged)) book.old }
-    ensures landed { IfOk result (λ read.
-        IsLandedRecord (library_of library.now) (logged_of logged) again read book.old book.new) }
+    ensures landed { LandsRecord (library_of library.now) (logged_of logged) again result
+        book.old book.new }
     ensures placed { OnOk result (HasPlaces (library_of library.now).all book.new) }
     ensures low { OnOk result (StaysLow book.old book.new) }
     ensures same { UnlessTaken result (IsUnchanged book.old book.new) }
@@ -446,8 +438,8 @@ pub fn redo(
     requires kept { HasSomeStates (library_of library.now).all book.old }
     requires free { again ≡ false
         → IsFree (library_of library.now).all (number_by (logged_of logged)) book.old }
-    ensures redone { IfOk result (λ read.
-        IsRedoneBy (library_of library.now) (logged_of logged) again read book.old book.new) }
+    ensures redone { RedoesRecord (library_of library.now) (logged_of logged) again result
+        book.old book.new }
     ensures placed { OnOk result (HasPlaces (library_of library.now).all book.new) }
     ensures same { UnlessTaken result (IsUnchanged book.old book.new) }
 {

@@ -1,11 +1,10 @@
-ghost use Rattle.std.specs.Prelude.{◌≡◌, None, option_map, IfOk, IfSome, IfNone};
+ghost use Rattle.std.specs.Prelude.{None, IfOk};
 ghost use Rattle.script_nodes.specs.Arena.{script_of};
 ghost use Rattle.script_nodes.specs.Views.{named_of};
-ghost use Rattle.machine_states.specs.Views.{suspended_of};
-ghost use Rattle.frame_codec.specs.Forms.{read_form, IsStoredBefore};
+ghost use Rattle.frame_codec.specs.Forms.{IsStoredBefore};
 ghost use Rattle.frame_codec.specs.FormViews.{before_of};
 ghost use Rattle.instance_book.specs.Places.{arena_of, AreStatesOf};
-ghost use Rattle.book_redo.specs.Redo.{IsStateTold, IsBeforeIn, IsAnswerTold, HasNoAnswer};
+ghost use Rattle.book_redo.specs.Landing.{IsBeforeAt, IsStoredAt, LacksAnswerAt, LacksState, TellsAnswerAt, TellsState};
 
 use instance_book::{KeptState, Place, ShownState, ToldState, next_links, state_of};
 use machine_states::Suspended;
@@ -22,10 +21,10 @@ pub fn state_told(
     bytes: Bytes,
 ) -> Result<Option<ShownState>, AllocError>
     requires { IsStoredBefore (arena_of (script_of script.now)) (before_of before) }
-    ensures some { IfOk result (λ page. IfSome page
-        (IsStateTold (arena_of (script_of script.now)) (before_of before.entry) links bytes)) }
-    ensures none { IfOk result (λ page. IfNone page
-        (read_form (arena_of (script_of script.now)) (before_of before.entry) bytes ≡ None)) }
+    ensures some { TellsState (arena_of (script_of script.now)) (before_of before.entry)
+        links bytes result }
+    ensures none { LacksState (arena_of (script_of script.now)) (before_of before.entry)
+        bytes result }
 {
     // A script's root tells that its nodes are its tree's.
     let _root = script.root();
@@ -45,10 +44,8 @@ pub fn state_told(
 fn before(alloc: Global, place: &Place<'_>) -> Result<Option<Suspended>, AllocError>
     requires { AreStatesOf
         (named_of place.now.script.now) place.now.instance.now.item.pages place.now.page.now }
-    ensures before { IfOk result (λ before. IsBeforeIn (named_of place.now.script.now)
-        place.now.instance.now.item.pages place.now.page.now (option_map suspended_of before)) }
-    ensures stored { IfOk result (λ before. IsStoredBefore
-        (arena_of (named_of place.now.script.now).script) (option_map suspended_of before)) }
+    ensures before { IfOk result (IsBeforeAt place.now) }
+    ensures stored { IfOk result (IsStoredAt place.now) }
 {
     // A script's root tells that its nodes are its tree's.
     let _root = place.script.script.root();
@@ -67,10 +64,8 @@ pub fn told_there(
 ) -> Result<Option<ShownState>, AllocError>
     requires { AreStatesOf
         (named_of place.now.script.now) place.now.instance.now.item.pages place.now.page.now }
-    ensures some { IfOk result (λ page. IfSome page (IsAnswerTold (named_of place.now.script.now)
-        place.now.instance.now.item.pages place.now.page.now bytes)) }
-    ensures none { IfOk result (λ page. IfNone page (HasNoAnswer (named_of place.now.script.now)
-        place.now.instance.now.item.pages place.now.page.now bytes)) }
+    ensures some { IfOk result (TellsAnswerAt place.now bytes) }
+    ensures none { IfOk result (LacksAnswerAt place.now bytes) }
 {
     let links = next_links(place.page.item.state.links);
     let parent = before(alloc, place)?;
