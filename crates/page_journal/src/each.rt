@@ -1,10 +1,11 @@
 ghost use Rattle.std.specs.Prelude.{◌≡◌, ◌<◌, ◌≤◌, ◌+◌, ◌^◌, List, ℕ, length, take, drop, IsTrue, OnOk, OnErr, vec_capacity};
 ghost use Rattle.web_disk.specs.View.{NoNewImage, Elapses};
-ghost use Rattle.page_journal.specs.Records.{at_rest, stored};
+ghost use Rattle.page_journal.specs.Records.{stored};
 ghost use Rattle.page_journal.specs.Scanned.{IsQuiet};
 ghost use Rattle.page_journal.specs.Settled.{HasFailed, IsSettled, IsReady, IsSound, view_of, bodies_in, length_of, is_broken};
 ghost use Rattle.page_journal.specs.Stored.{HoldRecords};
 ghost use Rattle.page_journal.specs.Taken.{TakesAll, TakesFront};
+ghost use Rattle.page_journal.specs.Calls.{TakesSome, TakesStored};
 
 use crate::Journal;
 use crate::scan::{Found, look};
@@ -76,12 +77,10 @@ pub fn hand_on<D: Disk, T: Take>(
     requires holds { IsTrue D.tells →
         HoldRecords (D.view disk.old).seen (vec_capacity buffer.old) }
     requires ready { T.ready taker.old 8 }
-    ensures taken { IsTrue D.tells → OnOk result
-        (TakesAll T.takes taker.old 8 (stored (D.view disk.old).seen) taker.new) }
+    ensures taken { TakesStored D.tells T.takes taker.old (D.view disk.old) result taker.new }
     ensures front { IsTrue D.tells →
         TakesFront T.takes taker.old (stored (D.view disk.old).seen) taker.new }
-    ensures handed { (bodies : List (List ℕ)) × TakesAll T.takes taker.old 8 bodies taker.new
-        × (length (at_rest bodies) ≤ 2 ^ 30) }
+    ensures handed { TakesSome T.takes taker.old taker.new }
     ensures capacity { vec_capacity buffer.old ≤ vec_capacity buffer.new }
     ensures quiet { IsQuiet (D.view disk.old) (D.view disk.new) }
     ensures cause { OnErr result (HasFailed (D.view disk.old) (D.view disk.new)) }
@@ -116,8 +115,7 @@ impl<D: Disk> Journal<D> {
         ensures front { IsTrue D.tells →
             TakesFront T.takes taker.old (bodies_in D.view self.old) taker.new }
         // Also of a disk that does not tell its bytes, and where a call of it failed.
-        ensures handed { (bodies : List (List ℕ)) × TakesAll T.takes taker.old 8 bodies taker.new
-            × (length (at_rest bodies) ≤ 2 ^ 30) }
+        ensures handed { TakesSome T.takes taker.old taker.new }
         ensures quiet { IsQuiet (view_of D.view self.old) (view_of D.view self.new) }
         ensures len { length_of self.new ≡ length_of self.old }
         ensures whole { is_broken self.new ≡ is_broken self.old }

@@ -1,8 +1,7 @@
 ghost use Rattle.std.specs.Prelude.{◌≡◌, ◌<◌, ◌≤◌, ◌+◌, ◌^◌, ◌++◌, [], ◌∷◌, length, true, false, IsTrue, OnOk, OnErr, IsErrOf, vec_capacity};
-ghost use Rattle.web_disk.specs.View.{LeavesOnly};
 ghost use Rattle.page_journal.specs.declared.journal.AppendFault.TheVariants.{DiskFault as AppendDiskFault};
-ghost use Rattle.page_journal.specs.Holding.{MayHold};
 ghost use Rattle.page_journal.specs.Records.{framed};
+ghost use Rattle.page_journal.specs.Calls.{AppendsThroughout, HasAppended, IsFullFor};
 
 use thiserror::Error;
 use web_disk::Disk;
@@ -69,7 +68,7 @@ fn frame(buffer: &mut Vec<u8>, body: &[u8])
 }
 
 impl<D: Disk> Journal<D> {
-    ghost use Rattle.page_journal.specs.Settled.{HasFailed, IsSettled, IsReady, IsSound, view_of, bodies_in, length_of, length_with, is_broken};
+    ghost use Rattle.page_journal.specs.Settled.{HasFailed, IsSettled, IsReady, IsSound, view_of, length_of, length_with, is_broken};
 
     /// Adds a record, for which `room` was made since the last one. From `Ok` on each crash leaves it there; after `DiskFault` a crash leaves it or does not, and no record is added until the disk is begun again. It takes no memory.
     pub fn append(&mut self, body: &[u8]) -> Result<(), AppendFault>
@@ -84,16 +83,12 @@ impl<D: Disk> Journal<D> {
         ensures broken { IsErrOf result AppendFault.DiskFault → is_broken self.new ≡ true }
         ensures len { OnOk result (length_of self.new ≡ length_with self.old body.now) }
         ensures same_len { OnErr result (length_of self.new ≡ length_of self.old) }
-        ensures ok { IsTrue D.tells → OnOk result (IsSettled D.view self.new
-            × (bodies_in D.view self.new ≡ bodies_in D.view self.old ++ body.now ∷ [])) }
+        ensures ok { IsTrue D.tells → OnOk result (HasAppended D.view self.old body.now self.new) }
 
         // A crash at any moment of the call leaves the records from before it, with the new one or without.
-        ensures any_moment { IsTrue D.tells →
-            LeavesOnly (view_of D.view self.old) (view_of D.view self.new)
-            (MayHold self.old.format (bodies_in D.view self.old) body.now) }
+        ensures any_moment { IsTrue D.tells → AppendsThroughout D.view self.old body.now self.new }
 
-        ensures full { let len = length_with self.old body.now in
-            2 ^ 30 < len → (result ≡ Err (AppendFault.Full len)) × (self.new ≡ self.old) }
+        ensures full { IsFullFor self.old body.now result self.new }
         ensures only_full { length_with self.old body.now ≤ 2 ^ 30 →
             OnErr result (result ≡ Err AppendFault.DiskFault) }
         ensures cause { IsErrOf result AppendFault.DiskFault →

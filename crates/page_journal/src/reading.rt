@@ -1,11 +1,12 @@
-ghost use Rattle.std.specs.Prelude.{◌≡◌, ◌≤◌, ◌^◌, List, ℕ, length, true, IsTrue, IfOk, IfSome, OnOk, OnErr, IsErrOf};
+ghost use Rattle.std.specs.Prelude.{◌≡◌, true, IsTrue, IfOk, IfSome, OnOk, OnErr, IsErrOf};
 ghost use Rattle.web_disk.specs.View.{Only};
-ghost use Rattle.page_journal.specs.Records.{at_rest, is_format, stored};
+ghost use Rattle.page_journal.specs.Records.{is_format, stored};
 ghost use Rattle.page_journal.specs.Opened.{IsFault};
 ghost use Rattle.page_journal.specs.Scanned.{IsQuiet};
 ghost use Rattle.page_journal.specs.Settled.{HasFailed};
 ghost use Rattle.page_journal.specs.Stored.{IsUnwritten, AreStored, IsFoundOn};
-ghost use Rattle.page_journal.specs.Taken.{TakesAll, TakesFront};
+ghost use Rattle.page_journal.specs.Taken.{TakesFront};
+ghost use Rattle.page_journal.specs.Calls.{TakesSome, TakesStored};
 
 use crate::JournalFault;
 use crate::each::{DiskFault, Take, hand_on};
@@ -71,13 +72,11 @@ impl StoredRecords {
     ) -> Result<(), DiskFault>
         requires stored { IsTrue D.tells → AreStored (D.view disk.old).seen self.old }
         requires ready { T.ready taker.old 8 }
-        ensures taken { IsTrue D.tells → OnOk result
-            (TakesAll T.takes taker.old 8 (stored (D.view disk.old).seen) taker.new) }
+        ensures taken { TakesStored D.tells T.takes taker.old (D.view disk.old) result taker.new }
         ensures front { IsTrue D.tells →
             TakesFront T.takes taker.old (stored (D.view disk.old).seen) taker.new }
         // Also of a disk that does not tell its bytes, and where a call of it failed.
-        ensures handed { (bodies : List (List ℕ)) × TakesAll T.takes taker.old 8 bodies taker.new
-            × (length (at_rest bodies) ≤ 2 ^ 30) }
+        ensures handed { TakesSome T.takes taker.old taker.new }
         ensures quiet { IsQuiet (D.view disk.old) (D.view disk.new) }
         ensures format { self.new.format ≡ self.old.format }
         ensures stored { IsTrue D.tells → AreStored (D.view disk.new).seen self.new }

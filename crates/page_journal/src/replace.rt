@@ -1,11 +1,12 @@
-ghost use Rattle.std.specs.Prelude.{◌≡◌, ◌≤◌, ◌^◌, [], length, true, false, IsTrue, OnOk, OnErr, IfOk, IsErrOf, vec_capacity};
-ghost use Rattle.web_disk.specs.View.{LeavesOnly, NoNewImage, Elapses};
+ghost use Rattle.std.specs.Prelude.{◌≡◌, ◌≤◌, ◌^◌, [], length, true, false, IsTrue, OnOk, OnErr, IfOk, vec_capacity};
+ghost use Rattle.web_disk.specs.View.{NoNewImage, Elapses};
 ghost use Rattle.disk_trio.specs.Trio.{trio_view};
-ghost use Rattle.page_journal.specs.Records.{is_format, newest, stored};
-ghost use Rattle.page_journal.specs.Holding.{IsEither, MayHoldNowAndThroughout, ClosedNowAndThroughout, EitherNowAndThroughout, IsBeforeOrWith, IsOneOfEither};
-ghost use Rattle.page_journal.specs.Settled.{HasFailed, IsSettled, IsSound, view_of, bodies_in, length_of, is_broken};
+ghost use Rattle.page_journal.specs.Records.{is_format, newest};
+ghost use Rattle.page_journal.specs.Holding.{MayHoldNowAndThroughout, ClosedNowAndThroughout, EitherNowAndThroughout};
+ghost use Rattle.page_journal.specs.Settled.{HasFailed, IsSettled, IsSound, view_of, length_of, is_broken};
 ghost use Rattle.page_journal.specs.Opened.{IsIntactOrEmpty, TellsFormat, IsFault, disk_of, fault_of};
 ghost use Rattle.page_journal.specs.Replacing.{IsWholeFile, IsReadyToReplace};
+ghost use Rattle.page_journal.specs.Calls.{FailedIfTold, HasReplaced, HoldsBeforeOrWith, HoldsOneOfEither, HoldsStored, ReplacesThroughout};
 
 use crate::each::DiskFault;
 use crate::{Journal, JournalFault, NEWEST_FORMAT};
@@ -24,21 +25,17 @@ impl<D: Disk> Journal<Disks<D>> {
         ensures whole { IfOk result (λ journal. is_broken journal ≡ false) }
         ensures known { IfOk result (λ journal. is_format journal.format ≡ true) }
         ensures settled { IsTrue D.tells → IfOk result (λ journal. IsSettled trio_view journal) }
-        ensures records { IsTrue D.tells →
-            IfOk result (λ journal. bodies_in trio_view journal ≡ stored (trio_view disks).seen) }
+        ensures records { IsTrue D.tells → IfOk result (HoldsStored trio_view disks) }
         ensures format { IsTrue D.tells →
             IfOk result (λ journal. TellsFormat (trio_view disks).seen journal.format) }
         ensures fresh { IsTrue D.tells → (trio_view disks).seen ≡ []
             → IfOk result (λ journal. journal.format ≡ newest) }
-        ensures before_or_with { IsTrue D.tells →
-            IfOk result (λ journal. IsBeforeOrWith (trio_view disks) (bodies_in trio_view journal)) }
-        ensures one_of_either { IsTrue D.tells →
-            IfOk result (λ journal. IsOneOfEither (trio_view disks) (bodies_in trio_view journal)) }
+        ensures before_or_with { IsTrue D.tells → IfOk result (HoldsBeforeOrWith trio_view disks) }
+        ensures one_of_either { IsTrue D.tells → IfOk result (HoldsOneOfEither trio_view disks) }
         ensures intact { IsTrue D.tells → OnOk result (IsIntactOrEmpty (trio_view disks)) }
         ensures refused { IsTrue D.tells →
             IsFault (trio_view disks) (trio_view (disk_of result)) (fault_of result) }
-        ensures cause { IsErrOf (fault_of result) JournalFault.DiskFault →
-            HasFailed (trio_view disks) (trio_view (disk_of result)) }
+        ensures cause { FailedIfTold (fault_of result) (trio_view disks) (trio_view (disk_of result)) }
         ensures any_moment { IsTrue D.tells →
             MayHoldNowAndThroughout (trio_view disks) (trio_view (disk_of result)) }
         ensures closed_stays { IsTrue D.tells →
@@ -96,14 +93,11 @@ impl<D: Disk> Journal<Disks<D>> {
         ensures len { OnOk result (length_of self.new ≡ length file.now) }
         ensures same_len { OnErr result (length_of self.new ≡ length_of self.old) }
         ensures same_format { OnErr result (self.new.format ≡ self.old.format) }
-        ensures ok { IsTrue D.tells → OnOk result (IsSettled trio_view self.new
-            × (bodies_in trio_view self.new ≡ stored file.now)) }
+        ensures ok { IsTrue D.tells → OnOk result (HasReplaced trio_view file.now self.new) }
         ensures known { OnOk result (self.new.disk.known ≡ true) }
 
         // A crash at any moment of the call leaves the records of the one file or of the other.
-        ensures any_moment { IsTrue D.tells →
-            LeavesOnly (view_of trio_view self.old) (view_of trio_view self.new)
-            (IsEither self.old.format newest (bodies_in trio_view self.old) (stored file.now)) }
+        ensures any_moment { IsTrue D.tells → ReplacesThroughout trio_view self.old file.now self.new }
 
         ensures cause { OnErr result
             (HasFailed (view_of trio_view self.old) (view_of trio_view self.new)) }
