@@ -1,10 +1,12 @@
 -- Records that are not damaged, and what stands in front of a journal in them.
-use Rattle.std.proofs.Common.{◌≡◌, ℕ, ◌+◌, List, [], ◌∷◌, length, Option, Some, None, true, refl, subst, ap}
+use Rattle.std.proofs.Common.{◌≡◌, ℕ, List, Option, Some, None, refl, subst}
 use Rattle.std.specs.Prelude.{⊤}
 use Rattle.journal_records.specs.Records.{Record, begins, changes, renews, draws, follows, promotes}
 use Rattle.journal_spec.specs.Before.{Made}
-use Rattle.journal_spec.specs.Making.{Texts, Making, nothing, waits, waited, waiting, begun, made, damaged, other, fed_by, made_in}
-use Rattle.journal_spec.specs.Old.{with_body_at, with_bodies_at}
+use Rattle.journal_spec.specs.Making.{Texts, Making, nothing, waits, waited, begun, made, damaged, other, fed_by, made_in}
+use Rattle.journal_spec.specs.Old.{with_bodies_at}
+use Rattle.journal_spec.proofs.Copying.{other_stays}
+use Rattle.journal_spec.proofs.Walking.{damaged_stays}
 use Rattle.audit_spec.specs.Findings.{fault_of}
 
 -- no damage
@@ -12,14 +14,6 @@ abbrev pub IsHeld : Making → Type 0
 IsHeld (damaged place) = ⊥
 IsHeld (other place) = ⊥
 IsHeld _ = ⊤
-
-pub damaged_stays : (format : ℕ) (texts : Texts) (shelf place : ℕ) (bodies : List (List ℕ)) (p : ℕ) → with_bodies_at format texts shelf place bodies (damaged p) ≡ damaged p
-damaged_stays format texts shelf place [] p = refl
-damaged_stays format texts shelf place (body ∷ bodies) p = damaged_stays format texts shelf (place + 5 + length body) bodies p
-
-pub other_stays : (format : ℕ) (texts : Texts) (shelf place : ℕ) (bodies : List (List ℕ)) (p : ℕ) → with_bodies_at format texts shelf place bodies (other p) ≡ other p
-other_stays format texts shelf place [] p = refl
-other_stays format texts shelf place (body ∷ bodies) p = other_stays format texts shelf (place + 5 + length body) bodies p
 
 pub held_before : (format : ℕ) (texts : Texts) (shelf place : ℕ) (bodies : List (List ℕ)) (x : Making) → IsHeld (with_bodies_at format texts shelf place bodies x) → IsHeld x
 held_before format texts shelf place bodies nothing h = tt

@@ -1,7 +1,7 @@
 -- What holds of a record that has no word: each test holds.
 use Rattle.std.proofs.Common.{◌≡◌, ◌==◌, ℕ, Bool, true, false, List, Option, Some, None, refl, sym, ap, subst}
 use Rattle.std.specs.Prelude.{not, if◌then◌else◌}
-use Rattle.replay_spec.specs.Book.{Change, Book}
+use Rattle.replay_spec.specs.Book.{Change}
 use Rattle.replay_spec.specs.Recovery.{number_in, is_repeated}
 use Rattle.machine_states.specs.Machine.{Suspended}
 use Rattle.journal_records.specs.Records.{Record, begins, changes, renews, draws, follows, promotes}
@@ -10,6 +10,7 @@ use Rattle.journal_spec.specs.Retaking.{Told, unread, misread, told}
 use Rattle.journal_spec.specs.Lengths.{state_by, told_own, own_told}
 use Rattle.journal_spec.specs.Old.{told_at, told_of}
 use Rattle.journal_spec.specs.Owning.{IsOwnState, IsOwnRecordIn}
+use Rattle.journal_spec.proofs.Kept.{is_own}
 use Rattle.audit_spec.specs.declared.word.Word.{Word}
 use Rattle.audit_spec.specs.declared.word.Word.TheVariants as word
 use Rattle.audit_spec.specs.Tests.{goes_on, is_admitted, runs_so, least_go, is_in_time, tells_state, tells_own}
@@ -64,13 +65,9 @@ told_by_test false x o h = told_is x o h
 pub told_is_own : (format : ℕ) (m : Made) (c : Change) (state : Option (List ℕ)) → tells_own format m c state ≡ true → told_of format m c state ≡ own_told m.book c
 told_is_own format m c state h = told_by_test (format == 1) (told_at format m.earlier m.book c state) (state_by m.book c) h
 
-own_is_own : (b : Book) (c : Change) (o : Option Suspended) → state_by b c ≡ o → IsOwnState b c (told_own o)
-own_is_own b c None e = tt
-own_is_own b c (Some d) e = e
-
 pub own_of_passing : (format : ℕ) (m : Made) (c : Change) (state : Option (List ℕ)) → AllHold format m c state → IsOwnState m.book c (told_of format m c state)
 own_of_passing format m c state p =
-    subst (IsOwnState m.book c) (sym (told_is_own format m c state p.own)) (own_is_own m.book c (state_by m.book c) refl)
+    subst (IsOwnState m.book c) (sym (told_is_own format m c state p.own)) (is_own m.book c (state_by m.book c) refl)
 
 -- a record that has no word tells the state that its script leaves
 pub own_of_none : (format : ℕ) (m : Made) (r : Option Record) → fault_of format m r ≡ None → IsOwnRecordIn format m r

@@ -12,24 +12,23 @@ use Rattle.page_names.specs.declared.names.PageName.{PageName}
 use Rattle.instance_cells.specs.Cells.{Effect}
 use Rattle.script_nodes.specs.Setup.{Named}
 use Rattle.script_nodes.specs.declared.script.SendKind.{SendKind}
-use Rattle.script_nodes.specs.declared.script.SendKind.TheVariants.{Suspend, Forward}
-use Rattle.replay_spec.specs.Names.{is_name}
 use Rattle.replay_spec.specs.Tape.{present, shows, Outcome, paged, faulted, out_of_fuel}
 use Rattle.replay_spec.specs.Tape as tape
 use Rattle.replay_spec.specs.Eval.{Segment}
-use Rattle.replay_spec.specs.Book.{Use, Opening, Extension, Ending, Finish, Change, opens, extends, ends, finishes, sweeps, Doubt, Book, instance_at, page_at}
+use Rattle.replay_spec.specs.Book.{Use, Opening, Extension, Ending, Finish, Change, opens, extends, ends, finishes, sweeps, Book, instance_at, page_at}
 use Rattle.replay_spec.specs.Rules.{Rules}
 use Rattle.replay_spec.specs.Change.{used_by}
 use Rattle.replay_spec.specs.Eviction.{least, but, least_used, too_many, goes_for}
-use Rattle.replay_spec.specs.Admission.{◌>>=◌, when, is_one, Place, why_not, Admission, begins, resumes, started, admit}
+use Rattle.replay_spec.specs.Admission.{◌>>=◌, when, Place, why_not, Admission, begins, resumes, started, admit}
 use Rattle.replay_spec.specs.Next.{Ticket, answers, starts, Visit, url_for, comes_to, start_visit, page_visit}
 use Rattle.replay_spec.specs.Step.{Reply, shelf_full, records, unless, with_room, opening, extension, ending, finish, change_by, reply_by, full, stopped, settles, gone_for, decide, publish_comes}
 use Rattle.replay_spec.specs.Recovery.{are_effects, are_names, is_kind, page_of_numbers, opening_visit, extension_visit, shows_so, again}
 use Rattle.replay_spec.proofs.Admitted.{StandsAt, at_stands, place_resumes}
-use Rattle.replay_spec.proofs.Goers.{pages_of, least_there}
+use Rattle.replay_spec.proofs.Goers.{least_there}
 use Rattle.replay_spec.proofs.Numbered.{number_of}
 use Rattle.replay_spec.proofs.Recovered.{place_is}
-use Rattle.replay_spec.proofs.Tests.{equal_self}
+use Rattle.replay_spec.proofs.Room.{but_less}
+use Rattle.replay_spec.proofs.Tests.{equal_self, kind_means, names_mean}
 use Rattle.server_limits.specs.Limits.{most_fuel, most_life}
 use Rattle.journal_spec.specs.Whole.{IsWhole, HasWholeScripts}
 use Rattle.journal_spec.proofs.Remaking.{effects_mean}
@@ -62,29 +61,6 @@ numbers_mean (m ∷ ms) (n ∷ ns) h =
     let first : m ≡ n = grind (arith, nat_tests, both.0) in
     let rest = numbers_mean ms ns both.1 in
     cc
-
-name_means : (s t : TxName) → is_name s t ≡ true → s ≡ t
-name_means s t h =
-    let both = and_parts (s.ticket == t.ticket) (s.entry == t.entry) h in
-    let ticket : s.ticket ≡ t.ticket = grind (arith, nat_tests, both.0) in
-    let entry : s.entry ≡ t.entry = grind (arith, nat_tests, both.1) in
-    λ i. record { ticket = ticket i; entry = entry i }
-
-names_mean : (ss ts : List TxName) → are_names ss ts ≡ true → ss ≡ ts
-names_mean [] [] h = refl
-names_mean [] (t ∷ ts) h = absurd (let no : ⊥ = cc in no)
-names_mean (s ∷ ss) [] h = absurd (let no : ⊥ = cc in no)
-names_mean (s ∷ ss) (t ∷ ts) h =
-    let both = and_parts (is_name s t) (are_names ss ts) h in
-    let first = name_means s t both.0 in
-    let rest = names_mean ss ts both.1 in
-    cc
-
-kind_means : (k l : SendKind) → is_kind k l ≡ true → k ≡ l
-kind_means Suspend Suspend h = refl
-kind_means Suspend Forward h = absurd (let no : ⊥ = cc in no)
-kind_means Forward Suspend h = absurd (let no : ⊥ = cc in no)
-kind_means Forward Forward h = refl
 
 when_some : {A : Type 0} (b : Bool) (x : A) → is_some (when b x) ≡ true → b ≡ true
 when_some true x h = refl
@@ -138,14 +114,6 @@ due_is clock deadline h =
     record { above = grind (arith, nat_tests, both.0); near = grind (arith, nat_tests, both.1) }
 
 -- ---- how many go
-
-but_fewer : (n : ℕ) (us : List Use) → length (but n us) ≤ length us
-but_fewer n [] = omega arith
-but_fewer n (u ∷ us) = grind (arith, but_fewer n us)
-
-but_less : (n : ℕ) (us : List Use) → is_one n (pages_of us) ≡ true → length (but n us) + 1 ≤ length us
-but_less n [] h = absurd (let no : ⊥ = cc in no)
-but_less n (u ∷ us) h = grind (arith, nat_tests, h, but_less n us, but_fewer n us)
 
 -- no more go than there are
 few_go : (k : ℕ) (us : List Use) → length (least_used k us) ≤ length us

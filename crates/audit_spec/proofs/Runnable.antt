@@ -13,7 +13,6 @@ use Rattle.script_value.proofs.Options.{allowed, bound}
 use Rattle.page_names.specs.Names.{is_name, name_in}
 use Rattle.script_nodes.specs.Arena.{IsScript, arena_of, script_of}
 use Rattle.script_nodes.specs.Core.{Core, core, cores_of}
-use Rattle.script_nodes.specs.Closed.{AreBodies}
 use Rattle.script_nodes.specs.Setup.{Script, Named, has_name}
 use Rattle.script_nodes.proofs.Scripts.{script_laid}
 use Rattle.core_syntax.specs.declared.faults.SyntaxKind.{SyntaxKind}
@@ -23,7 +22,7 @@ use Rattle.core_syntax.specs.Expands.{IsLevel}
 use Rattle.core_syntax.specs.Forms.{core_of}
 use Rattle.core_syntax.specs.Headings.{is_definition}
 use Rattle.core_syntax.specs.Names.{parameters_in}
-use Rattle.core_syntax.proofs.Expanding.{expression_closed}
+use Rattle.core_syntax.proofs.Expanding.{bodies_closed, expression_closed}
 use Rattle.core_syntax.proofs.Forming.{Stays, total, starts_level, next_form}
 use Rattle.sexp_reader.specs.Read.{read}
 use Rattle.sexp_reader.specs.declared.fault.ReadKind.{ReadKind}
@@ -39,12 +38,6 @@ use Rattle.audit_spec.specs.Setups.{SetupsCanBeRun}
 -- a script is what its nodes in pre-order mean
 abbrev IsLaid : Script → Type 0
 IsLaid s = IsScript (arena_of s) × (script_of (arena_of s) ≡ s)
-
-bodies_closed : (d : Defined) → IsLevel d → AreBodies (length d.web) (length d.cells) [] (parameters_in d.names) (cores_of d.tasks)
-bodies_closed d l =
-    let ks = parameters_in d.names in
-    let cs = cores_of d.tasks in
-    subst (λ (w : ℕ). AreBodies w (length d.cells) [] ks cs) (sym l.web) (subst (λ (i : ℕ). AreBodies (length d.names.web) i [] ks cs) (sym l.cells) l.tasks)
 
 limited_laid : (d : Defined) (v : Val) (n : ℕ) (s : Script) → IsLevel d → (r : Result Core SyntaxKind) → core_of d.names [] false v ≡ r → at_form n (limited d r) ≡ Ok s → IsLaid s
 limited_laid d v n s level (Err k) e h = absurd (let no : ⊥ = cc in no)

@@ -11,7 +11,7 @@ use Rattle.replay_spec.specs.Recovery.{number_in, is_repeated, redone, of_length
 use Rattle.replay_spec.specs.Invariant.{Among, AreOrderly}
 use Rattle.replay_spec.specs.Remade.{IsOrderlyMade}
 use Rattle.replay_spec.proofs.Recovered.{made_orderly}
-use Rattle.book_redo.specs.MachineStates.Machine.{Suspended, inside_of}
+use Rattle.book_redo.specs.MachineStates.Machine.{inside_of}
 use Rattle.book_redo.specs.InstanceBook.declared.in_order.InOrder.{InOrder}
 use Rattle.book_redo.specs.InstanceBook.declared.book.Book as kept
 use Rattle.book_redo.specs.InstanceBook.Places.{given, own}
@@ -39,8 +39,9 @@ use Rattle.book_redo.specs.JournalSpec.Whole.{AreWhole}
 use Rattle.book_redo.proofs.JournalSpec.Retaken.{retaken_orderly, passed_orderly}
 use Rattle.book_redo.specs.JournalSpec.Making.{Making, damaged, other}
 use Rattle.book_redo.specs.JournalSpec.Old.{with_body_at}
-use Rattle.book_redo.specs.JournalSpec.Lengths.{state_by, told_own}
+use Rattle.book_redo.specs.JournalSpec.Lengths.{state_by}
 use Rattle.book_redo.specs.JournalSpec.Owning.{IsOwnState, IsOwnRecordIn}
+use Rattle.book_redo.proofs.JournalSpec.Kept.{is_own}
 use Rattle.book_redo.specs.declared.renew.Renewed.TheVariants as renewed
 use Rattle.book_recovery.specs.declared.found.Found.{Found}
 use Rattle.book_recovery.specs.declared.found.Found.TheVariants as found
@@ -182,14 +183,10 @@ later_owns format library before old new (draws number) (x, (alike, made)) left 
     (as_it_is library before old (Some new) (draws number) x alike made).1.states (own tt) library.all states
 
 -- in format 1 the state that is told of a page is the one that its script leaves
-own_by : (b : Book) (c : Change) (o : Option Suspended) → state_by b c ≡ o → IsOwnState b c (told_own o)
-own_by b c None is = tt
-own_by b c (Some d) is = is
-
 own_record : (m : Made) (o : Option Record) → IsOwnRecordIn 1 m o
 own_record m None = tt
 own_record m (Some (begins s named)) = tt
-own_record m (Some (changes c state)) = own_by m.book c (state_by m.book c) refl
+own_record m (Some (changes c state)) = is_own m.book c (state_by m.book c) refl
 own_record m (Some (renews named)) = tt
 own_record m (Some (draws number)) = tt
 own_record m (Some follows) = tt

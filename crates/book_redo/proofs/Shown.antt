@@ -1,5 +1,5 @@
 -- Whether a segment comes to the page of a record.
-use Rattle.std.proofs.Common.{◌≡◌, ◌∙◌, ap, sym, ◌==◌, ◌&&◌, List, [], ◌∷◌, map, Some, None, Bool, true, false, refl, arith}
+use Rattle.std.proofs.Common.{◌≡◌, ◌∙◌, ap, sym, ◌==◌, ◌&&◌, List, map, Some, None, Bool, true, false, refl, arith}
 use Rattle.std.specs.Bool.{Decides}
 use lib.Pointwise.{pointwise}
 use Rattle.std.proofs.lemmas.Slice.Eq.{slice_eq-Decides}
@@ -8,7 +8,6 @@ use Rattle.std.proofs.lemmas.Option.{same_Some}
 use Rattle.std.proofs.lemmas.Bool.Decides.{nat_tests}
 use Rattle.script_value.specs.declared.outcome.TxName.{TxName}
 use Rattle.script_nodes.specs.declared.script.SendKind.{SendKind}
-use Rattle.script_nodes.specs.declared.script.SendKind.TheVariants.{Suspend, Forward}
 use Rattle.instance_cells.specs.Cells.{Effect}
 use Rattle.instance_cells.specs.Views.{effect_of}
 use Rattle.replay_spec.specs.Names.{is_name}
@@ -22,24 +21,11 @@ use Rattle.machine_states.specs.declared.segment.Outcome.TheVariants.{Shown, Fin
 use Rattle.machine_states.specs.declared.segment.Segment.{Segment}
 use Rattle.journal_records.specs.Views.{effects_in}
 use Rattle.journal_records.specs.declared.records.PageRecord.{PageRecord}
+use Rattle.replay_spec.proofs.Tests.{kind_means, name_means, names_mean}
 use Rattle.journal_spec.proofs.Remaking.{effects_mean}
 use Rattle.book_redo.specs.Runs.{kind_in, ShowsSo}
 
 -- ---- what passes the tests is the same
-
-name_means : (s t : TxName) → is_name s t ≡ true → s ≡ t
-name_means s t h =
-    let both = and_parts (s.ticket == t.ticket) (s.entry == t.entry) h in
-    let ticket : s.ticket ≡ t.ticket = grind (arith, nat_tests, both.0) in
-    let entry : s.entry ≡ t.entry = grind (arith, nat_tests, both.1) in
-    λ i. record { ticket = ticket i; entry = entry i }
-
-names_mean : (ss ts : List TxName) → are_names ss ts ≡ true → ss ≡ ts
-names_mean [] [] h = refl
-names_mean [] (t ∷ ts) h = absurd (let no : ⊥ = cc in no)
-names_mean (s ∷ ss) [] h = absurd (let no : ⊥ = cc in no)
-names_mean (s ∷ ss) (t ∷ ts) h =
-    let both = and_parts (is_name s t) (are_names ss ts) h in let first = name_means s t both.0 in let rest = names_mean ss ts both.1 in λ i. first i ∷ rest i
 
 -- so `==` tells of two lists of names whether they are the same
 pub names_decide : (ss ts : List TxName) (r : Bool) → r ≡ pointwise is_name ss ts → Decides r (ss ≡ ts)
@@ -50,12 +36,6 @@ names_decide ss ts r e = slice_eq-Decides decides ss ts r e
 
     decides : (s t : TxName) → Decides (is_name s t) (s ≡ t)
     decides s t = (name_means s t, λ same. ap (is_name s) (sym same) ∙ name_self s)
-
-kind_means : (k l : SendKind) → is_kind k l ≡ true → k ≡ l
-kind_means Suspend Suspend h = refl
-kind_means Suspend Forward h = absurd (let no : ⊥ = cc in no)
-kind_means Forward Suspend h = absurd (let no : ⊥ = cc in no)
-kind_means Forward Forward h = refl
 
 -- ---- the segment of a run
 

@@ -50,7 +50,7 @@ expression_closed d v c l e =
     subst (λ (w : ℕ). IsClosed w (length d.cells) ks 0 false c) (sym l.web) (subst (λ (i : ℕ). IsClosed (length d.names.web) i ks 0 false c) (sym l.cells) k)
 
 -- so are the bodies of its tasks
-bodies_closed : (d : Defined) → IsLevel d → AreBodies (length d.web) (length d.cells) [] (parameters_in d.names) (cores_of d.tasks)
+pub bodies_closed : (d : Defined) → IsLevel d → AreBodies (length d.web) (length d.cells) [] (parameters_in d.names) (cores_of d.tasks)
 bodies_closed d l =
     let ks = parameters_in d.names in
     let cs = cores_of d.tasks in

@@ -6,14 +6,11 @@ use Rattle.std.specs.Cmp.Lexicographic.{pointwise}
 use Rattle.std.proofs.lemmas.Bool.{and_parts, and_from}
 use Rattle.std.proofs.lemmas.Slice.Eq.{slice_eq-Decides}
 use Rattle.script_value.specs.Val.{Val}
-use Rattle.script_value.specs.declared.outcome.TxName.{TxName}
 use Rattle.script_nodes.specs.PrimSpec.Same.{same}
 use Rattle.script_nodes.proofs.PrimSpec.Tests.{same_decides}
-use Rattle.script_nodes.specs.declared.script.SendKind.{SendKind}
-use Rattle.script_nodes.specs.declared.script.SendKind.TheVariants.{Suspend, Forward}
 use Rattle.machine_states.specs.ReplaySpec.Names.{is_name}
 use Rattle.machine_states.specs.ReplaySpec.Recovery.{is_kind}
-use Rattle.machine_states.proofs.ReplaySpec.Tests.{equal_self, kind_self}
+use Rattle.machine_states.proofs.ReplaySpec.Tests.{equal_self, kind_means, kind_self, name_means}
 use Rattle.machine_states.specs.Machine.{Frame, in_binding, in_operand, in_body, in_seq, in_and, in_or, in_if, in_count, in_store, in_turn, in_isolate, in_call, in_task, in_page, in_finish, in_back}
 use Rattle.frame_codec.specs.Difference.{same_frame, is_value}
 
@@ -25,18 +22,6 @@ values_self vs = (slice_eq-Decides same_decides vs vs (pointwise same vs vs) ref
 
 number_means : (m n : ℕ) → (m == n) ≡ true → m ≡ n
 number_means m n h = (unsigned_Decides m n).0 h
-
-name_means : (s t : TxName) → is_name s t ≡ true → s ≡ t
-name_means s t h =
-    let both = and_parts (s.ticket == t.ticket) (s.entry == t.entry) h in
-    let p = number_means s.ticket t.ticket both.0 in
-    let q = number_means s.entry t.entry both.1 in
-    λ i. record { ticket = p i; entry = q i }
-
-kind_means : (k l : SendKind) → is_kind k l ≡ true → k ≡ l
-kind_means Suspend Suspend h = refl
-kind_means Forward Forward h = refl
-kind_means k l h = cc
 
 -- a frame of this node, and of what else it has
 by_node : {A : Type 0} (f : ℕ → A → Frame) (m n : ℕ) (x y : A) (b : Bool) → (b ≡ true → x ≡ y) → ((m == n) && b) ≡ true → f m x ≡ f n y

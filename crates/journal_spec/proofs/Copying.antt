@@ -38,7 +38,7 @@ use Rattle.journal_spec.proofs.Joining.{AreSure, join_entries, facts_joined, lin
 pub alike_now : AreRecordsExact → (f : ℕ) (body : List ℕ) (r : Record) → AreBytes body → TellsNoPage r → read_record_in f body ≡ Some r → read_record body ≡ Some r
 alike_now x f body r small none read = let b = x.alike f body r small read none in ap read_record b.spelled ∙ x.back r b.fits
 
-other_stays : (f : ℕ) (texts : Texts) (shelf place : ℕ) (bodies : List (List ℕ)) (p : ℕ) → with_bodies_at f texts shelf place bodies (other p) ≡ other p
+pub other_stays : (f : ℕ) (texts : Texts) (shelf place : ℕ) (bodies : List (List ℕ)) (p : ℕ) → with_bodies_at f texts shelf place bodies (other p) ≡ other p
 other_stays f texts shelf place [] p = refl
 other_stays f texts shelf place (body ∷ bodies) p = other_stays f texts shelf (place + 5 + length body) bodies p
 

@@ -131,7 +131,7 @@ at_made P texts shelf bodies m body r makes back p n e = subst (λ (z : Made). P
 
 -- ---- an event
 
-is_own : (b : Book) (c : Change) (o : Option Suspended) → state_by b c ≡ o → IsOwnState b c (told_own o)
+pub is_own : (b : Book) (c : Change) (o : Option Suspended) → state_by b c ≡ o → IsOwnState b c (told_own o)
 is_own b c None e = tt
 is_own b c (Some d) e = e
 

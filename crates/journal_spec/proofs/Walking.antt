@@ -45,7 +45,7 @@ pub record Moved (f : ℕ) (ls : List Instance) (texts : Texts) (place : ℕ) (b
   pub entry : entry_by f ls texts m body r ≡ its
   pub step : Step f ls texts body m its then_
 
-damaged_stays : (f : ℕ) (texts : Texts) (shelf place : ℕ) (bodies : List (List ℕ)) (p : ℕ) → with_bodies_at f texts shelf place bodies (damaged p) ≡ damaged p
+pub damaged_stays : (f : ℕ) (texts : Texts) (shelf place : ℕ) (bodies : List (List ℕ)) (p : ℕ) → with_bodies_at f texts shelf place bodies (damaged p) ≡ damaged p
 damaged_stays f texts shelf place [] p = refl
 damaged_stays f texts shelf place (body ∷ bodies) p = damaged_stays f texts shelf (place + 5 + length body) bodies p
 

@@ -43,11 +43,11 @@ pub none_gone : (us : List Use) → unless_gone [] us ≡ us
 none_gone [] = refl
 none_gone (u ∷ us) = ap (λ (vs : List Use). u ∷ vs) (none_gone us)
 
-but_fewer : (n : ℕ) (us : List Use) → length (but n us) ≤ length us
+pub but_fewer : (n : ℕ) (us : List Use) → length (but n us) ≤ length us
 but_fewer n [] = omega arith
 but_fewer n (u ∷ us) = grind (arith, but_fewer n us)
 
-but_less : (n : ℕ) (us : List Use) → is_one n (pages_of us) ≡ true → length (but n us) + 1 ≤ length us
+pub but_less : (n : ℕ) (us : List Use) → is_one n (pages_of us) ≡ true → length (but n us) + 1 ≤ length us
 but_less n [] h = absurd (let no : ⊥ = cc in no)
 but_less n (u ∷ us) h = grind (arith, nat_tests, h, but_less n us, but_fewer n us)
 
