@@ -26,7 +26,7 @@ use Rattle.core_syntax.proofs.Expanding.{bodies_closed, expression_closed}
 use Rattle.core_syntax.proofs.Forming.{Stays, total, starts_level, next_form}
 use Rattle.sexp_reader.specs.Read.{read}
 use Rattle.sexp_reader.specs.declared.fault.ReadKind.{ReadKind}
-use Rattle.setup_reader.specs.Limits.{most_scripts}
+use Rattle.server_limits.specs.Counts.{most_scripts}
 use Rattle.setup_reader.specs.Setup.{by_forms, by_data, script_in}
 use Rattle.setup_reader.specs.Texts.{read_script, script_of_text, scripts_of_texts, is_among, are_new, can_be_setup, setup_of_texts}
 use Rattle.journal_spec.specs.Whole.{IsWhole, AreWhole}

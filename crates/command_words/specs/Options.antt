@@ -5,6 +5,7 @@ use Rattle.std.specs.Fmt.{decimal}
 use Rattle.std.specs.Str.{bytes_eq}
 use Rattle.std.specs.Str.Parse.{digits_value}
 use Rattle.server_limits.specs.Limits.{most_connections, most_fuel, most_instances, most_life, most_pages, most_shelves}
+use Rattle.server_limits.specs.Counts.{most_workers}
 
 -- a text by its bytes
 abbrev pub Text : Type 0
@@ -60,10 +61,6 @@ shelf = record { name = codes "shelf"; kind = number 0 last_shelf; default = Som
 -- the option of the port that a server listens at; it has to be written
 abbrev pub port : Item
 port = record { name = codes "port"; kind = number 0 65535; default = None }
-
--- the most workers that serve at once
-abbrev pub most_workers : ℕ
-most_workers = 16
 
 -- the option of how many workers a server has
 abbrev pub workers : Item

@@ -15,16 +15,13 @@ use clap::error::ErrorKind;
 use clap::{Arg, ArgAction, ArgMatches, value_parser};
 use script_value::Str;
 use server_limits::{
-    MOST_CONNECTIONS, MOST_FUEL, MOST_INSTANCES, MOST_LIFE, MOST_PAGES, MOST_SHELVES,
+    MOST_CONNECTIONS, MOST_FUEL, MOST_INSTANCES, MOST_LIFE, MOST_PAGES, MOST_SHELVES, MOST_WORKERS,
 };
 use std::alloc::{AllocError, Global};
 use thiserror::Error;
 
 /// The greatest number of a measured run.
 pub const MOST_RUN: u64 = 9_223_372_036_854_775_807;
-
-/// The most workers that serve at once.
-pub const MOST_WORKERS: u32 = 16;
 
 /// The most requests that a link may carry.
 pub const MOST_REQUESTS: u32 = 1000;

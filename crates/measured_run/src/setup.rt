@@ -1,7 +1,8 @@
 //! The setup of a measured run, read from its text.
 ghost use Rattle.std.specs.Prelude.{◌≡◌, ◌≤◌, length, IfOk};
 ghost use Rattle.script_nodes.specs.Views.{scripts_of};
-ghost use Rattle.setup_reader.specs.Limits.{AreShort, most_scripts};
+ghost use Rattle.server_limits.specs.Counts.{most_scripts};
+ghost use Rattle.setup_reader.specs.Limits.{AreShort};
 ghost use Rattle.setup_reader.specs.Texts.{IsReadSetup};
 ghost use Rattle.measured_run.specs.Setups.{IsSetup, load_scripts};
 

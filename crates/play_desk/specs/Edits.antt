@@ -4,7 +4,7 @@ use Rattle.script_nodes.specs.Setup.{Named, place_named}
 use Rattle.script_nodes.specs.Views.{named_of, scripts_of}
 use Rattle.script_nodes.specs.declared.setup.NamedScript.{NamedScript}
 use Rattle.script_nodes.specs.declared.setup.Setup.{Setup}
-use Rattle.setup_reader.specs.Limits.{most_scripts}
+use Rattle.server_limits.specs.Counts.{most_scripts}
 use Rattle.setup_reader.specs.Texts.{script_of_text}
 
 -- A setup with this script at the place where one of its name stands, if one does, or else behind the others: none where there would be too

@@ -3,11 +3,9 @@ ghost use Rattle.script_nodes.specs.Views.{named_of, scripts_of};
 ghost use Rattle.play_desk.specs.Edits.{IsAt, IsPlacedBehind, edited};
 
 use script_nodes::{NamedScript, Setup};
+use server_limits::MOST_SCRIPTS;
 use setup_reader::script_of;
 use std::alloc::{AllocError, Global};
-
-// How many scripts a setup may have.
-const MOST_SCRIPTS: usize = 15;
 
 // A copy of the script of a place, or of this one, which stands at another.
 fn script_at(

@@ -7,7 +7,8 @@ use Rattle.script_value.specs.Pieces.{cut_at, behind, number_below}
 use Rattle.script_value.proofs.Options.{bound}
 use Rattle.script_value.proofs.Cuts.{behind_spelled, cut_spelled}
 use Rattle.script_value.proofs.Numerals.{number_spelled}
-use Rattle.play_steps.specs.Step.{Step, take, publish, get, tick, crash, compact, edit, crash_edited, worker_of, is_target, aim_of, take_of, publish_of, get_of, tick_of, crash_of, compact_of, first_of, step_of, line_of, workers, IsStep}
+use Rattle.server_limits.specs.Counts.{most_workers}
+use Rattle.play_steps.specs.Step.{Step, take, publish, get, tick, crash, compact, edit, crash_edited, worker_of, is_target, aim_of, take_of, publish_of, get_of, tick_of, crash_of, compact_of, first_of, step_of, line_of, IsStep}
 
 -- a step of one line
 abbrev pub IsPlain : Step → Type 0
@@ -22,14 +23,14 @@ pub record IsLine (line : List ℕ) (s : Step) : Type 0 where
   pub plain : IsPlain s
 
 aim_spelled : (bytes : List ℕ) (aim : ℕ × List ℕ) → aim_of bytes ≡ Some aim
-    → (bytes ≡ decimal aim.0 ++ 32 ∷ aim.1) × ((aim.0 < workers) × (is_target aim.1 ≡ true))
+    → (bytes ≡ decimal aim.0 ++ 32 ∷ aim.1) × ((aim.0 < most_workers) × (is_target aim.1 ≡ true))
 unfolding aim_of
 aim_spelled bytes aim e =
     let parts = bound (cut_at 32 bytes) _ aim e in
     let worker = bound (worker_of parts.0.0) _ aim parts.2 in
     let is = cond_some (is_target parts.0.1) _ aim worker.2 in
-    let number = number_spelled workers parts.0.0 worker.0 (omega arith) worker.1 in
-    let P : ℕ × List ℕ → Type 0 = λ x. (bytes ≡ decimal x.0 ++ 32 ∷ x.1) × ((x.0 < workers) × (is_target x.1 ≡ true)) in
+    let number = number_spelled most_workers parts.0.0 worker.0 (omega arith) worker.1 in
+    let P : ℕ × List ℕ → Type 0 = λ x. (bytes ≡ decimal x.0 ++ 32 ∷ x.1) × ((x.0 < most_workers) × (is_target x.1 ≡ true)) in
     subst P is.1 (cut_spelled 32 bytes parts.0.0 parts.0.1 parts.1 ∙ ap (λ ds. ds ++ 32 ∷ parts.0.1) number.0, (number.1, is.0))
 
 take_spelled : (line : List ℕ) (s : Step) → take_of line ≡ Some s → IsLine line s
@@ -57,7 +58,7 @@ unfolding publish_of
 publish_spelled line s e =
     let rest = bound (behind (codes "publish ") line) _ s e in
     let worker = bound (worker_of rest.0) _ s rest.2 in
-    let number = number_spelled workers rest.0 worker.0 (omega arith) worker.1 in
+    let number = number_spelled most_workers rest.0 worker.0 (omega arith) worker.1 in
     let same : publish worker.0 ≡ s = cc in
     subst (λ (x : Step). IsLine line x) same
     (record { spelled = behind_spelled (codes "publish ") line rest.0 rest.1 ∙ ap (λ ds. codes "publish " ++ ds) number.0; step = number.1; plain = tt })

@@ -13,7 +13,8 @@ use Rattle.script_value.specs.Texts.{lacks}
 use Rattle.script_value.proofs.Options.{bound}
 use Rattle.script_value.proofs.Cuts.{behind_spelled, cut_spelled, cut_found, lacking}
 use Rattle.script_value.proofs.Numerals.{number_spelled, number_found, decimal_digits}
-use Rattle.play_steps.specs.Step.{Step, take, publish, get, tick, crash, compact, edit, crash_edited, is_target, is_target_byte, aim_of, take_of, publish_of, get_of, tick_of, crash_of, compact_of, step_of, edit_head, first_step, steps_of, line_of, lines_in, lines_of, newlines, workers, IsStep, IsWithin, AreSteps}
+use Rattle.server_limits.specs.Counts.{most_workers}
+use Rattle.play_steps.specs.Step.{Step, take, publish, get, tick, crash, compact, edit, crash_edited, is_target, is_target_byte, aim_of, take_of, publish_of, get_of, tick_of, crash_of, compact_of, step_of, edit_head, first_step, steps_of, line_of, lines_in, lines_of, newlines, IsStep, IsWithin, AreSteps}
 use Rattle.play_steps.specs.declared.step.Step as code
 use Rattle.play_steps.specs.Views.{meaning, step_found as read_as}
 use Rattle.play_steps.specs.Laws.{LinesAreSteps, LinesAreCounted}
@@ -95,18 +96,18 @@ read_within bytes (Some found) e = step_within (meaning found.0) (first_spelled 
 
 -- what is spelled so is read
 
-aim_found : (worker : ℕ) (target : List ℕ) → worker < workers → is_target target ≡ true
+aim_found : (worker : ℕ) (target : List ℕ) → worker < most_workers → is_target target ≡ true
     → aim_of (decimal worker ++ 32 ∷ target) ≡ Some (worker, target)
 unfolding aim_of
 aim_found worker target small is =
     let parts = cut_found 32 (decimal worker) target (lacking is_ascii_digit 32 refl (decimal worker) (decimal_digits worker (omega arith))) in
-    let number = number_found workers worker (omega arith) small in
+    let number = number_found most_workers worker (omega arith) small in
     rw (parts, number, is) refl
 
 step_found : (s : Step) → IsPlain s → IsStep s → step_of (line_of s) ≡ Some s
 unfolding step_of take_of publish_of get_of tick_of crash_of compact_of
 step_found (take worker target) plain is = let aim = aim_found worker target is.0 is.1 in rw aim refl
-step_found (publish worker) plain is = let number = number_found workers worker (omega arith) is in rw number refl
+step_found (publish worker) plain is = let number = number_found most_workers worker (omega arith) is in rw number refl
 step_found (get worker target) plain is = let aim = aim_found worker target is.0 is.1 in rw aim refl
 step_found (tick time) plain is = let number = number_found (2 ^ 62) time (omega arith) is in rw number refl
 step_found (crash shelf) plain is = let number = number_found (2 ^ 32) shelf (omega arith) is in rw number refl
@@ -139,7 +140,7 @@ head_found name size spaceless short =
 digits_lack : (n : ℕ) → n < 2 ^ 64 → lacks 10 (decimal n) ≡ true
 digits_lack n small = lacking is_ascii_digit 10 refl (decimal n) (decimal_digits n small)
 
-aim_lacks : (worker : ℕ) (target : List ℕ) → worker < workers → is_target target ≡ true → lacks 10 (decimal worker ++ 32 ∷ target) ≡ true
+aim_lacks : (worker : ℕ) (target : List ℕ) → worker < most_workers → is_target target ≡ true → lacks 10 (decimal worker ++ 32 ∷ target) ≡ true
 aim_lacks worker target small is =
     let digits_have = digits_lack worker (omega arith) in
     let target_has = lacking is_target_byte 10 refl target (and_parts _ (list_all is_target_byte target) is).1 in

@@ -4,6 +4,7 @@ use Rattle.std.specs.Fmt.{decimal}
 use Rattle.std.specs.List.{list_all, list_any}
 use Rattle.script_value.specs.Texts.{lacks}
 use Rattle.script_value.specs.Pieces.{◌>>=◌, cut_at, behind, number_below}
+use Rattle.server_limits.specs.Counts.{most_workers}
 
 -- A step: a worker takes a ticket for a target, publishes its ticket, or does both; each shelf is swept; a shelf's disk crashes, and the
 -- shelf is opened again; a shelf's file is compacted; the script of a name has this text from now on; or a shelf's disk crashes as an edit
@@ -18,13 +19,9 @@ pub data Step : Type 0 where
   edit : (name text : List ℕ) → Step
   crash_edited : (shelf : ℕ) → Step
 
--- how many workers there are, each of which may hold a ticket
-abbrev pub workers : ℕ
-workers = 16
-
--- the worker that a number below 16 names, in decimal
+-- the worker that a number below the most names, in decimal
 abbrev pub worker_of : List ℕ → Option ℕ
-worker_of digits = number_below workers digits
+worker_of digits = number_below most_workers digits
 
 -- a byte from `!` to `~`
 abbrev pub is_target_byte : ℕ → Bool
@@ -191,9 +188,9 @@ lines_of (s ∷ steps) = line_of s ++ 10 ∷ lines_of steps
 -- the worker, the target, the time and the shelf of a step that lines spell are in their ranges; an edit's name has no space and no
 -- newline, and its text is not too long
 abbrev pub IsStep : Step → Type 0
-IsStep (take worker target) = (worker < workers) × (is_target target ≡ true)
-IsStep (publish worker) = worker < workers
-IsStep (get worker target) = (worker < workers) × (is_target target ≡ true)
+IsStep (take worker target) = (worker < most_workers) × (is_target target ≡ true)
+IsStep (publish worker) = worker < most_workers
+IsStep (get worker target) = (worker < most_workers) × (is_target target ≡ true)
 IsStep (tick time) = time < 2 ^ 62
 IsStep (crash shelf) = shelf < 2 ^ 32
 IsStep (compact shelf) = shelf < 2 ^ 32
@@ -202,9 +199,9 @@ IsStep (crash_edited shelf) = ⊥
 
 -- the worker, the time and the shelf of a step are in their ranges, whatever its target is
 abbrev pub IsWithin : Step → Type 0
-IsWithin (take worker target) = worker < workers
-IsWithin (publish worker) = worker < workers
-IsWithin (get worker target) = worker < workers
+IsWithin (take worker target) = worker < most_workers
+IsWithin (publish worker) = worker < most_workers
+IsWithin (get worker target) = worker < most_workers
 IsWithin (tick time) = time < 2 ^ 62
 IsWithin (crash shelf) = shelf < 2 ^ 32
 IsWithin (compact shelf) = shelf < 2 ^ 32

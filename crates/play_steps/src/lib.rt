@@ -14,7 +14,7 @@ pub use performing::{Halt, fits, perform};
 pub use report::{Report, print};
 pub use run::{PlayEnd, play};
 pub use stage::{Reopen, Stage};
-pub use step::{Step, TEXT_LIMIT, WORKERS, read_step};
+pub use step::{Step, TEXT_LIMIT, read_step};
 
 /// Over any stage, a run of steps and then of others is the run of the first, and then that of the
 /// others over what the first leave. Where the first end at a line, it is theirs alone.

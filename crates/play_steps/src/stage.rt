@@ -1,7 +1,7 @@
 ghost use Rattle.std.specs.Prelude.{◌≡◌, ◌≤◌, ℕ, ◌<◌, ◌^◌, List, Bool, true, false, IsTrue, IfOk, IfErr, OnOk, OnErr, IsErrOf};
 ghost use Rattle.web_outside.specs.Causes.{Rose};
 ghost use Rattle.play_steps.specs.Rules.{StageRules, Takes, Publishes, Sweeps, Compacts, Crashes, Edits, KeepsShelves, RoseOver, StaysAt, StaysFirst, StaysUp, StaysHome};
-ghost use Rattle.play_steps.specs.Step.{workers};
+ghost use Rattle.server_limits.specs.Counts.{most_workers};
 ghost use Rattle.play_steps.specs.declared.stage.Reopen.{Reopen};
 
 use script_value::Reply;
@@ -22,7 +22,7 @@ pub enum Reopen {
     Memory,
 }
 
-/// What performs the events of a run's steps: shelves, and the tickets that `WORKERS` workers hold.
+/// What performs the events of a run's steps: shelves, and the tickets that `MOST_WORKERS` workers hold.
 pub trait Stage {
     /// Where shelves that crash find their disks. It is lent for each call that needs it.
     type Devices;
@@ -63,16 +63,16 @@ pub trait Stage {
         requires { sound self.now }
         ensures { result ≡ rules.shelves (state self.now) };
 
-    /// Whether the worker, below `WORKERS`, holds a ticket.
+    /// Whether the worker, below `MOST_WORKERS`, holds a ticket.
     fn holds(&self, worker: u32) -> bool
-        requires { worker < workers }
+        requires { worker < most_workers }
         ensures { result ≡ rules.holds (state self.now) worker };
 
     /// Draws a number for a visit of the target, and the worker holds its ticket; or the reply that
     /// says why not.
     fn take(&mut self, worker: u32, target: &[u8]) -> Result<u64, Reply>
         requires sound { sound self.old }
-        requires worker { worker < workers }
+        requires worker { worker < most_workers }
         requires free { rules.holds (state self.old) worker ≡ false }
         ensures step { own self.old → Takes rules (RoseOver (faults self.old) (faults self.new))
             (state self.old) worker target.now result (state self.new) }
@@ -86,7 +86,7 @@ pub trait Stage {
     /// Runs the visit that the worker's ticket is for, and spends the ticket.
     fn publish(&mut self, worker: u32) -> Reply
         requires sound { sound self.old }
-        requires worker { worker < workers }
+        requires worker { worker < most_workers }
         requires held { rules.holds (state self.old) worker ≡ true }
         ensures step { own self.old → Publishes rules (RoseOver (faults self.old) (faults self.new))
             (state self.old) worker result (state self.new) }

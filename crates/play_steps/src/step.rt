@@ -1,13 +1,12 @@
 ghost use Rattle.std.specs.Prelude.{◌≡◌, ◌≤◌, ◌<◌, ◌^◌, Some, None, true, length, option_map, IfSome};
 ghost use Rattle.std.specs.List.{list_all};
 ghost use Rattle.script_value.specs.Pieces.{number_below};
+ghost use Rattle.server_limits.specs.Counts.{most_workers};
 ghost use Rattle.play_steps.specs.Step as spec;
 ghost use Rattle.play_steps.specs.Views.{meaning, step_found};
 
 use script_value::pieces::{behind, cut_at, number, small_number};
-
-/// How many workers hold tickets.
-pub const WORKERS: u32 = 16;
+use server_limits::MOST_WORKERS;
 
 /// How many bytes the text of an edit has at most.
 pub const TEXT_LIMIT: u64 = 16_777_216;
@@ -69,10 +68,14 @@ impl Step<'_> {
 // The number of a worker.
 fn worker_of(digits: &[u8]) -> Option<u32>
     ensures spelled { result ≡ spec.worker_of digits.now }
-    ensures range { IfSome result (λ worker. worker < spec.workers) }
+    ensures range { IfSome result (λ worker. worker < most_workers) }
 {
     let worker = small_number(digits)?;
-    if worker < WORKERS { Some(worker) } else { None }
+    if worker < MOST_WORKERS {
+        Some(worker)
+    } else {
+        None
+    }
 }
 
 // The number of a shelf.
@@ -116,7 +119,7 @@ fn is_target(target: &[u8]) -> bool
 #[tactic(auto, unfolding(crate::specs::Step::aim_of))]
 fn aim_of(bytes: &[u8]) -> Option<(u32, &[u8])>
     ensures spelled { option_map (λ aim. (aim.0, aim.1.now)) result ≡ spec.aim_of bytes.now }
-    ensures worker { IfSome result (λ aim. aim.0 < spec.workers) }
+    ensures worker { IfSome result (λ aim. aim.0 < most_workers) }
     ensures target { IfSome result (λ aim. spec.is_target aim.1.now ≡ true) }
 {
     let (digits, target) = cut_at(b' ', bytes)?;
@@ -233,7 +236,7 @@ fn edit_with<'a>(name: &'a [u8], length: usize, bytes: &'a [u8]) -> Option<(Step
 }
 
 /// The step at the front of these bytes, and the bytes behind its lines. A step is a line:
-/// `take W TARGET`, `publish W` or `get W TARGET` of a worker below `WORKERS`, `tick T` of a time
+/// `take W TARGET`, `publish W` or `get W TARGET` of a worker below `MOST_WORKERS`, `tick T` of a time
 /// below 2^62, in seconds, or `crash S` or `compact S` of a shelf; or the line `edit NAME LENGTH`, so many bytes, at
 /// most `TEXT_LIMIT`, and a newline.
 #[tactic(auto, unfolding(crate::specs::Step::first_step), using(crate::proofs::Within::step_within))]

@@ -3,7 +3,8 @@ use Rattle.std.proofs.Common.{◌≤◌, List, [], ◌∷◌, ℕ, length, arith
 use Rattle.script_nodes.specs.Setup.{Named}
 use Rattle.page_follower.specs.OfShelf.JournalRecords.Records.{texts_of}
 use Rattle.server_limits.specs.Limits.{most_shelves}
-use Rattle.setup_reader.specs.Limits.{AreShort, most_scripts}
+use Rattle.server_limits.specs.Counts.{most_scripts}
+use Rattle.setup_reader.specs.Limits.{AreShort}
 use Rattle.play_desk.proofs.Firsts.{texts_fit}
 use Rattle.server_command.specs.Opening.{CanBegin}
 

@@ -1,7 +1,8 @@
 ghost use Rattle.std.specs.Prelude.{◌≡◌, ◌≤◌, length, IfErr, IfOk, IsErrOf, OnOk};
 ghost use Rattle.web_outside.specs.Causes.{Rose};
 ghost use Rattle.script_nodes.specs.Views.{scripts_of};
-ghost use Rattle.setup_reader.specs.Limits.{AreShort, most_scripts};
+ghost use Rattle.server_limits.specs.Counts.{most_scripts};
+ghost use Rattle.setup_reader.specs.Limits.{AreShort};
 ghost use Rattle.setup_reader.specs.Texts.{IsReadSetup};
 ghost use Rattle.play_desk.specs.declared.opening.OpenFault.{OpenFault};
 ghost use Rattle.server_command.specs.declared.auditing.AuditEnd.{AuditEnd};

@@ -8,10 +8,6 @@ use Rattle.sexp_reader.specs.Limits.{most_bytes}
 abbrev pub most_script_bytes : ℕ
 most_script_bytes = most_of_input
 
--- how many scripts a setup may have
-abbrev pub most_scripts : ℕ
-most_scripts = 15
-
 -- how many bytes the name of a script may have
 abbrev pub most_name_bytes : ℕ
 most_name_bytes = 32

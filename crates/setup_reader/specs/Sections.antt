@@ -8,7 +8,7 @@ use Rattle.core_syntax.specs.Definitions.{expanded}
 use Rattle.script_nodes.specs.Setup.{Named, place_named}
 use Rattle.setup_reader.specs.declared.setup.Ending.{Ending}
 use Rattle.setup_reader.specs.declared.setup.Ending.TheVariants.{Steps, Input}
-use Rattle.setup_reader.specs.Limits.{most_scripts}
+use Rattle.server_limits.specs.Counts.{most_scripts}
 use Rattle.setup_reader.specs.Setup.{Parsed}
 
 -- the section of a script: `script NAME LENGTH`, the script's bytes and a newline

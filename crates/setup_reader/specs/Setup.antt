@@ -8,7 +8,8 @@ use Rattle.sexp_reader.specs.Read.{read}
 use Rattle.core_syntax.specs.declared.faults.SyntaxKind.{SyntaxKind}
 use Rattle.core_syntax.specs.Definitions.{expanded}
 use Rattle.script_nodes.specs.Setup.{Script, Named, place_named}
-use Rattle.setup_reader.specs.Limits.{most_script_bytes, most_scripts}
+use Rattle.server_limits.specs.Counts.{most_scripts}
+use Rattle.setup_reader.specs.Limits.{most_script_bytes}
 use Rattle.setup_reader.specs.declared.setup.Ending.{Ending}
 use Rattle.setup_reader.specs.declared.setup.Ending.TheVariants.{Steps, Input}
 use Rattle.setup_reader.specs.declared.fault.SetupKind.{SetupKind}

@@ -10,7 +10,8 @@ use Rattle.script_nodes.specs.Setup.{Named, place_named}
 use Rattle.setup_reader.specs.declared.setup.Ending.{Ending}
 use Rattle.setup_reader.specs.declared.fault.SetupKind.{SetupKind}
 use Rattle.setup_reader.specs.declared.fault.SetupKind.TheVariants.{Section, Repeat, Many, Empty, End}
-use Rattle.setup_reader.specs.Limits.{most_script_bytes, most_scripts}
+use Rattle.server_limits.specs.Counts.{most_scripts}
+use Rattle.setup_reader.specs.Limits.{most_script_bytes}
 use Rattle.setup_reader.specs.Setup.{Fault, at_section, at_text, at_form}
 use Rattle.setup_reader.specs.Sections.{section_text, setup_text, IsEnd, AreScripts}
 

@@ -5,7 +5,7 @@ use Rattle.std.specs.Str.{bytes_eq}
 use Rattle.page_names.specs.Names.{name_in}
 use Rattle.script_value.specs.Pieces.{◌>>=◌}
 use Rattle.script_nodes.specs.Setup.{Named, place_named, texts_of}
-use Rattle.setup_reader.specs.Limits.{most_scripts}
+use Rattle.server_limits.specs.Counts.{most_scripts}
 use Rattle.setup_reader.specs.Setup.{Fault, script_in}
 
 -- a script that was read, where there was no fault

@@ -2,7 +2,8 @@ ghost use Rattle.std.specs.Prelude.{◌≡◌, ◌≢◌, ◌≤◌, ◌<◌, le
 ghost use Rattle.page_names.specs.Views.{name_of};
 ghost use Rattle.script_value.specs.Pieces.{number_below};
 ghost use Rattle.script_nodes.specs.Views.{scripts_of, named_of};
-ghost use Rattle.setup_reader.specs.Limits.{AreShort, most_script_bytes, most_scripts};
+ghost use Rattle.server_limits.specs.Counts.{most_scripts};
+ghost use Rattle.setup_reader.specs.Limits.{AreShort, most_script_bytes};
 ghost use Rattle.setup_reader.specs.Setup as spec;
 ghost use Rattle.setup_reader.specs.Answers.{FindsSpelled, TellsFirst};
 ghost use Rattle.setup_reader.specs.Views.{Gives, FindsNext, Tells, parsed_of};
@@ -16,12 +17,10 @@ use page_names::ScriptName;
 use script_nodes::{NamedScript, Setup};
 use script_value::Bytes;
 use script_value::pieces::{behind, cut_at, number};
+use server_limits::MOST_SCRIPTS;
 use sexp_reader::{ReadFault, read_all};
 use std::alloc::{AllocError, Global};
 use web_outside::INPUT_LIMIT;
-
-/// The most scripts that a setup has.
-pub const MOST_SCRIPTS: usize = 15;
 
 /// What ends a setup.
 #[derive(Clone, Copy, Debug, PartialEq, Eq)]

@@ -1,13 +1,14 @@
 ghost use Rattle.std.specs.Prelude.{◌≡◌, ◌&&◌, nat_le, map, option_map, IfOk};
 ghost use Rattle.script_nodes.specs.Views.{scripts_of, named_of};
-ghost use Rattle.setup_reader.specs.Limits.{most_scripts};
+ghost use Rattle.server_limits.specs.Counts.{most_scripts};
 ghost use Rattle.setup_reader.specs.Texts.{script_of_text, setup_of_texts, if_new};
 ghost use Rattle.setup_reader.specs.Views.{told_of};
 
 use crate::fault::SetupFault;
-use crate::setup::{MOST_SCRIPTS, compile};
+use crate::setup::compile;
 use page_names::ScriptName;
 use script_nodes::{NamedScript, ScriptText, Setup};
+use server_limits::MOST_SCRIPTS;
 use std::alloc::{AllocError, Global};
 
 /// The script of a name and a text: none where the name is no script's name, or the text is outside the grammar.

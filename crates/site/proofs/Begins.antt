@@ -23,12 +23,13 @@ use Rattle.lock_row.specs.Spots.{Spot, Home, Homes, one_dealt, IsOf, caller_at, 
 use Rattle.lock_row.specs.Rows.{IsNewPass}
 use Rattle.lock_row.proofs.Lockings.{get_front}
 use Rattle.lock_row.proofs.Places.{one_of, get_there, map_get, get_map, map_map, map_length}
+use Rattle.server_limits.specs.Counts.{most_workers}
 use Rattle.site.specs.declared.entry.KeptEntry.{KeptEntry}
 use Rattle.site.specs.declared.kept.KeptShelf.{KeptShelf}
 use Rattle.site.specs.declared.opening.Opening.{Opening}
 use Rattle.site.specs.declared.site.Site.{Site}
 use Rattle.site.specs.Passes.{Spots}
-use Rattle.site.specs.Beginnings.{AreNew, AreCopies, LosesNothing, rules_for, IsOpenedOn, IsBegun, IsFreshOn, AreFreshOn, IsReturned, IsUnopened, AreUnopened, IsUnder, IsWhole, IsFirstPass, given_out, most_passes}
+use Rattle.site.specs.Beginnings.{AreNew, AreCopies, LosesNothing, rules_for, IsOpenedOn, IsBegun, IsFreshOn, AreFreshOn, IsReturned, IsUnopened, AreUnopened, IsUnder, IsWhole, IsFirstPass, given_out}
 
 module _ {A : Type 0} where
   pub at_here : (xs : List A) (x : A) (rest : List A) → slice_get (xs ++ x ∷ rest) (length xs) ≡ Some x
@@ -320,7 +321,7 @@ module _ {D N : Type 0} where
 
 -- one pass more was dealt
 pub given_next : {O : Type 0} (row : Homes O) (n : ℕ) → one_dealt (given_out n row) ≡ given_out (n + 1) row
-given_next row n = let same : most_passes - n - 1 ≡ most_passes - (n + 1) = omega arith in λ i. record { homes = row.homes; seats = n + 1; left = same i }
+given_next row n = let same : most_workers - n - 1 ≡ most_workers - (n + 1) = omega arith in λ i. record { homes = row.homes; seats = n + 1; left = same i }
 
 -- ---- disks that were not opened
 

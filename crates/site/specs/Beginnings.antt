@@ -2,6 +2,7 @@
 use Rattle.std.specs.Prelude.{◌≡◌, ◌≢◌, ◌⊎◌, ◌≤◌, ◌<◌, ◌-◌, ◌^◌, ℕ, Bool, false, IsTrue, List, [], ◌∷◌, ◌+◌, length, map, reverse, Some, slice_get, vec_len, vec_capacity}
 use Rattle.std.specs.Global.{Vec}
 use Rattle.std.specs.List.{AllByRecursion}
+use Rattle.server_limits.specs.Counts.{most_workers}
 use Rattle.web_disk.specs.declared.disk.Disk.{Ghosts}
 use Rattle.disk_trio.specs.declared.trio.Disks.{Disks}
 use Rattle.web_outside.specs.Causes.{Rose}
@@ -32,10 +33,6 @@ use Rattle.site.specs.Keeping.{IsSoundShelf}
 use Rattle.site.specs.Openings.{opened_library}
 use Rattle.site.specs.Passes.{Spots}
 use Rattle.site.specs.Sites.{IsOwn, library_at}
-
--- how many passes a site gives, at most
-abbrev pub most_passes : ℕ
-most_passes = 16
 
 -- the limits of the shelf of this number
 abbrev pub rules_for : Rules → ℕ → Rules
@@ -165,7 +162,7 @@ module _ {D N : Type 0} where
     pub libraries : AreCopies ks locked.libraries
     pub homes : map (λ (h : Home (Opening D N)). h.opening) locked.row.homes ≡ map (λ (k : KeptShelf D N). k.opened ∷ []) ks
     pub seats : locked.row.seats ≡ 0
-    pub left : locked.row.left ≡ most_passes
+    pub left : locked.row.left ≡ most_workers
 
   -- the site of these shelves, with this fuel for a visit and with room for what it hands back
   abbrev pub site_of : Locked D N → (fuel : ℕ) → Vec D → Vec N → Vec (List KeptEntry) → Site D N
@@ -210,7 +207,7 @@ pub record IsNotBegun {D N : Type 0} (view : D → View) (tells : Bool) (scripts
 
 -- so many callers have their pass
 abbrev pub given_out : {O : Type 0} → ℕ → Homes O → Homes O
-given_out n row = record { homes = row.homes; seats = n; left = most_passes - n }
+given_out n row = record { homes = row.homes; seats = n; left = most_workers - n }
 
 module _ {D N : Type 0} where
   -- the shelf at this place was opened with the scripts that the site has for it, and with its fuel for a visit
@@ -241,7 +238,7 @@ module _ {D N : Type 0} where
   pub record IsReady (site : Site D N) : Type 0 where
     pub whole : IsWhole site
     pub given : site.row.seats ≡ 0
-    pub left : site.row.left ≡ most_passes
+    pub left : site.row.left ≡ most_workers
 
   -- a pass of the site that has seen nothing, of this caller
   pub record IsFirstPass (site : Site D N) (caller : ℕ) (pass : Spots D N) : Type 0 where

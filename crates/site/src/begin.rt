@@ -17,14 +17,12 @@ use disk_trio::Disks;
 use ghost_history::History;
 use lock_row::LockRow;
 use script_nodes::{Library, Setup};
+use server_limits::MOST_WORKERS;
 use shelf::{BeginFault, Rules, Shelf};
 use std::alloc::{AllocError, Global};
 use std::sync::Wait;
 use web_disk::Disk;
 use web_outside::Nonces;
-
-/// How many passes a site gives, at most.
-pub const MOST_PASSES: u32 = 16;
 
 impl<F: Disk, N: Nonces + Drop> Site<Disks<F>, N> {
     ghost use Rattle.site.specs.Beginnings.{IsBegun, IsNotBegun, IsReady};
@@ -85,13 +83,14 @@ impl<F: Disk, N: Nonces + Drop> Site<Disks<F>, N> {
 impl<D: Disk, N: Nonces + Drop> Site<D, N> {
     ghost use Rattle.site.specs.Sites.{IsOwn};
     ghost use Rattle.site.specs.Ends.{AreBack, AllAreSeen};
-    ghost use Rattle.site.specs.Beginnings.{IsReady, IsWhole, AreFirstPasses, GivesOut, most_passes};
+    ghost use Rattle.server_limits.specs.Counts.{most_workers};
+    ghost use Rattle.site.specs.Beginnings.{IsReady, IsWhole, AreFirstPasses, GivesOut};
 
-    /// The passes of so many workers, 1 to `MOST_PASSES`: that of place k is for worker k, and has seen nothing. Want of memory changes
+    /// The passes of so many workers, 1 to `MOST_WORKERS`: that of place k is for worker k, and has seen nothing. Want of memory changes
     /// nothing; else the site gives no others.
     pub fn passes(&mut self, alloc: Global, n: u32) -> Result<Vec<SitePass<D, N>>, AllocError>
         requires ready { IsReady self.old }
-        requires count { (1 ≤ n) × (n ≤ most_passes) }
+        requires count { (1 ≤ n) × (n ≤ most_workers) }
         ensures whole { IsWhole self.new }
         ensures memory { OnErr result (self.new ≡ self.old) }
         ensures given { OnOk result (GivesOut n self.old self.new) }
@@ -280,7 +279,7 @@ fn lock_all<R: Wait, D: Disk, N: Nonces + Drop>(
     let Ok(libraries) = copies(alloc, &shelves) else {
         return Err(shelves);
     };
-    match LockRow::new(rt, alloc, shelves, MOST_PASSES) {
+    match LockRow::new(rt, alloc, shelves, MOST_WORKERS) {
         Ok(row) => Ok(Locked { libraries, row }),
         Err(shelves) => Err(shelves),
     }

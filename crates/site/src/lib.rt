@@ -13,7 +13,6 @@ mod running;
 mod site;
 mod tick;
 
-pub use begin::MOST_PASSES;
 pub use entry::{Did, KeptEntry};
 pub use fault::SiteFault;
 use history_spec::{books_behind_are_sound, closed_is_closed, histories_go_on};

@@ -5,11 +5,6 @@ use Rattle.request_workers.specs.Tallies.{count_of}
 use Rattle.request_workers.specs.declared.tally.Tally.{Tally}
 use Rattle.request_workers.specs.declared.tally.WorkEnd.{WorkEnd}
 use Rattle.request_workers.specs.declared.tally.WorkEnd.TheVariants as ends
-use Rattle.site.specs.Beginnings.{most_passes}
-
--- how many workers work at once, at most
-abbrev pub most_workers : ℕ
-most_workers = most_passes
 
 -- What workers counted together.
 abbrev pub total : List Tally → Count

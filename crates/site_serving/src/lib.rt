@@ -19,7 +19,7 @@ pub use tallies::total;
 use web_disk::Disk;
 use web_outside::Nonces;
 pub use worker::{Room, Worker};
-pub use workers::{MOST_WORKERS, serve_all};
+pub use workers::serve_all;
 
 /// A shelf that follows another one's journal shows no page: each visit is told that it follows, or why it is put off else.
 pub fn followers_put_visits_off<D: Disk, N: Nonces>()

@@ -2,7 +2,8 @@
 ghost use Rattle.std.specs.Prelude.{◌≡◌, ◌≤◌, ℕ, Some, length, slice_get, vec_len, IfOk, IsErrOf, IsTrue, OnErr};
 ghost use Rattle.disk_trio.specs.Trio.{trio_view};
 ghost use Rattle.site_serving.specs.Workers.{IsRoomFor};
-ghost use Rattle.site.specs.Beginnings.{IsFirstPass, IsReady, IsWhole, most_passes};
+ghost use Rattle.server_limits.specs.Counts.{most_workers};
+ghost use Rattle.site.specs.Beginnings.{IsFirstPass, IsReady, IsWhole};
 ghost use Rattle.site_serving.specs.Serving.{AreUntouched, ComesTo, EndsAs, HasFailed, IsManned, fault_of, most_requests, openings_in, pasts_of, views};
 
 use crate::keeping::Past;
@@ -21,7 +22,7 @@ use web_outside::{CONNECTION_LIMIT, Clock, Door, DoorFault, Gate, Link, Nonces, 
 pub struct Watch {
     /// The port to listen at.
     pub port: u16,
-    /// How many workers there are, 1 to `site::MOST_PASSES`.
+    /// How many workers there are, 1 to `MOST_WORKERS`.
     pub workers: u32,
     /// The most links that each of them serves.
     pub connections: u64,
@@ -61,7 +62,7 @@ fn gather<D: Disk, N: Nonces + Drop, P>(
     count: u32,
 ) -> Result<Crew<D, N, P>, AllocError>
     requires ready { IsReady site.old }
-    requires range { (1 ≤ count) × (count ≤ most_passes) }
+    requires range { (1 ≤ count) × (count ≤ most_workers) }
     ensures whole { IsWhole site.new }
     ensures homes { site.new.row.homes ≡ site.old.row.homes }
     ensures manned { IfOk result (λ c. IsManned site.new count c.passes.items) }
@@ -127,7 +128,7 @@ where
     <<A::Porch as Porch>::Link as Link>::Output: Send,
     requires whole { IsWhole site }
     requires manned { IsManned site (vec_len passes) passes.items }
-    requires few { vec_len passes ≤ most_passes }
+    requires few { vec_len passes ≤ most_workers }
     requires pairs { vec_len porches ≡ vec_len passes }
     requires room { IsRoomFor (vec_len passes) room }
     requires requests { (1 ≤ requests) × (requests ≤ most_requests) }
@@ -191,7 +192,7 @@ where
     <<A::Porch as Porch>::Link as Link>::Input: Send,
     <<A::Porch as Porch>::Link as Link>::Output: Send,
     requires ready { IsReady site }
-    requires workers { (1 ≤ watch.now.workers) × (watch.now.workers ≤ most_passes) }
+    requires workers { (1 ≤ watch.now.workers) × (watch.now.workers ≤ most_workers) }
     requires links { watch.now.connections ≤ CONNECTION_LIMIT }
     requires requests { (1 ≤ watch.now.requests) × (watch.now.requests ≤ most_requests) }
     ensures disks { length result.0.items ≡ length site.row.homes }

@@ -1,7 +1,8 @@
 //! What workers counted together.
 ghost use Rattle.std.specs.Prelude.{◌≡◌, ◌≤◌, ◌*◌, ◌+◌, All, length};
 ghost use Rattle.request_workers.specs.Tallies.{count_of, IsBelow};
-ghost use Rattle.site_serving.specs.Totals.{end_of, end_with, most_workers, total};
+ghost use Rattle.server_limits.specs.Counts.{most_workers};
+ghost use Rattle.site_serving.specs.Totals.{end_of, end_with, total};
 
 use request_workers::{Tally, WorkEnd};
 

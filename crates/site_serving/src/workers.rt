@@ -6,13 +6,10 @@ use crate::crew::{dismiss_all, hire_all};
 use crate::worker::{Room, Worker};
 use http_forms::Answering;
 use request_workers::{Tally, work};
-use site::MOST_PASSES;
+use server_limits::MOST_WORKERS;
 use std::alloc::Global;
 use std::thread::{Threads, for_each_mut};
 use web_outside::{Clock, Gate, Link, Porch};
-
-/// The most workers that work at once: each has a pass of its own.
-pub const MOST_WORKERS: usize = MOST_PASSES as usize;
 
 // Serves the links of the worker's porch.
 fn work_as<A: Answering, P: Porch, C: Clock, G: Gate>(
@@ -68,7 +65,7 @@ where
     for_each_mut(
         rt,
         workers,
-        MOST_WORKERS,
+        MOST_WORKERS as usize,
         &|_, worker| work_as(alloc, answering, worker, clock, gate, requests),
     );
 }
