@@ -5,8 +5,10 @@ mod escapes;
 mod hexadecimal;
 mod names;
 mod parse;
+mod placing;
 mod write;
 
 pub use names::{PageName, ScriptName, Target};
 pub use parse::parse_target;
+pub use placing::shelf_for;
 pub use write::{url_text, write_url};

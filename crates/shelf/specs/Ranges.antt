@@ -1,5 +1,5 @@
 -- The ranges of a shelf's limits.
-use Rattle.std.specs.Prelude.{◌<◌}
+use Rattle.std.specs.Prelude.{ℕ, ◌<◌}
 use Rattle.server_limits.specs.Limits.{AreShelves, IsFuel, IsLife, AreInstances, ArePages}
 use Rattle.shelf.specs.declared.rules.Rules.{Rules}
 
@@ -11,3 +11,7 @@ pub record AreInRange (r : Rules) : Type 0 where
   pub life : IsLife r.life
   pub instances : AreInstances r.instances
   pub pages : ArePages r.pages
+
+-- These limits, for the shelf of this number.
+abbrev pub numbered : Rules → (number : ℕ) → Rules
+numbered rules number = record rules { number = number }

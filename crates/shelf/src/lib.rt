@@ -15,6 +15,7 @@ mod fed;
 mod follower;
 mod migration;
 mod nesting;
+mod numbered;
 mod prepare;
 mod present;
 mod promote;

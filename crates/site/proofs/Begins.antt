@@ -29,7 +29,8 @@ use Rattle.site.specs.declared.kept.KeptShelf.{KeptShelf}
 use Rattle.site.specs.declared.opening.Opening.{Opening}
 use Rattle.site.specs.declared.site.Site.{Site}
 use Rattle.site.specs.Passes.{Spots}
-use Rattle.site.specs.Beginnings.{AreNew, AreCopies, LosesNothing, rules_for, IsOpenedOn, IsBegun, IsFreshOn, AreFreshOn, IsReturned, IsUnopened, AreUnopened, IsUnder, IsWhole, IsFirstPass, given_out}
+use Rattle.shelf.specs.Ranges.{numbered}
+use Rattle.site.specs.Beginnings.{AreNew, AreCopies, LosesNothing, IsOpenedOn, IsBegun, IsFreshOn, AreFreshOn, IsReturned, IsUnopened, AreUnopened, IsUnder, IsWhole, IsFirstPass, given_out}
 
 module _ {A : Type 0} where
   pub at_here : (xs : List A) (x : A) (rest : List A) → slice_get (xs ++ x ∷ rest) (length xs) ≡ Some x
@@ -102,22 +103,22 @@ module _ {D : Type 0} (view : D → View) (tells : Bool) (scripts : List Named) 
   }
 
 module _ {D N : Type 0} (view : D → View) (tells : Bool) (coming : N → ℕ → ℕ) (scripts : List Named) (rules : Rules) where
-  returned_opened : (k : ℕ) (d : D) (n : N) (s : KeptShelf D N) → IsFreshOn view tells coming scripts (rules_for rules k) d n s → IsReturned view tells scripts k d (disk_in s)
+  returned_opened : (k : ℕ) (d : D) (n : N) (s : KeptShelf D N) → IsFreshOn view tells coming scripts (numbered rules k) d n s → IsReturned view tells scripts k d (disk_in s)
   returned_opened k d n s fresh = record { any_moment = fresh.shelf.any_moment; own_moments = fresh.shelf.own_moments; later = fresh.shelf.later }
 
   -- one more was opened
   pub fresh_on : (disks : List D) (nonces : List N) (ks : List (KeptShelf D N)) (number : ℕ) (d : D) (n : N) (s : KeptShelf D N) → AreFreshOn view tells coming scripts rules disks nonces ks → length ks ≡ number
-      → slice_get disks number ≡ Some d → slice_get nonces number ≡ Some n → IsFreshOn view tells coming scripts (rules_for rules number) d n s → AreFreshOn view tells coming scripts rules disks nonces (ks ++ s ∷ [])
+      → slice_get disks number ≡ Some d → slice_get nonces number ≡ Some n → IsFreshOn view tells coming scripts (numbered rules number) d n s → AreFreshOn view tells coming scripts rules disks nonces (ks ++ s ∷ [])
   fresh_on disks nonces ks number d n s fresh many d_is n_is new k x m z x_is m_is z_is =
       snoc_each K ks s (λ i y e a b a_is b_is. fresh i a b y a_is b_is e) here k z z_is x m x_is m_is
     where
       K : ℕ → KeptShelf D N → Type 0
-      K i y = (a : D) (b : N) → slice_get disks i ≡ Some a → slice_get nonces i ≡ Some b → IsFreshOn view tells coming scripts (rules_for rules i) a b y
+      K i y = (a : D) (b : N) → slice_get disks i ≡ Some a → slice_get nonces i ≡ Some b → IsFreshOn view tells coming scripts (numbered rules i) a b y
 
       here : K (length ks) s
       here = subst (λ (i : ℕ). K i s) (sym many) (λ a b a_is b_is.
-          subst (λ (w : D). IsFreshOn view tells coming scripts (rules_for rules number) w b s) (one_of (sym d_is ∙ a_is))
-          (subst (λ (w : N). IsFreshOn view tells coming scripts (rules_for rules number) d w s) (one_of (sym n_is ∙ b_is)) new))
+          subst (λ (w : D). IsFreshOn view tells coming scripts (numbered rules number) w b s) (one_of (sym d_is ∙ a_is))
+          (subst (λ (w : N). IsFreshOn view tells coming scripts (numbered rules number) d w s) (one_of (sym n_is ∙ b_is)) new))
 
   -- the same of lists that were turned
   pub turned_fresh : (disks turned_d : List D) (nonces turned_n : List N) (ks : List (KeptShelf D N)) → turned_d ≡ reverse disks → turned_n ≡ reverse nonces
@@ -128,7 +129,7 @@ module _ {D N : Type 0} (view : D → View) (tells : Bool) (coming : N → ℕ �
 
   module _ (disks : List D) (nonces : List N) (ks : List (KeptShelf D N)) (long : length nonces ≡ length disks) (fresh : AreFreshOn view tells coming scripts rules disks nonces ks) where
     -- the shelf of a place, of those that were opened
-    fresh_at : (k : ℕ) (d : D) (s : KeptShelf D N) → slice_get disks k ≡ Some d → slice_get ks k ≡ Some s → (n : N) × IsFreshOn view tells coming scripts (rules_for rules k) d n s
+    fresh_at : (k : ℕ) (d : D) (s : KeptShelf D N) → slice_get disks k ≡ Some d → slice_get ks k ≡ Some s → (n : N) × IsFreshOn view tells coming scripts (numbered rules k) d n s
     fresh_at k d s d_is s_is =
         let within = slice_get_within disks k d d_is in
         let n = get_there nonces k (omega arith) in (n.0, fresh k d n.0 s d_is n.1 s_is)
@@ -168,7 +169,7 @@ module _ {D N : Type 0} (view : D → View) (tells : Bool) (coming : N → ℕ �
         sym s.2 ∙ (fresh k d.0 y s.0 d.1 y_is s.1).shelf.nonces_are)
 
     -- the shelf at a place
-    pub fresh_there : length ks ≡ length disks → (k : ℕ) (s : KeptShelf D N) → slice_get ks k ≡ Some s → (d : D) × (n : N) × IsFreshOn view tells coming scripts (rules_for rules k) d n s
+    pub fresh_there : length ks ≡ length disks → (k : ℕ) (s : KeptShelf D N) → slice_get ks k ≡ Some s → (d : D) × (n : N) × IsFreshOn view tells coming scripts (numbered rules k) d n s
     fresh_there many k s s_is =
         let within = slice_get_within ks k s s_is in
         let d = get_there disks k (omega arith) in
@@ -195,7 +196,7 @@ module _ {D N : Type 0} (view : D → View) (tells : Bool) (coming : N → ℕ �
             record {
               opening = s.0.opened;
               opening_is = s.2;
-              shelf = subst (λ (z : Shelf D N). IsOpenedOn view tells scripts (rules_for rules k) d n z) (sym f.opened_is) f.shelf;
+              shelf = subst (λ (z : Shelf D N). IsOpenedOn view tells scripts (numbered rules k) d n z) (sym f.opened_is) f.shelf;
             };
       }
 

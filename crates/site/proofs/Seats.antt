@@ -21,7 +21,7 @@ use Rattle.site.specs.declared.opening.Opening.{Opening}
 use Rattle.site.specs.declared.site.Site.{Site}
 use Rattle.site.specs.Openings.{opened_library}
 use Rattle.site.specs.Passes.{Spots, Known, IsSeat, HoldsTicket, Took}
-use Rattle.site.specs.Sites.{IsOwn, library_at, HoldsThere, HoldsAt, IsRunAt, TakesOn, TakesAt, shelf_for}
+use Rattle.site.specs.Sites.{IsOwn, library_at, HoldsThere, HoldsAt, IsRunAt, TakesOn, TakesAt, place_for}
 
 -- what is read at a place of a list stands there
 pub read_at : {A : Type 0} (xs ys : List A) (k : ℕ) (x : A) → xs ≡ ys → k < length xs → x ≡ get_or xs k x → slice_get ys k ≡ Some x
@@ -75,20 +75,20 @@ module _ {D N : Type 0} where
   }
 
   -- the shelf that was found for a target is that of the pass
-  pub found_at : (site : Site D N) (pass : Spots D N) (d : Destination) (k worker : ℕ) (o : Option ℕ) → IsOwn site pass → worker ≡ caller_at pass → o ≡ shelf_for (length site.row.homes) worker d → o ≡ Some k
-      → shelf_for (length pass) (caller_at pass) d ≡ Some k
+  pub found_at : (site : Site D N) (pass : Spots D N) (d : Destination) (k worker : ℕ) (o : Option ℕ) → IsOwn site pass → worker ≡ caller_at pass → o ≡ place_for (length site.row.homes) worker d → o ≡ Some k
+      → place_for (length pass) (caller_at pass) d ≡ Some k
   found_at site pass d k worker o own is found some =
       let len : length pass ≡ length site.row.homes = sym (map_length (λ s. home_of s) pass) ∙ ap length own.of in
-      (λ i. shelf_for (len i) (sym is i) d) ∙ (sym found ∙ some)
+      (λ i. place_for (len i) (sym is i) d) ∙ (sym found ∙ some)
 
 module _ {D N : Type 0} (view : D → View) (tells : Bool) (coming : N → ℕ → ℕ) where
-  pub holds_there : (pass : Spots D N) (t : Ticket) (k : ℕ) → HoldsAt view tells coming pass t → shelf_for (length pass) (caller_at pass) (ticket_of t).target ≡ Some k → HoldsThere view tells coming k pass t
+  pub holds_there : (pass : Spots D N) (t : Ticket) (k : ℕ) → HoldsAt view tells coming pass t → place_for (length pass) (caller_at pass) (ticket_of t).target ≡ Some k → HoldsThere view tells coming k pass t
   holds_there pass t k h is a at =
       let same : h.shelf ≡ k = one_of (sym h.is ∙ is) in
       let spot_is : h.spot ≡ a = one_of (sym h.at ∙ (ap (slice_get pass) same ∙ at)) in
       subst (λ (s : Spot (Opening D N) KeptEntry). HoldsTicket view tells coming s.known t) spot_is h.holds
 
-  holds_on_shelf : (old new : Spots D N) (target : Destination) (answer : Val) (t : Ticket) (o : Option ℕ) → shelf_for (length old) (caller_at old) target ≡ o → TakesOn view tells coming o old target answer (Ok t) new → HoldsAt view tells coming new t
+  holds_on_shelf : (old new : Spots D N) (target : Destination) (answer : Val) (t : Ticket) (o : Option ℕ) → place_for (length old) (caller_at old) target ≡ o → TakesOn view tells coming o old target answer (Ok t) new → HoldsAt view tells coming new t
   holds_on_shelf old new target answer t None is h = absurd (let no = h.0 in let z : ⊥ = cc in z)
   holds_on_shelf old new target answer t (Some k) is at =
       let R : Known D N → Known D N → Type 0 = λ v w. Took view tells coming v target answer (Ok t) w in
@@ -96,7 +96,7 @@ module _ {D N : Type 0} (view : D → View) (tells : Bool) (coming : N → ℕ �
       let len : length new ≡ length old = ap length at.3 ∙ length-set old k (spot at.0.table at.1) in
       record {
         shelf = k;
-        is = (λ i. shelf_for (len i) (worker i) (at.4.target_is i)) ∙ is;
+        is = (λ i. place_for (len i) (worker i) (at.4.target_is i)) ∙ is;
         spot = spot at.0.table at.1;
         at = there k R old new at;
         holds = at.4.holds;
@@ -104,24 +104,24 @@ module _ {D N : Type 0} (view : D → View) (tells : Bool) (coming : N → ℕ �
 
   -- the ticket that a take gave is held by the pass
   pub takes_holds : (old new : Spots D N) (target : Destination) (answer : Val) (t : Ticket) → TakesAt view tells coming old target answer (Ok t) new → HoldsAt view tells coming new t
-  takes_holds old new target answer t h = holds_on_shelf old new target answer t (shelf_for (length old) (caller_at old) target) refl h
+  takes_holds old new target answer t h = holds_on_shelf old new target answer t (place_for (length old) (caller_at old) target) refl h
 
   -- the scripts of the shelf that a held ticket is on stand in the site
   pub library_held : (site : Site D N) (pass : Spots D N) (t : Ticket) (k : ℕ) → IsOwn site pass → (h : HoldsAt view tells coming pass t)
-      → shelf_for (length pass) (caller_at pass) (ticket_of t).target ≡ Some k → library_at site k ≡ Some (opened_library h.holds.opening)
+      → place_for (length pass) (caller_at pass) (ticket_of t).target ≡ Some k → library_at site k ≡ Some (opened_library h.holds.opening)
   library_held site pass t k own h is =
       ap (λ (i : ℕ). library_at site i) (one_of (sym is ∙ h.is)) ∙ library_known site pass h.shelf h.spot h.holds.opening own h.at h.holds.opening_is
 
   -- over them it can be run
   pub runs_of : (site : Site D N) (pass : Spots D N) (t : Ticket) (k : ℕ) (library : kept.Library) → IsOwn site pass → HoldsAt view tells coming pass t
-      → shelf_for (length pass) (caller_at pass) (ticket_of t).target ≡ Some k → slice_get site.libraries.items k ≡ Some library → IsRunnable (library_of library).all t
+      → place_for (length pass) (caller_at pass) (ticket_of t).target ≡ Some k → slice_get site.libraries.items k ≡ Some library → IsRunnable (library_of library).all t
   runs_of site pass t k library own h is at =
       let same : opened_library h.holds.opening ≡ library_of library = one_of (sym (library_held site pass t k own h is) ∙ ap (λ l. option_map library_of l) at) in
       subst (λ (l : Library). IsRunnable l.all t) same h.holds.holds.runs
 
 -- a run over the scripts that stand in the site, with its fuel, is one over those of the shelf, with its fuel
 pub run_at : {D N : Type 0} (site : Site D N) (pass : Spots D N) (t : Ticket) (segment : Option Segment) (k : ℕ) (library : kept.Library) → IsOwn site pass
-    → shelf_for (length pass) (caller_at pass) (ticket_of t).target ≡ Some k → slice_get site.libraries.items k ≡ Some library
+    → place_for (length pass) (caller_at pass) (ticket_of t).target ≡ Some k → slice_get site.libraries.items k ≡ Some library
     → IsRunIfAny (library_of library).all site.fuel t segment → IsRunAt pass t segment
 run_at {D} {N} site pass t segment k library own on at h j is a o a_is opening_is =
     let seat = own.seats j a a_is in

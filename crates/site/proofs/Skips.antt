@@ -26,7 +26,7 @@ use Rattle.site.specs.Entries.{entry}
 use Rattle.site.specs.Openings.{IsOwnOpening, start_of, source_of, count_of}
 use Rattle.site.specs.Passes.{Spots, Known, seen_by, has_freed, GoesFrom, Took, Published, HasReached, Swept, Compacted, Follows, Ticked}
 use Rattle.site.specs.declared.site.Site.{Site}
-use Rattle.site.specs.Sites.{IsOwn, TakesOn, VisitsAt, Ticks, AnswersTick, shelf_for}
+use Rattle.site.specs.Sites.{IsOwn, TakesOn, VisitsAt, Ticks, AnswersTick, place_for}
 
 -- where an answer stands among those of shelves that were swept, the shelf was
 swept_at : (answers : List (Result ℕ Reply)) (k : ℕ) (r : Result ℕ Reply) → AreSwept answers → slice_get answers k ≡ Some r → (n : ℕ) × (r ≡ Ok n)
@@ -247,6 +247,6 @@ module _ {D N : Type 0} (view : D → View) (tells : Bool) (coming : N → ℕ �
   pub visits_skips : (old new : Spots D N) (target : Destination) (answer : Val) (reply : Reply) → VisitsAt view tells coming old target answer reply new → (tick : ℕ) → Skips old tick → Skips new tick
   visits_skips old new target answer reply (inl (t, middle, taken, (k, on, published))) tick s =
       skips_at k (λ v w. Published view tells coming v t reply w) middle new tick (λ v w. published_goes t reply v w) published
-      (takes_skips (shelf_for (length old) (caller_at old) target) old middle target answer (Ok t) tick taken s)
+      (takes_skips (place_for (length old) (caller_at old) target) old middle target answer (Ok t) tick taken s)
   visits_skips old new target answer reply (inr refused) tick s =
-      takes_skips (shelf_for (length old) (caller_at old) target) old new target answer (Err reply) tick refused s
+      takes_skips (place_for (length old) (caller_at old) target) old new target answer (Err reply) tick refused s

@@ -18,6 +18,7 @@ use Rattle.shelf.specs.declared.begin.BeginFault.{BeginFault}
 use Rattle.shelf.specs.declared.begin.BeginFault.TheVariants.{DiskFault, Memory}
 use Rattle.shelf.specs.declared.rules.Rules.{Rules}
 use Rattle.shelf.specs.declared.shelf.Shelf.{Shelf}
+use Rattle.shelf.specs.Ranges.{numbered}
 use Rattle.shelf.specs.Opening.{HasRoomFor, MakesBook, IsFaultOf, IsOfNow, IsOpenedAnew, KeepsRecords, OpensOrMigrates, making_after, opening_bodies}
 use Rattle.shelf.specs.Owning.{IsOwnImage, HasOwnImages, StaysOwnThroughout}
 use Rattle.shelf.specs.Views.{IsInOrder, IsOwnShelf, book_in, library_in}
@@ -33,10 +34,6 @@ use Rattle.site.specs.Keeping.{IsSoundShelf}
 use Rattle.site.specs.Openings.{opened_library}
 use Rattle.site.specs.Passes.{Spots}
 use Rattle.site.specs.Sites.{IsOwn, library_at}
-
--- the limits of the shelf of this number
-abbrev pub rules_for : Rules → ℕ → Rules
-rules_for rules k = record rules { number = k }
 
 -- the record that a journal begins with can be written, of each of so many shelves
 abbrev pub CanBegin : List Named → (shelves : ℕ) → Type 0
@@ -81,7 +78,7 @@ module _ {D N : Type 0} (view : D → View) (tells : Bool) (coming : N → ℕ �
   abbrev pub AreFreshOn : Rules → List D → List N → List (KeptShelf D N) → Type 0
   AreFreshOn rules disks nonces ks =
       (k : ℕ) (d : D) (n : N) (s : KeptShelf D N) → slice_get disks k ≡ Some d → slice_get nonces k ≡ Some n → slice_get ks k ≡ Some s
-      → IsFreshOn (rules_for rules k) d n s
+      → IsFreshOn (numbered rules k) d n s
 
   -- shelves without an entry that were opened on these disks, of which the last is the first shelf's, with sources in the same order
   abbrev pub AreOpened : Rules → Vec D → Vec N → Vec (KeptShelf D N) → Type 0
@@ -191,7 +188,7 @@ module _ {D N : Type 0} (view : D → View) (tells : Bool) (scripts : List Named
   pub record IsBegunAt (k : ℕ) (disk : D) (nonces : N) (h : Home (Opening D N)) : Type 0 where
     pub opening : Opening D N
     pub opening_is : h.opening ≡ opening ∷ []
-    pub shelf : IsOpenedOn view tells scripts (rules_for rules k) disk nonces opening.shelf.value
+    pub shelf : IsOpenedOn view tells scripts (numbered rules k) disk nonces opening.shelf.value
 
   -- each shelf of the site was opened on the disk of its place, with the source of its place
   pub record IsBegun (disks : List D) (nonces : List N) (site : Site D N) : Type 0 where

@@ -1,5 +1,5 @@
 -- What the calls of a site do to a pass.
-use Rattle.std.specs.Prelude.{◌≡◌, ◌⊎◌, ◌≤◌, ◌%◌, ◌<◌, ◌^◌, ℕ, Bool, List, [], ◌∷◌, length, Option, Some, None, option_map, nat_lt, if◌then◌else◌, slice_get, Result, Ok, Err}
+use Rattle.std.specs.Prelude.{◌≡◌, ◌⊎◌, ◌≤◌, ◌<◌, ◌^◌, ℕ, Bool, List, [], ◌∷◌, length, Option, Some, None, option_map, nat_lt, if◌then◌else◌, slice_get, Result, Ok, Err}
 use Rattle.std.specs.Global.{Vec}
 use Rattle.script_value.specs.Val.{Val}
 use Rattle.script_value.specs.declared.outcome.Reply.{Reply}
@@ -9,7 +9,8 @@ use Rattle.script_value.specs.declared.value.Value.{Value}
 use Rattle.script_value.specs.Views.{meaning}
 use Rattle.script_nodes.specs.Setup.{Library}
 use Rattle.script_nodes.specs.Views.{library_of}
-use Rattle.page_names.specs.Names.{Destination, start, page}
+use Rattle.page_names.specs.Names.{Destination}
+use Rattle.page_names.specs.Placing.{shelf_for}
 use Rattle.page_names.specs.declared.names.Target.{Target}
 use Rattle.page_names.specs.Views.{target_of}
 use Rattle.web_disk.specs.View.{View}
@@ -23,11 +24,9 @@ use Rattle.shelf.specs.Views.{IsRunIfAny}
 use Rattle.site.specs.Openings.{opened_library}
 use Rattle.site.specs.Passes.{Spots, IsSeat, HoldsTicket, Took, Published, Swept, Compacted, Ticked, Known}
 
--- The shelf that a target is on, among so many: a page is on the one that it names, and a start on the one that its worker
--- starts on. A page of a shelf that is not there is on none.
-abbrev pub shelf_for : (shelves worker : ℕ) → Destination → Option ℕ
-shelf_for shelves worker (start name) = if nat_lt 0 shelves then Some (worker % shelves) else None
-shelf_for shelves worker (page name n) = if nat_lt n.shelf shelves then Some n.shelf else None
+-- The place of the shelf that a target is on, among so many: none where no shelf of that number is there.
+abbrev pub place_for : (shelves worker : ℕ) → Destination → Option ℕ
+place_for shelves worker d = if nat_lt (shelf_for shelves worker d) shelves then Some (shelf_for shelves worker d) else None
 
 module _ {D N : Type 0} where
   -- the scripts of the shelf at this place, if there is one, as a site has them beside the lock
@@ -49,7 +48,7 @@ module _ {D N : Type 0} where
   -- the segment is that of the ticket's run
   abbrev pub IsRunAt : Spots D N → Ticket → Option Segment → Type 0
   IsRunAt pass t segment =
-      (k : ℕ) → shelf_for (length pass) (caller_at pass) (ticket_of t).target ≡ Some k → IsRunThere k pass t segment
+      (k : ℕ) → place_for (length pass) (caller_at pass) (ticket_of t).target ≡ Some k → IsRunThere k pass t segment
 
 module _ {D N : Type 0} (view : D → View) (tells : Bool) (coming : N → ℕ → ℕ) where
   -- what a take comes to: it is one on the shelf of the target, or refused where the target is on none
@@ -60,7 +59,7 @@ module _ {D N : Type 0} (view : D → View) (tells : Bool) (coming : N → ℕ �
 
   -- what a take comes to, on the shelf that the target and the caller lead to
   abbrev pub TakesAt : Spots D N → Destination → Val → Result Ticket Reply → Spots D N → Type 0
-  TakesAt old target answer result new = TakesOn (shelf_for (length old) (caller_at old) target) old target answer result new
+  TakesAt old target answer result new = TakesOn (place_for (length old) (caller_at old) target) old target answer result new
 
   -- what a take comes to, by the target and the answer as they were passed
   abbrev pub TakesFor : Target → Value → Result Ticket Reply → (old new : Spots D N) → Type 0
@@ -89,7 +88,7 @@ module _ {D N : Type 0} (view : D → View) (tells : Bool) (coming : N → ℕ �
   -- the pass holds the ticket at this shelf
   pub record HoldsAt (pass : Spots D N) (t : Ticket) : Type 0 where
     pub shelf : ℕ
-    pub is : shelf_for (length pass) (caller_at pass) (ticket_of t).target ≡ Some shelf
+    pub is : place_for (length pass) (caller_at pass) (ticket_of t).target ≡ Some shelf
     pub spot : Spot (Opening D N) KeptEntry
     pub at : slice_get pass shelf ≡ Some spot
     pub holds : HoldsTicket view tells coming spot.known t
@@ -102,7 +101,7 @@ module _ {D N : Type 0} (view : D → View) (tells : Bool) (coming : N → ℕ �
   -- a publish of this ticket, on the shelf that its target is on
   abbrev pub PublishesAt : Spots D N → Ticket → Reply → Spots D N → Type 0
   PublishesAt old t r new =
-      (k : ℕ) × (shelf_for (length old) (caller_at old) (ticket_of t).target ≡ Some k)
+      (k : ℕ) × (place_for (length old) (caller_at old) (ticket_of t).target ≡ Some k)
       × PublishedAt k t r old new
 
   -- a visit: a take that gave a ticket, and the publish of that; or a take that gave none

@@ -3,10 +3,10 @@ ghost use Rattle.std.specs.Prelude.{◌≡◌, ◌≤◌, ◌++◌, [], false, �
 ghost use Rattle.script_nodes.specs.Views.{scripts_of};
 ghost use Rattle.shelf.specs.SetupReader.Texts.{IsReadSetup};
 ghost use Rattle.shelf.specs.JournalRecords.Records.{IsInGrammar, begin_of};
-ghost use Rattle.shelf.specs.Ranges.{AreInRange};
+ghost use Rattle.shelf.specs.Ranges.{AreInRange, numbered};
 ghost use Rattle.disk_trio.specs.Trio.{trio_view};
 ghost use Rattle.site.specs.Keeping.{IsSoundShelf};
-ghost use Rattle.site.specs.Beginnings.{rules_for, AreNew, CanBegin, IsFreshOn, AreOpened, IsNotOpened, AreNotOpened, AreCopies, AreLocked, HaveRoom, KeepRoom, AreGone, HasMany, disks_of, nonces_of, shelves_of, site_of};
+ghost use Rattle.site.specs.Beginnings.{AreNew, CanBegin, IsFreshOn, AreOpened, IsNotOpened, AreNotOpened, AreCopies, AreLocked, HaveRoom, KeepRoom, AreGone, HasMany, disks_of, nonces_of, shelves_of, site_of};
 
 use crate::entry::KeptEntry;
 use crate::fault::SiteFault;
@@ -43,7 +43,7 @@ impl<F: Disk, N: Nonces + Drop> Site<Disks<F>, N> {
         nonces: Vec<N>,
         rules: Rules,
     ) -> Result<Site<Disks<F>, N>, SiteFault<Disks<F>, N>>
-        requires range { AreInRange (rules_for rules 0) }
+        requires range { AreInRange (numbered rules 0) }
         requires disks { length disks.items ≡ rules.shelves }
         requires fresh { AreNew disks.items }
         requires nonces { length nonces.items ≡ rules.shelves }
@@ -145,20 +145,6 @@ impl<D: Disk, N: Nonces + Drop> Site<D, N> {
     }
 }
 
-// The limits with this number.
-fn rules_with(rules: Rules, number: u32) -> Rules
-    ensures { result ≡ rules_for rules number }
-{
-    Rules {
-        number,
-        shelves: rules.shelves,
-        fuel: rules.fuel,
-        life: rules.life,
-        instances: rules.instances,
-        pages: rules.pages,
-    }
-}
-
 // Opens one shelf.
 fn open_one<F: Disk, N: Nonces + Drop>(
     alloc: Global,
@@ -190,7 +176,7 @@ fn open_all<F: Disk, N: Nonces + Drop>(
     disks: &mut Vec<Disks<F>>,
     nonces: &mut Vec<N>,
 ) -> Result<Vec<KeptShelf<Disks<F>, N>>, (u32, BeginFault)>
-    requires range { AreInRange (rules_for rules 0) }
+    requires range { AreInRange (numbered rules 0) }
     requires fresh { AreNew disks.old.items }
     requires disks { length disks.old.items ≡ rules.shelves }
     requires nonces { length nonces.old.items ≡ rules.shelves }
@@ -210,7 +196,7 @@ fn open_all<F: Disk, N: Nonces + Drop>(
     for number in 0..rules.shelves {
         let disk = disks.pop().unwrap();
         let source = nonces.pop().unwrap();
-        match open_one(alloc, setup, rules_with(rules, number), disk, source) {
+        match open_one(alloc, setup, rules.numbered(number), disk, source) {
             Ok(shelf) => shelves.push_reserved(shelf),
             Err((fault, disk, source)) => {
                 disks.push_reserved(disk);

@@ -39,7 +39,7 @@ impl<D: Disk, N: Nonces + Drop> Site<D, N> {
     ghost use Rattle.lock_row.specs.Rows.{IsNoteOf, ZipsAll};
     ghost use Rattle.page_names.specs.Views.{target_of};
     ghost use Rattle.lock_row.specs.Spots.{IsNoteIn};
-    ghost use Rattle.site.specs.Sites.{IsOwn, HoldsThere, HoldsAt, IsRunThere, IsRunAt, shelf_for, TakesFor, TookAt, PublishesAt, PublishedAt, VisitsFor};
+    ghost use Rattle.site.specs.Sites.{IsOwn, HoldsThere, HoldsAt, IsRunThere, IsRunAt, place_for, TakesFor, TookAt, PublishesAt, PublishedAt, VisitsFor};
 
     /// How many shelves there are.
     pub fn shelves(&self) -> usize
@@ -48,24 +48,16 @@ impl<D: Disk, N: Nonces + Drop> Site<D, N> {
         self.row.len()
     }
 
-    // The shelf that a target of the worker is on.
-    fn shelf_for(&self, worker: u64, target: &Target) -> Option<usize>
-        ensures { result ≡ shelf_for (length self.now.row.homes) worker (target_of target.now) }
+    // The place of the shelf that a target of the worker is on, where it is there.
+    fn place_for(&self, worker: u64, target: &Target) -> Option<usize>
+        ensures { result ≡ place_for (length self.now.row.homes) worker (target_of target.now) }
     {
         let shelves = self.shelves();
-        match target {
-            Target::Start(_) => {
-                if shelves > 0 {
-                    Some(worker as usize % shelves)
-                } else {
-                    None
-                }
-            }
-            Target::Page(_, page) => {
-                let shelf = page.shelf as usize;
-                if shelf < shelves { Some(shelf) } else { None }
-            }
+        if shelves == 0 {
+            return None;
         }
+        let shelf = shelf_for(shelves, worker, target);
+        if shelf < shelves { Some(shelf) } else { None }
     }
 
     fn take_at<R: Wait>(
@@ -139,7 +131,7 @@ impl<D: Disk, N: Nonces + Drop> Site<D, N> {
         ensures own { IsOwn self.now pass.new }
         ensures took { TakesFor D.view D.tells N.nonce target.now answer result pass.old pass.new }
     {
-        let Some(shelf) = self.shelf_for(pass.caller(), target) else {
+        let Some(shelf) = self.place_for(pass.caller(), target) else {
             return Err(Reply::Refused(Refusal::Unknown));
         };
         self.take_at(rt, alloc, pass, shelf, target, answer)
@@ -160,7 +152,7 @@ impl<D: Disk, N: Nonces + Drop> Site<D, N> {
         ensures own { IsOwn self.now pass.new }
         ensures published { PublishesAt D.view D.tells N.nonce pass.old ticket result pass.new }
     {
-        let Some(shelf) = self.shelf_for(pass.caller(), &ticket.target) else {
+        let Some(shelf) = self.place_for(pass.caller(), &ticket.target) else {
             unreachable!()
         };
         self.publish_at(rt, alloc, pass, shelf, ticket, segment)
@@ -197,7 +189,7 @@ impl<D: Disk, N: Nonces + Drop> Site<D, N> {
         requires held { HoldsAt D.view D.tells N.nonce pass.now ticket.now }
         ensures { IsRunAt pass.now ticket.now result }
     {
-        let Some(shelf) = self.shelf_for(pass.caller(), &ticket.target) else {
+        let Some(shelf) = self.place_for(pass.caller(), &ticket.target) else {
             unreachable!()
         };
         let Some(library) = self.libraries.get(shelf) else {

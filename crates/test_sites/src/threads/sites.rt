@@ -1,6 +1,6 @@
 ghost use Rattle.std.specs.Prelude.{◌≡◌, ◌≤◌, length, IfOk};
-ghost use Rattle.shelf.specs.Ranges.{AreInRange};
-ghost use Rattle.site.specs.Beginnings.{AreNew, rules_for, IsReady};
+ghost use Rattle.shelf.specs.Ranges.{AreInRange, numbered};
+ghost use Rattle.site.specs.Beginnings.{AreNew, IsReady};
 
 use crate::setups::{TALLY_AND_PATH, setup};
 use crate::sites::{MemoryDisks, MemorySite};
@@ -17,7 +17,7 @@ use web_outside::Counting;
 // The limits of so many shelves.
 fn rules(shelves: u32) -> Rules
     requires { (1 ≤ shelves) × (shelves ≤ 16) }
-    ensures range { AreInRange (rules_for result 0) }
+    ensures range { AreInRange (numbered result 0) }
     ensures shelves { result.shelves ≡ shelves }
 {
     Rules {

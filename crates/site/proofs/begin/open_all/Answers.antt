@@ -68,7 +68,7 @@ loop-number-preserved g c =
     let at_n : slice_get (reverse c.args.nonces.now.items) c.loop-number.number ≡ Some n =
     ap (λ l. slice_get l c.loop-number.number) there_n
     ∙ subst (λ (k : ℕ). slice_get (map nonces_in shelves ++ n ∷ reverse left_n) k ≡ Some n) (map_length nonces_in shelves ∙ i.many.1) (at_here (map nonces_in shelves) n (reverse left_n)) in
-    let opened = subst (λ r. IsFreshOn {D = Disks g.row.F.Denot g.F.Disk} {N = g.row.N.Denot} trio_view g.F.Disk.tells g.N.Nonces.nonce (scripts_of c.args.setup.now) r d n s) c.rules_with.ensures c.in-Ok-open_one.ensures.opened in
+    let opened = subst (λ r. IsFreshOn {D = Disks g.row.F.Denot g.F.Disk} {N = g.row.N.Denot} trio_view g.F.Disk.tells g.N.Nonces.nonce (scripts_of c.args.setup.now) r d n s) c.numbered.ensures c.in-Ok-open_one.ensures.opened in
     record {
       fresh = subst (λ l. AreFreshOn {D = Disks g.row.F.Denot g.F.Disk} {N = g.row.N.Denot} trio_view g.F.Disk.tells g.N.Nonces.nonce (scripts_of c.args.setup.now) c.args.rules (reverse c.args.disks.now.items) (reverse c.args.nonces.now.items) l) (sym pushed)
           (fresh_on {D = Disks g.row.F.Denot g.F.Disk} {N = g.row.N.Denot} trio_view g.F.Disk.tells g.N.Nonces.nonce (scripts_of c.args.setup.now) c.args.rules (reverse c.args.disks.now.items) (reverse c.args.nonces.now.items) shelves c.loop-number.number d n s i.fresh i.many.1 at_d at_n opened);
@@ -98,8 +98,8 @@ returns-in-Err-clause-unopened g c =
     let left_d = c.pop.new.self.items in
     let items_d : c.loop-number.disks.items ≡ c.pop.new.self.items ++ c.unwrap-disk.result ∷ [] = search rules in
     let there_d : reverse c.args.disks.now.items ≡ front ++ d ∷ reverse left_d = i.disks.1 ∙ ap (λ l. front ++ l) (ap reverse items_d ∙ reverse_snoc left_d d) in
-    let un : IsUnopened {D = Disks g.row.F.Denot g.F.Disk} trio_view g.F.Disk.tells (scripts_of c.args.setup.now) c.rules_with.result.number d e c.in-Err.fault = search rules in
-    let unopened = subst (λ (k : ℕ). IsUnopened {D = Disks g.row.F.Denot g.F.Disk} trio_view g.F.Disk.tells (scripts_of c.args.setup.now) k d e c.in-Err.fault) (ap (λ r. r.number) c.rules_with.ensures) un in
+    let un : IsUnopened {D = Disks g.row.F.Denot g.F.Disk} trio_view g.F.Disk.tells (scripts_of c.args.setup.now) c.numbered.result.number d e c.in-Err.fault = search rules in
+    let unopened = subst (λ (k : ℕ). IsUnopened {D = Disks g.row.F.Denot g.F.Disk} trio_view g.F.Disk.tells (scripts_of c.args.setup.now) k d e c.in-Err.fault) (ap (λ r. r.number) c.numbered.ensures) un in
     let back : reverse c.give_back.new.disks.items ≡ map disk_in shelves ++ e ∷ reverse left_d =
     ap reverse (c.give_back.ensures.disks ∙ ap (λ l. l ++ reverse (map disk_in shelves)) c.push_reserved-in-Err.ensures.items)
     ∙ (reverse-append (left_d ++ e ∷ []) (reverse (map disk_in shelves)) ∙ (λ j. reverse-reverse (map disk_in shelves) j ++ reverse_snoc left_d e j)) in

@@ -9,7 +9,7 @@ use Rattle.site.proofs.site.Site.run.Goals as goal
 
 pub unreachable-requires-in_default-get : goal.unreachable-requires-in_default-get
 unreachable-requires-in_default-get g c =
-    let on = found_at {D = g.row.D.Denot} {N = g.row.N.Denot} c.args.self.now c.args.pass.now (target_of c.args.ticket.now.target) c.in-Some.shelf c.caller.result c.shelf_for.result c.requires.own c.caller.ensures c.shelf_for.ensures c.in-Some.is in
+    let on = found_at {D = g.row.D.Denot} {N = g.row.N.Denot} c.args.self.now c.args.pass.now (target_of c.args.ticket.now.target) c.in-Some.shelf c.caller.result c.place_for.result c.requires.own c.caller.ensures c.place_for.ensures c.in-Some.is in
     let told = library_held {D = g.row.D.Denot} {N = g.row.N.Denot} g.D.Disk.view g.D.Disk.tells g.N.Nonces.nonce c.args.self.now c.args.pass.now c.args.ticket.now c.in-Some.shelf c.requires.own c.requires.held on in
     let test = c.in_default-get.ensures.lookup.0 in
     let past : length c.deref.result.now ≤ c.in-Some.shelf = grind (arith, nat_tests, test) in
@@ -21,7 +21,7 @@ unreachable-requires-in_default-get g c =
 
 pub segment_of-requires-clause-runs : goal.segment_of-requires-clause-runs
 segment_of-requires-clause-runs g c =
-    let on = found_at {D = g.row.D.Denot} {N = g.row.N.Denot} c.args.self.now c.args.pass.now (target_of c.args.ticket.now.target) c.in-Some.shelf c.caller.result c.shelf_for.result c.requires.own c.caller.ensures c.shelf_for.ensures c.in-Some.is in
+    let on = found_at {D = g.row.D.Denot} {N = g.row.N.Denot} c.args.self.now c.args.pass.now (target_of c.args.ticket.now.target) c.in-Some.shelf c.caller.result c.place_for.result c.requires.own c.caller.ensures c.place_for.ensures c.in-Some.is in
     let seen = c.in-Some-get.ensures.lookup in
     let test = seen.0 in
     let within : c.in-Some.shelf < length c.deref.result.now = grind (arith, nat_tests, test) in
@@ -30,7 +30,7 @@ segment_of-requires-clause-runs g c =
 
 pub returns : goal.returns
 returns g c =
-    let on = found_at {D = g.row.D.Denot} {N = g.row.N.Denot} c.args.self.now c.args.pass.now (target_of c.args.ticket.now.target) c.in-Some.shelf c.caller.result c.shelf_for.result c.requires.own c.caller.ensures c.shelf_for.ensures c.in-Some.is in
+    let on = found_at {D = g.row.D.Denot} {N = g.row.N.Denot} c.args.self.now c.args.pass.now (target_of c.args.ticket.now.target) c.in-Some.shelf c.caller.result c.place_for.result c.requires.own c.caller.ensures c.place_for.ensures c.in-Some.is in
     let seen = c.in-Some-get.ensures.lookup in
     let test = seen.0 in
     let within : c.in-Some.shelf < length c.deref.result.now = grind (arith, nat_tests, test) in

@@ -1,0 +1,13 @@
+ghost use Rattle.std.specs.Prelude.{◌≡◌};
+ghost use Rattle.shelf.specs.Ranges.{numbered};
+
+use crate::rules::Rules;
+
+impl Rules {
+    /// These limits, for the shelf of this number.
+    pub fn numbered(self, number: u32) -> Rules
+        ensures { result ≡ numbered self number }
+    {
+        Rules { number, ..self }
+    }
+}
