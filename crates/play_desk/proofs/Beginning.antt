@@ -15,13 +15,15 @@ use Rattle.shelf.specs.declared.rules.Rules.{Rules}
 use Rattle.shelf.specs.declared.shelf.Shelf.{Shelf}
 use Rattle.shelf.specs.Views.{IsInOrder, IsOwnShelf}
 use Rattle.server_limits.specs.Limits.{most_shelves}
+use Rattle.server_limits.specs.Counts.{most_workers}
 use Rattle.trio_rack.specs.Numbers.{IsOneOfThree}
 use Rattle.trio_rack.specs.Trios.{shelves_of, MayBeBare}
 use Rattle.trio_rack.proofs.Bare.{bare_among, of_another, some_among}
 use Rattle.trio_rack.proofs.Homes.{below_or_not}
 use Rattle.play_desk.specs.Desk.{Desk, first_desk, first_shelves}
 use Rattle.play_steps.specs.Rules.{StaysUp}
-use Rattle.play_desk.specs.Opening.{AreOpened, AllKept, AllStayKept, AreHome, CountStays, FailedFor, GivesOne, HoldImages, IsClosedBy, IsKept, IsRefusedBy, LeaveOthers, OpensNext, numbered, rules_at}
+use Rattle.shelf.specs.Ranges.{numbered}
+use Rattle.play_desk.specs.Opening.{AreOpened, AllKept, AllStayKept, AreHome, CountStays, FailedFor, GivesOne, HoldImages, IsClosedBy, IsKept, IsRefusedBy, LeaveOthers, OpensNext, rules_at}
 use Rattle.play_desk.specs.Staff.{AreFit, HaveOwnNumbers, IsHome, desk_with, faults_in, numbers_in, shelf_at, total}
 use Rattle.play_desk.specs.declared.opening.OpenCause.{OpenCause}
 use Rattle.play_desk.specs.declared.opening.OpenCause.TheVariants as cause
@@ -284,11 +286,11 @@ module _ {D : Type 0} (view : D → View) (rack_tells tells : Bool) (scripts : L
 
 -- where nobody holds a ticket they are fit, and the first desk
 pub fit_opened : {D : Type 0} (view : D → View) (rack_tells tells : Bool) (scripts : List Named) (rules : Rules) (first : RackView) (count : ℕ)
-    (xs : List (Shelf D Counting)) (now : RackView) (ts : List (Option Ticket)) → AreOpened view rack_tells tells scripts rules first count xs now → count ≤ 16
-    → ts ≡ replicate 16 None → AreFit view tells xs ts
+    (xs : List (Shelf D Counting)) (now : RackView) (ts : List (Option Ticket)) → AreOpened view rack_tells tells scripts rules first count xs now → count ≤ most_shelves
+    → ts ≡ replicate most_workers None → AreFit view tells xs ts
 fit_opened view rack_tells tells scripts rules first count xs now ts o few none =
     let nobody : (w : ℕ) (t : Ticket) → slice_get ts w ≡ Some (Some t) → ⊥ =
-    λ w t h. none_there 16 w t (subst (λ (vs : List (Option Ticket)). slice_get vs w ≡ Some (Some t)) none h) in
+    λ w t h. none_there most_workers w t (subst (λ (vs : List (Option Ticket)). slice_get vs w ≡ Some (Some t)) none h) in
     record {
       in_order = o.in_order;
       numbers = o.numbers;
@@ -300,9 +302,9 @@ fit_opened view rack_tells tells scripts rules first count xs now ts o few none 
 
 pub desk_opened : {D : Type 0} (view : D → View) (rack_tells tells : Bool) (scripts : List Named) (rules : Rules) (first : RackView) (count : ℕ)
     (xs : List (Shelf D Counting)) (now : RackView) (ts : List (Option Ticket)) → AreOpened view rack_tells tells scripts rules first count xs now
-    → IsTrue rack_tells → IsTrue tells → ts ≡ replicate 16 None → desk_with view scripts xs ts ≡ first_desk (rules_at rules) scripts count
+    → IsTrue rack_tells → IsTrue tells → ts ≡ replicate most_workers None → desk_with view scripts xs ts ≡ first_desk (rules_at rules) scripts count
 desk_opened view rack_tells tells scripts rules first count xs now ts o rack_told told none =
     ap (λ (vs : List (Option Ticket)). desk_with view scripts xs vs) none ∙ ap made (o.shelves rack_told told)
   where
     made : List runs.Shelf → Desk
-    made ss = record { scripts = scripts; shelves = ss; held = replicate 16 None }
+    made ss = record { scripts = scripts; shelves = ss; held = replicate most_workers None }

@@ -5,6 +5,7 @@ use Rattle.std.proofs.lemmas.List.{length-map, length-set, map-set}
 use Rattle.std.proofs.lemmas.List.Elements.{Contains-append_left, Contains-push}
 use Rattle.std.proofs.lemmas.Option.{slice_get-map, slice_get_within}
 use Rattle.server_limits.specs.Limits.{most_shelves}
+use Rattle.server_limits.specs.Counts.{most_workers}
 use Rattle.script_value.specs.declared.outcome.Reply.{Reply}
 use Rattle.web_disk.specs.View.{View}
 use Rattle.web_outside.specs.declared.nonces.Counting.{Counting}
@@ -82,7 +83,7 @@ each_with {D = D} Q xs ts us k x y each here mine others w t h =
 -- all stay fit with another shelf in a place, whose tickets are unspent on it
 pub fit_with : {D : Type 0} (view : D → View) (tells : Bool) (xs : List (Shelf D Counting)) (ts us : List (Option Ticket))
     (k : ℕ) (x y : Shelf D Counting) → AreFit view tells xs ts → slice_get xs k ≡ Some x → IsInOrder view tells y
-    → y.rules ≡ x.rules → length us ≡ 16
+    → y.rules ≡ x.rules → length us ≡ most_workers
     → ((w : ℕ) (t : Ticket) → slice_get us w ≡ Some (Some t) → place_of (length xs) w t ≡ k → IsUnspent view y t)
     → ((w : ℕ) (t : Ticket) → slice_get us w ≡ Some (Some t) → place_of (length xs) w t ≢ k → slice_get ts w ≡ Some (Some t))
     → ((v w : ℕ) (t u : Ticket) → slice_get us v ≡ Some (Some t) → slice_get us w ≡ Some (Some u)
@@ -233,7 +234,7 @@ fit_same view tells xs ts k x y fit here book in_order rules library keeps =
 -- a shelf was opened again, and nobody holds a ticket of it
 pub fit_crash : {D : Type 0} (view : D → View) (tells : Bool) (xs : List (Shelf D Counting)) (ts us : List (Option Ticket))
     (k : ℕ) (x y : Shelf D Counting) → AreFit view tells xs ts → slice_get xs k ≡ Some x → IsInOrder view tells y
-    → y.rules ≡ x.rules → length us ≡ 16 → KeepsOthers (length xs) k ts us → AreFit view tells (slice_set xs k y) us
+    → y.rules ≡ x.rules → length us ≡ most_workers → KeepsOthers (length xs) k ts us → AreFit view tells (slice_set xs k y) us
 fit_crash view tells xs ts us k x y fit here in_order rules count kept =
     fit_with view tells xs ts us k x y fit here in_order rules count
     (λ w t held place. absurd ((kept w t held).1 place))

@@ -1,6 +1,7 @@
 -- What workers hold is out, and each publish of a desk's run is lawful.
 use Rattle.std.proofs.Common.{◌≡◌, ◌≢◌, ◌⊎◌, ◌∙◌, ap, sym, subst, refl, inl, inr, ⊎_elim, ℕ, ◌+◌, ◌<◌, zero, suc, ◌==◌, Bool, true, false, if◌then◌else◌, List, [], ◌∷◌, ◌++◌, length, slice_get, slice_set, Option, Some, None, not, filter, arith}
 use Rattle.std.proofs.lemmas.List.{length-append, length-set}
+use Rattle.server_limits.specs.Counts.{most_workers}
 use Rattle.script_value.specs.Val.{Val}
 use Rattle.page_names.specs.Names.{Destination}
 use Rattle.script_nodes.specs.Setup.{Named}
@@ -46,8 +47,8 @@ pub first_orderly : (rules : ℕ → Rules) (scripts : List Named) (count : ℕ)
 first_orderly rules scripts count = record {
   count = count_first rules scripts count;
   below = λ k s e m h. absurd (subst (Among m) (nothing_out rules scripts count k s e) h);
-  out = λ w t h s e. absurd (none_there 16 w t h);
-  apart = λ v w t u h g same e. absurd (none_there 16 v t h);
+  out = λ w t h s e. absurd (none_there most_workers w t h);
+  apart = λ v w t u h g same e. absurd (none_there most_workers v t h);
 }
 
 -- a place that is this one

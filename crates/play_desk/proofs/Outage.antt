@@ -2,6 +2,7 @@
 use Rattle.std.proofs.Common.{◌≡◌, ◌≢◌, ◌∙◌, ap, sym, subst, ⊎_elim, ℕ, ◌≤◌, Bool, true, List, [], length, replicate, slice_get, slice_set, Some, None, Option, option_map, map, arith}
 use Rattle.std.proofs.lemmas.Bool.{cases_eq}
 use Rattle.std.proofs.lemmas.List.{length-map, map-set}
+use Rattle.server_limits.specs.Counts.{most_workers}
 use Rattle.play_desk.proofs.Stepping.{crashes, is_event, shelf_there}
 use Rattle.web_outside.specs.Causes.{Rose}
 use Rattle.web_outside.specs.declared.nonces.Counting.{Counting}
@@ -35,10 +36,10 @@ numbers_out xs k j = ap (λ (ns : List ℕ). slice_get ns j) (map_out (λ s. s.r
 
 -- a desk without shelves is fit where nobody holds a ticket
 pub fit_none : {D : Type 0} (view : D → View) (tells : Bool) (xs : List (Shelf D Counting)) (ts : List (Option Ticket))
-    → xs ≡ [] → ts ≡ replicate 16 None → AreFit view tells xs ts
+    → xs ≡ [] → ts ≡ replicate most_workers None → AreFit view tells xs ts
 fit_none {D = D} view tells xs ts empty none =
     let nobody : (w : ℕ) (t : Ticket) → slice_get ts w ≡ Some (Some t) → ⊥ =
-    λ w t h. none_there 16 w t (subst (λ (vs : List (Option Ticket)). slice_get vs w ≡ Some (Some t)) none h) in
+    λ w t h. none_there most_workers w t (subst (λ (vs : List (Option Ticket)). slice_get vs w ≡ Some (Some t)) none h) in
     record {
       in_order = λ k x e. absurd (nowhere k x e);
       numbers = λ k n e. absurd (let no = subst (λ (ys : List (Shelf D Counting)). slice_get (numbers_in ys) k ≡ Some n) empty e in let never : ⊥ = cc in never);

@@ -1,5 +1,6 @@
 -- Own shelves and the tickets that are open on them go on to be, with each event.
 use Rattle.std.proofs.Common.{◌≡◌, ◌≢◌, ◌⊎◌, inl, inr, ◌∙◌, ap, sym, subst, refl, ℕ, Bool, List, length, replicate, slice_get, slice_set, Option, Some, None, Result}
+use Rattle.server_limits.specs.Counts.{most_workers}
 use Rattle.script_value.specs.Val.{Val}
 use Rattle.script_value.specs.declared.outcome.Reply.{Reply}
 use Rattle.web_disk.specs.View.{View}
@@ -139,9 +140,9 @@ own_crash view tells xs ts us k x y own here own_y kept =
 
 -- where nobody holds a ticket own shelves are enough
 pub own_alone : {D : Type 0} (view : D → View) (tells : Bool) (xs : List (Shelf D Counting)) (ts : List (Option Ticket))
-    → ((k : ℕ) (x : Shelf D Counting) → slice_get xs k ≡ Some x → IsOwnShelf view tells x) → ts ≡ replicate 16 None
+    → ((k : ℕ) (x : Shelf D Counting) → slice_get xs k ≡ Some x → IsOwnShelf view tells x) → ts ≡ replicate most_workers None
     → AreOwn view tells xs ts
 own_alone view tells xs ts own none = record {
   own = own;
-  are_open = λ w t h. absurd (none_there 16 w t (subst (λ (vs : List (Option Ticket)). slice_get vs w ≡ Some (Some t)) none h));
+  are_open = λ w t h. absurd (none_there most_workers w t (subst (λ (vs : List (Option Ticket)). slice_get vs w ≡ Some (Some t)) none h));
 }

@@ -1,5 +1,6 @@
 -- What the steps of a run do: the shelves of one program, and the tickets that its workers hold.
 use Rattle.std.specs.Prelude.{ℕ, zero, suc, ◌+◌, ◌%◌, ◌^◌, ◌==◌, Bool, true, false, List, [], ◌∷◌, ◌++◌, length, Option, Some, None, Result, Ok, Err, is_some, replicate, slice_get, slice_set, option_and_then, option_map, if◌then◌else◌}
+use Rattle.server_limits.specs.Counts.{most_workers}
 use Rattle.script_value.specs.Val.{Val}
 use Rattle.script_value.specs.declared.outcome.Refusal.TheVariants.{Unknown}
 use Rattle.script_value.specs.declared.outcome.Reply.{Reply}
@@ -55,10 +56,10 @@ abbrev pub first_shelves : (rules : ℕ → Rules) → List Named → (count : �
 first_shelves rules scripts zero = []
 first_shelves rules scripts (suc n) = first_shelves rules scripts n ++ empty_shelf (rules n) scripts n ∷ []
 
--- the desk of so many shelves with nothing on them, and of sixteen workers that hold nothing
+-- the desk of so many shelves with nothing on them, and of workers that hold nothing
 abbrev pub first_desk : (rules : ℕ → Rules) → List Named → (count : ℕ) → Desk
 first_desk rules scripts count =
-    record { scripts = scripts; shelves = first_shelves rules scripts count; held = replicate 16 None }
+    record { scripts = scripts; shelves = first_shelves rules scripts count; held = replicate most_workers None }
 
 -- The ticket that a worker holds, if it holds one.
 abbrev pub ticket_of : Desk → (worker : ℕ) → Option Ticket

@@ -23,6 +23,7 @@ use Rattle.shelf.specs.JournalSpec.Standing.{Between, HoldIn, IsOneOf, if_kept}
 use Rattle.shelf.specs.JournalSpec.Laws.{MeasuresDoubt}
 use Rattle.shelf.specs.Views.{book_in, rules_of, IsInOrder, IsOwnShelf}
 use Rattle.shelf.specs.Faults.{IsAnother}
+use Rattle.shelf.specs.Ranges.{numbered}
 use Rattle.shelf.specs.Opening.{IsCrashed, IsTooLongIn, bodies_after, now_in_bytes, opening_bodies}
 use Rattle.shelf.specs.Owning.{OwnRecords, HoldOwn, HoldsOwnRecords, StandsOwn}
 use Rattle.shelf.specs.declared.begin.BeginFault.{BeginFault}
@@ -38,10 +39,6 @@ use Rattle.play_desk.specs.Staff.{AreNumbered, IsHome, desk_of, faults_in, numbe
 use Rattle.play_desk.specs.declared.staff.Staff.{Staff}
 use Rattle.play_desk.specs.declared.opening.OpenCause.{OpenCause}
 use Rattle.play_desk.specs.declared.opening.OpenCause.TheVariants as cause
-
--- the limits of the shelf of this number
-abbrev pub numbered : Rules → (number : ℕ) → Rules
-numbered rules number = record rules { number = number }
 
 -- what the events of the shelf of each number run under
 abbrev pub rules_at : Rules → (number : ℕ) → runs.Rules

@@ -1,6 +1,7 @@
 -- What shelves with their workers stand for, and what holds of them between the steps of a run.
 use Rattle.std.specs.Prelude.{◌≡◌, ◌≢◌, ◌≤◌, ◌<◌, ◌-◌, ◌+◌, ◌^◌, ℕ, Bool, true, List, map, length, min, sum_by, slice_get, Option, Some, None, Result, is_some, option_map, option_and_then}
 use Rattle.server_limits.specs.Limits.{most_shelves}
+use Rattle.server_limits.specs.Counts.{most_workers}
 use Rattle.web_outside.specs.Causes.{Rose}
 use Rattle.web_outside.specs.Counted.{counted}
 use Rattle.web_outside.specs.declared.nonces.Counting.{Counting}
@@ -117,7 +118,7 @@ pub record AreFit {D : Type 0} (view : D → View) (tells : Bool) (shelves : Lis
   pub in_order : (k : ℕ) (x : Shelf D Counting) → slice_get shelves k ≡ Some x → IsInOrder view tells x
   pub numbers : AreNumbered shelves
   pub few : length shelves ≤ most_shelves
-  pub count : length tickets ≡ 16
+  pub count : length tickets ≡ most_workers
   pub unspent : OfEachTicket (IsUnspent view) shelves tickets
   pub apart : (v w : ℕ) (t u : Ticket) → slice_get tickets v ≡ Some (Some t) → slice_get tickets w ≡ Some (Some u)
       → place_of (length shelves) v t ≡ place_of (length shelves) w u → t.number ≡ u.number → v ≡ w

@@ -6,7 +6,7 @@ ghost use Rattle.disk_trio.specs.Trio.{trio_view};
 ghost use Rattle.trio_rack.specs.Trios.{shelves_of};
 ghost use Rattle.play_desk.specs.Staff.{AreLow, HaveOwnNumbers, IsHome, IsOwn, IsReady, faults_in, total};
 ghost use Rattle.play_desk.specs.Asking.{AsksForFirst, AsksForNone, AsksForOne, AsksForSome, AsksUntil};
-ghost use Rattle.play_desk.specs.Opening.{AreHome, CountStays, FailedFor, FailuresStay, GivesOne, IsRefusedBy, LeaveOthers, OpensNext, numbered};
+ghost use Rattle.play_desk.specs.Opening.{AreHome, CountStays, FailedFor, FailuresStay, GivesOne, IsRefusedBy, LeaveOthers, OpensNext};
 ghost use Rattle.play_desk.specs.Failing.{faults_beside};
 ghost use Rattle.play_desk.specs.Told.{AllHoldAsLeft, AllStayIfClosed, AsksIfUsed, ClosesOwn, IsFirst, OpensAll, StaysIfClosed, TellsCause, WereBare};
 
@@ -20,20 +20,6 @@ use std::alloc::Global;
 use std::marker::PhantomData;
 use web_disk::{Disk, Rack};
 use web_outside::Counting;
-
-// The limits of the shelf of this number.
-fn numbered(rules: Rules, number: u32) -> Rules
-    ensures { result ≡ numbered rules number }
-{
-    Rules {
-        number,
-        shelves: rules.shelves,
-        fuel: rules.fuel,
-        life: rules.life,
-        instances: rules.instances,
-        pages: rules.pages,
-    }
-}
 
 /// Closes shelves, and gives their disks back.
 pub(crate) fn put_all_back<F: Disk, R: Rack<F>>(
@@ -128,7 +114,7 @@ fn open_all<F: Disk, R: Rack<F>>(
     let _count = rack.faults();
     let mut shelves = Vec::new(alloc);
     for number in 0..rules.shelves {
-        let next = numbered(rules, number);
+        let next = rules.numbered(number);
         if let Err(why) = open_next(alloc, setup, directory, rack, &mut shelves, next) {
             put_all_back(rack, shelves);
             return Err(OpenFault { shelf: number, why });

@@ -1,4 +1,4 @@
-//! The stage of `play`, which is shelves on the disks of a rack and the tickets of sixteen workers: for the command.
+//! The stage of `play`, which is shelves on the disks of a rack and the tickets of its workers: for the command.
 #![tactic(auto)]
 
 ghost use Rattle.play_desk.specs.Laws.{TranscriptsAreRuns};
@@ -15,7 +15,7 @@ pub use answer::answer_to;
 pub use desk::Desk;
 pub use desk_disks::open_desk;
 pub use opening::{OpenCause, OpenFault};
-pub use staff::{segment_of, shelf_for};
+pub use staff::segment_of;
 
 /// The printed transcript of lines is the print of the replies of the runs of events that the lines are, and the last
 /// books are those of these runs.

@@ -1,43 +1,35 @@
 ghost use Rattle.std.specs.Prelude.{◌≡◌, ◌≢◌, ◌<◌, ◌^◌, IfOk, IfSome, is_some, length, option_map, replicate, slice_get, slice_set, Some, None};
 ghost use Rattle.script_nodes.specs.Views.{library_of};
-ghost use Rattle.page_names.specs.Views.{target_of};
+ghost use Rattle.server_limits.specs.Counts.{most_workers};
 ghost use Rattle.disk_trio.specs.Trio.{trio_view};
 ghost use Rattle.shelf.specs.Visits.{IsRunnable, ticket_of};
 ghost use Rattle.play_desk.specs.Staff.{KeepsOthers, LosesTickets};
 ghost use Rattle.shelf.specs.Views.{IsRunIfAny};
 ghost use Rattle.play_desk.specs.Desk as spec;
-ghost use Rattle.play_desk.specs.Target.{shelf_for};
 ghost use Rattle.play_desk.specs.Staff.{HoldsTicket, IsFit, KeepsOwn, CompactsShelf, PublishesTicket, StaysThere, SweepsShelf, TakesTicket, held_by, place_of};
 
 use crate::answer::answer_to;
 use disk_trio::Disks;
 use http_forms::path_and_query;
-use page_names::{Target, parse_target};
+use page_names::{parse_target, shelf_for};
 use replay_spec::refused_is_unchanged;
 use script_nodes::Library;
 use script_value::{Refusal, Reply};
+use server_limits::MOST_WORKERS;
 use shelf::{Segment, Shelf, Ticket, run_ticket, tickets_go_on_to_fit};
 use std::alloc::Global;
 use std::mem;
 use web_disk::Disk;
 use web_outside::Counting;
 
-/// Shelves on their disks, and the tickets of the sixteen workers that visit them.
+/// How many workers may hold a ticket.
+const WORKERS: usize = MOST_WORKERS as usize;
+
+/// Shelves on their disks, and the tickets of the workers that visit them.
 #[derive(Drop)]
 pub struct Staff<D: Disk> {
     pub shelves: Vec<Shelf<D, Counting>>,
-    pub tickets: [Option<Ticket>; 16],
-}
-
-/// The place of a target's shelf, of so many: a start is spread over them by its worker.
-pub fn shelf_for(count: usize, worker: u32, target: &Target) -> usize
-    requires { 0 < count }
-    ensures { result ≡ shelf_for count worker (target_of target.now) }
-{
-    match target {
-        Target::Start(_) => worker as usize % count,
-        Target::Page(_, page) => page.shelf as usize,
-    }
+    pub tickets: [Option<Ticket>; WORKERS],
 }
 
 /// The segment that a ticket is for, over the ticket's own cells; none where its run finds no memory.
@@ -50,17 +42,17 @@ pub fn segment_of(alloc: Global, library: &Library, ticket: &Ticket, fuel: u64) 
 }
 
 // The ticket that a worker holds, which it holds no longer.
-fn handed_in(tickets: &mut [Option<Ticket>; 16], worker: u32) -> Option<Ticket>
-    requires { worker < 16 }
+fn handed_in(tickets: &mut [Option<Ticket>; WORKERS], worker: u32) -> Option<Ticket>
+    requires { worker < most_workers }
     ensures ticket { slice_get tickets.old worker ≡ Some result }
     ensures without { tickets.new ≡ slice_set tickets.old worker None }
 {
     mem::replace(&mut tickets[worker as usize], None)
 }
 
-/// Sixteen workers that hold nothing.
-pub fn no_tickets() -> [Option<Ticket>; 16]
-    ensures { result ≡ replicate 16 None }
+/// Workers that hold nothing.
+pub fn no_tickets() -> [Option<Ticket>; WORKERS]
+    ensures { result ≡ replicate most_workers None }
 {
     [
         None, None, None, None, None, None, None, None, None, None, None, None, None, None, None,
@@ -76,21 +68,21 @@ fn left_of(held: Option<Ticket>, count: usize, place: usize, worker: u32) -> Opt
     ensures kept { IfSome result (λ t. (held ≡ Some t) × (place_of count worker t ≢ place)) }
 {
     let ticket = held?;
-    if shelf_for(count, worker, &ticket.target) == place {
+    if shelf_for(count, u64::from(worker), &ticket.target) == place {
         return None;
     }
     Some(ticket)
 }
 
 /// The tickets of the shelf at this place, of so many, are lost.
-pub fn lose_tickets(tickets: &mut [Option<Ticket>; 16], count: usize, place: usize)
+pub fn lose_tickets(tickets: &mut [Option<Ticket>; WORKERS], count: usize, place: usize)
     requires some { 0 < count }
-    requires workers { length tickets.old ≡ 16 }
+    requires workers { length tickets.old ≡ most_workers }
     ensures held { LosesTickets count place tickets.old tickets.new }
     ensures kept { KeepsOthers count place tickets.old tickets.new }
-    ensures workers { length tickets.new ≡ 16 }
+    ensures workers { length tickets.new ≡ most_workers }
 {
-    for worker in 0..16u32 {
+    for worker in 0..MOST_WORKERS {
         let held = handed_in(tickets, worker);
         tickets[worker as usize] = left_of(held, count, place, worker);
     }
@@ -98,7 +90,7 @@ pub fn lose_tickets(tickets: &mut [Option<Ticket>; 16], count: usize, place: usi
 
 /// Whether the worker holds a ticket.
 pub fn holds<D: Disk>(staff: &Staff<D>, worker: u32) -> bool
-    requires { worker < 16 }
+    requires { worker < most_workers }
     ensures { result ≡ is_some (held_by staff.now worker) }
 {
     staff.tickets[worker as usize].is_some()
@@ -111,7 +103,7 @@ pub fn take<D: Disk>(
     worker: u32,
     target: &[u8],
 ) -> Result<u64, Reply>
-    requires worker { worker < 16 }
+    requires worker { worker < most_workers }
     requires fit { IsFit D.view D.tells staff.old }
     ensures step { TakesTicket D.view staff.old worker target.now result staff.new }
     ensures held { IfOk result (λ _. HoldsTicket staff.new worker) }
@@ -128,7 +120,7 @@ pub fn take<D: Disk>(
     if count == 0 {
         return Err(Reply::Refused(Refusal::Unknown));
     }
-    let place = shelf_for(count, worker, &target);
+    let place = shelf_for(count, u64::from(worker), &target);
     if place >= count {
         return Err(Reply::Refused(Refusal::Unknown));
     }
@@ -148,7 +140,7 @@ pub fn take<D: Disk>(
 
 /// Runs the visit that the worker's ticket is for, and spends the ticket. What it comes to is said of own shelves.
 pub fn publish<D: Disk>(alloc: Global, staff: &mut Staff<D>, worker: u32) -> Reply
-    requires worker { worker < 16 }
+    requires worker { worker < most_workers }
     requires fit { IsFit D.view D.tells staff.old }
     ensures step { PublishesTicket D.view D.tells staff.old worker result staff.new }
     ensures fit { IsFit D.view D.tells staff.new }
@@ -160,7 +152,7 @@ pub fn publish<D: Disk>(alloc: Global, staff: &mut Staff<D>, worker: u32) -> Rep
     let Some(ticket) = handed_in(&mut staff.tickets, worker) else {
         return Reply::Refused(Refusal::Unknown);
     };
-    let place = shelf_for(staff.shelves.len(), worker, &ticket.target);
+    let place = shelf_for(staff.shelves.len(), u64::from(worker), &ticket.target);
     let shelf = &mut staff.shelves[place];
     let segment = segment_of(alloc, shelf.library(), &ticket, shelf.rules().fuel);
     shelf.publish(alloc, ticket, segment)
