@@ -18,9 +18,8 @@ use Rattle.journal_spec.specs.Retaking.{if_held, held}
 use Rattle.instance_book.specs.declared.book.Book.{Book}
 use Rattle.instance_book.specs.declared.numbered.Numbered.{Numbered}
 use Rattle.instance_book.specs.declared.instance.KeptInstance.{KeptInstance}
-use Rattle.instance_book.specs.Views.{no_journal}
+use Rattle.instance_book.specs.Views.{no_journal, effects_in}
 use Rattle.instance_book.specs.Standing.{book_under}
-use Rattle.instance_book.specs.Segments.{effects_in}
 use Rattle.book_redo.specs.Redo.{are_held, opens_so, EndsIn}
 use Rattle.book_redo.specs.Lands.{StartLands, AnswerLands, IsPageLanding, TellsLanding}
 use Rattle.book_redo.proofs.Landed.{opening_in, opening_is, extension_in, extension_is}

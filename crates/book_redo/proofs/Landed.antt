@@ -48,12 +48,12 @@ use Rattle.instance_book.specs.declared.change.Extension.{Extension}
 use Rattle.instance_book.specs.declared.change.Change.TheVariants.{Opens, Extends}
 use Rattle.instance_book.specs.declared.shown.ShownState.{ShownState}
 use Rattle.instance_book.specs.declared.book.Book as kept
-use Rattle.instance_book.specs.Views.{Beside, no_journal, book_of, instances_of, instance_of, pages_of, used_of, script_in, no_script, page_of, HasRoomAt}
+use Rattle.instance_book.specs.Views.{Beside, no_journal, book_of, instances_of, instance_of, pages_of, used_of, script_in, no_script, page_of, HasRoomAt, effects_in, new_in}
 use Rattle.instance_book.specs.Places.{CanFollow, Source, own, given, source_in, kept_at, IsStateAt, HasState, AreStatesOf, IsNextIn, IsNextAt, arena_of}
 use Rattle.instance_book.specs.Makes.{shelf_from, HasStatesFrom, HasItsStates, KeepsStates, StaysSame}
 use Rattle.instance_book.specs.Changes.{begun_with, shown_with, gone_in, changed_by, OpensKept, HasRoomFor, KeepsStatesBy}
 use Rattle.instance_book.specs.Standing.{book_under, place_of, BeginsAt}
-use Rattle.instance_book.specs.Segments.{effects_in, new_in, IsNewPage, root_instance, IsOpenedBy, IsExtendedBy}
+use Rattle.instance_book.specs.Segments.{IsNewPage, root_instance, IsOpenedBy, IsExtendedBy}
 use Rattle.book_redo.specs.Redo.{no_rules, counted_to, Counts, are_held, IsStateTold, IsAnswerTold, HasNoAnswer, told_of, HasToldStates, is_read, names_told, IsFree, IsUntold, told_states, IsLandedBy, IsLanded, OpensAt, first_in, opens_on, opens_so, LandsAs, HasFirstState, KeepsStatesOpened, takes_record, StandsThere, IsMisread, IsPassed, IsExtended}
 use Rattle.instance_book.proofs.Seen.{mend_agrees, instance_some}
 use Rattle.instance_book.proofs.Given.{more_given}

@@ -10,7 +10,7 @@ use Rattle.journal_records.specs.declared.records.PageRecord.{PageRecord}
 use Rattle.journal_spec.specs.Retaking.{held}
 use Rattle.instance_book.specs.declared.book.Book.{Book}
 use Rattle.instance_book.specs.Standing.{book_under}
-use Rattle.instance_book.specs.Segments.{effects_in}
+use Rattle.instance_book.specs.Views.{effects_in}
 use Rattle.book_redo.specs.Redo.{are_held, opens_so}
 
 -- whether the record of a start of the script of this place can be of a book

@@ -40,12 +40,12 @@ use Rattle.book_redo.specs.declared.landing.Answered.{Answered}
 use Rattle.book_redo.specs.declared.landing.Answered.TheVariants.{Absent, Misread, Passed, Extends}
 use Rattle.instance_book.specs.declared.shown.ShownState.{ShownState}
 use Rattle.instance_book.specs.declared.book.Book.{Book}
-use Rattle.instance_book.specs.Views.{Beside, book_of, instances_of, instance_of, used_of, script_in}
+use Rattle.instance_book.specs.Views.{Beside, book_of, instances_of, instance_of, used_of, script_in, effects_in, new_in}
 use Rattle.instance_book.specs.Places.{Source, given, source_in, HasState, AreStatesOf, arena_of}
 use Rattle.instance_book.specs.Makes.{MakesUnder, Makes, StaysSame, HasPlaces, KeepsPlaces, shelf_from, HasStatesFrom, HasItsStates, KeepsStates, rules_with, Reopens}
 use Rattle.instance_book.specs.Changes.{changed_by}
 use Rattle.instance_book.specs.Standing.{book_under, place_of, IsPlacedAt, IsKeptAt, BeginsAt}
-use Rattle.instance_book.specs.Segments.{effects_in, new_in, IsExtendedBy}
+use Rattle.instance_book.specs.Segments.{IsExtendedBy}
 
 -- what a record is landed under beside no journal: its length is measured by whoever keeps one
 abbrev pub no_rules : Rules

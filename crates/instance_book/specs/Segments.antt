@@ -5,7 +5,6 @@ use Rattle.script_value.specs.declared.outcome.TxName.{TxName}
 use Rattle.script_nodes.specs.Setup.{Named}
 use Rattle.script_nodes.specs.declared.script.SendKind.{SendKind}
 use Rattle.instance_cells.specs.Cells as spec_cells
-use Rattle.instance_cells.specs.Cells.{reads_of}
 use Rattle.instance_cells.specs.declared.effect.Effect.{Effect}
 use Rattle.instance_cells.specs.Views.{effect_of}
 use Rattle.kept_states.specs.MachineStates.Views.{suspended_of}
@@ -21,7 +20,7 @@ use Rattle.instance_book.specs.declared.after.After.{After}
 use Rattle.instance_book.specs.declared.change.Opening.{Opening}
 use Rattle.instance_book.specs.declared.change.Extension.{Extension}
 use Rattle.instance_book.specs.declared.shown.ShownState.{ShownState}
-use Rattle.instance_book.specs.Views.{page_of, pages_of, mark_of, instance_with}
+use Rattle.instance_book.specs.Views.{page_of, pages_of, mark_of, instance_with, effects_in, new_in}
 use Rattle.instance_book.specs.Places.{kept_at, shown_in}
 use Rattle.instance_book.specs.Changes.{renewed_by, left_with, shown_with, begun_with, gone_in, begun_at}
 
@@ -42,22 +41,6 @@ IsLeftBy effects left i after =
     → left_with after (instance_with all n i) ≡ done (map effect_of effects) left (instance_with all n i)
 
 -- ---- of a record
-
--- what the segment of a page did, as its record tells
-abbrev pub effects_in : PageRecord → List spec_cells.Effect
-effects_in r = map effect_of r.effects.items
-
--- the page of a record, which answers this one, if any, with this
-abbrev pub new_in : PageRecord → (parent : Option ℕ) → (answer : Val) → (inside : List TxName) → spec.Page
-new_in r parent answer inside = record {
-  number = r.ticket;
-  nonce = r.nonce;
-  parent = parent;
-  answer = answer;
-  reads = reads_of (effects_in r);
-  inside = inside;
-  deadline = r.deadline;
-}
 
 -- what is kept stands for this page, which its own segment used last and which is not evicted, and this is kept of its state
 pub record IsNewPage (q : spec.Page) (k : Kept) (p : Numbered KeptPage) : Type 0 where

@@ -1,8 +1,13 @@
 -- What the program's book stands for in the definitions.
 use Rattle.std.specs.Prelude.{◌≡◌, ℕ, Bool, false, List, [], map, get_or, Option, Some, None}
-use Rattle.script_value.specs.Val.{list, no_vals}
+use Rattle.script_value.specs.Val.{Val, list, no_vals}
+use Rattle.script_value.specs.declared.outcome.TxName.{TxName}
 use Rattle.script_nodes.specs.Core.{lit, no_cores}
 use Rattle.script_nodes.specs.Setup.{Named, Library}
+use Rattle.instance_cells.specs.Cells as spec_cells
+use Rattle.instance_cells.specs.Cells.{reads_of}
+use Rattle.instance_cells.specs.Views.{effect_of}
+use Rattle.journal_records.specs.declared.records.PageRecord.{PageRecord}
 use Rattle.journal_records.specs.ReplaySpec.Book as spec
 use Rattle.journal_records.specs.ReplaySpec.Book.{at_number, Doubt, File}
 use Rattle.journal_records.specs.ReplaySpec.Rules.{first_file}
@@ -25,6 +30,22 @@ page_of p = record {
   reads = p.item.reads;
   inside = p.item.inside.items;
   deadline = p.item.deadline;
+}
+
+-- What the segment of a page did, as its record tells.
+abbrev pub effects_in : PageRecord → List spec_cells.Effect
+effects_in r = map effect_of r.effects.items
+
+-- The page of a record, which answers this one, if any, with this answer, inside these transactions.
+abbrev pub new_in : PageRecord → (parent : Option ℕ) → (answer : Val) → (inside : List TxName) → spec.Page
+new_in r parent answer inside = record {
+  number = r.ticket;
+  nonce = r.nonce;
+  parent = parent;
+  answer = answer;
+  reads = reads_of (effects_in r);
+  inside = inside;
+  deadline = r.deadline;
 }
 
 -- the pages that the program's row of pages stands for

@@ -3,9 +3,9 @@ ghost use Rattle.instance_cells.specs.Cells.{reads_of};
 ghost use Rattle.instance_cells.specs.Views.{effect_of};
 ghost use Rattle.kept_states.specs.Kept.{kept_of};
 ghost use Rattle.instance_book.specs.Uses.{is_over_by};
-ghost use Rattle.instance_book.specs.Views.{page_of, mark_of};
+ghost use Rattle.instance_book.specs.Views.{page_of, mark_of, new_in};
 ghost use Rattle.instance_book.specs.Places.{kept_at};
-ghost use Rattle.instance_book.specs.Segments.{new_in, IsNewPage};
+ghost use Rattle.instance_book.specs.Segments.{IsNewPage};
 
 use crate::numbered::Numbered;
 use expiry::expired;

@@ -3,11 +3,11 @@ ghost use Rattle.script_value.specs.Val.{list, no_vals};
 ghost use Rattle.instance_cells.specs.Cells.{AreOn};
 ghost use Rattle.instance_cells.specs.Views.{effect_of};
 ghost use Rattle.instance_book.specs.Lists.{HasRoom};
-ghost use Rattle.instance_book.specs.Views.{pages_of, HasRoomAt};
+ghost use Rattle.instance_book.specs.Views.{pages_of, HasRoomAt, effects_in};
 ghost use Rattle.instance_book.specs.Places.{shown_in};
 ghost use Rattle.instance_book.specs.Makes.{StaysSame, KeepsPlaces, KeepsStates};
 ghost use Rattle.instance_book.specs.Changes.{renewed, HasRoomToOpen};
-ghost use Rattle.instance_book.specs.Segments.{Revokes, BeginsBy, IsLeftBy, effects_in, IsOpenedBy, IsExtendedBy};
+ghost use Rattle.instance_book.specs.Segments.{Revokes, BeginsBy, IsLeftBy, IsOpenedBy, IsExtendedBy};
 
 use crate::after::{After, Show};
 use crate::book::Book;

@@ -30,9 +30,9 @@ module _ {S O E : Type 0} where
   abbrev pub AreSeated : TableId → Seat S (View O E) → Seat S (View O E) → Type 0
   AreSeated z a b = (a.table_id ≡ z) × (b.table_id ≡ z) × IsSized z
 
-  -- The view v where it has taken in the note n: it has seen the longer of both histories.
-  abbrev pub joined : View O E → View O E → View O E
-  joined v n = posed Outside (longer v.seen n.seen) v
+-- The view v where it has taken in the note n: it has seen the longer of both histories.
+abbrev pub joined : {O E : Type 0} → View O E → View O E → View O E
+joined v n = posed Outside (longer v.seen n.seen) v
 
 module _ {S O E : Type 0} (g : Ghosts S O E) where
   -- the seat has the value x, whose history begins with all that it had seen, and has no other entry of its caller

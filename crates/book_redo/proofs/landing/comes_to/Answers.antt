@@ -2,8 +2,7 @@ use Rattle.std.proofs.Common.{sym, inl, inr}
 use Rattle.std.proofs.lemmas.Bool.{and_parts}
 use Rattle.script_nodes.specs.Views.{library_of, named_of}
 use Rattle.replay_spec.specs.Recovery.{can_go}
-use Rattle.instance_book.specs.Views.{used_of}
-use Rattle.instance_book.specs.Segments.{effects_in}
+use Rattle.instance_book.specs.Views.{used_of, effects_in}
 use Rattle.book_redo.specs.Redo.{are_held, HasNoAnswer, IsAnswerTold}
 use Rattle.book_redo.proofs.Passed.{of_some, of_none, held_on}
 use Rattle.book_redo.proofs.Redone.{stands_there, place_states}

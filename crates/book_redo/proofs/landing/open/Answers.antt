@@ -3,8 +3,7 @@ use Rattle.std.proofs.lemmas.Bool.{and_parts}
 use Rattle.script_nodes.specs.Views.{named_of}
 use Rattle.replay_spec.specs.Book as spec
 use Rattle.replay_spec.specs.Recovery.{can_go}
-use Rattle.instance_book.specs.Views.{no_journal}
-use Rattle.instance_book.specs.Segments.{effects_in}
+use Rattle.instance_book.specs.Views.{no_journal, effects_in}
 use Rattle.book_redo.specs.Redo.{are_held}
 use Rattle.book_redo.proofs.Passed.{held_on}
 use Rattle.book_redo.proofs.Landed.{on_by, opens_passed, opens_landed, opens_kept}

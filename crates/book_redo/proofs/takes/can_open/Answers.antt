@@ -1,6 +1,6 @@
 use Rattle.std.proofs.Common.{◌≡◌, ◌∙◌, ℕ, ap, sym, Bool, true, false, List, [], length}
 use Rattle.std.specs.Prelude.{◌&&◌, ◌==◌}
-use Rattle.instance_book.specs.Segments.{effects_in}
+use Rattle.instance_book.specs.Views.{effects_in}
 use Rattle.book_redo.specs.Redo.{are_held}
 use Rattle.book_redo.proofs.Landed.{nothing_goes}
 use Rattle.book_redo.proofs.takes.can_open.Goals as goal

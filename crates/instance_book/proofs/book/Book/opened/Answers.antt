@@ -3,9 +3,9 @@ use Rattle.script_value.specs.Val.{Val, list, no_vals}
 use Rattle.journal_records.specs.ReplaySpec.Book as spec
 use Rattle.journal_records.specs.ReplaySpec.Marks.{Mark, uses_of, evictions_of}
 use Rattle.kept_states.specs.Kept.{kept_of}
-use Rattle.instance_book.specs.Views.{page_of, mark_of}
+use Rattle.instance_book.specs.Views.{page_of, mark_of, effects_in, new_in}
 use Rattle.instance_book.specs.Changes.{begun_at}
-use Rattle.instance_book.specs.Segments.{effects_in, new_in, IsNewPage, BeginsBy}
+use Rattle.instance_book.specs.Segments.{IsNewPage, BeginsBy}
 use Rattle.instance_book.proofs.book.Book.opened.Goals as goal
 
 pub returns-clause-opens : goal.returns-clause-opens

@@ -2,9 +2,9 @@ use Rattle.std.proofs.Common.{◌∙◌, ap, refl, List, ℕ, Some, None}
 use Rattle.journal_records.specs.ReplaySpec.Book.{Page, Instance}
 use Rattle.journal_records.specs.ReplaySpec.Change.{put_page, put_use, unless_gone, used_in, evict, done, revoked_by}
 use Rattle.journal_records.specs.ReplaySpec.Marks.{Mark, use_of}
-use Rattle.instance_book.specs.Views.{page_of, mark_of, instance_with}
+use Rattle.instance_book.specs.Views.{page_of, mark_of, instance_with, effects_in, new_in}
 use Rattle.instance_book.specs.Changes.{renewed_by}
-use Rattle.instance_book.specs.Segments.{effects_in, new_in, IsLeftBy, IsNewPage}
+use Rattle.instance_book.specs.Segments.{IsLeftBy, IsNewPage}
 use Rattle.kept_states.specs.Kept.{kept_of}
 use Rattle.instance_book.proofs.segment.Numbered+KeptInstance.extended.Goals as goal
 
