@@ -6,6 +6,8 @@ mod audits;
 #[cfg(test)]
 mod bytes;
 #[cfg(test)]
+mod followers;
+#[cfg(test)]
 mod formats;
 #[cfg(test)]
 mod long;

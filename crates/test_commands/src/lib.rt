@@ -1,4 +1,4 @@
-//! Tests of the command over an outside in memory: where streams fail, texts are long, runs are measured or journals are audited; and of `serve`, with its gate and its clock, a journal in files, audits before it, and two workers beside one another.
+//! Tests of the command over an outside in memory: where streams fail, texts are long, runs are measured, journals are audited or followed; and of `serve`, with its gate and its clock, a journal in files, audits before it, and two workers beside one another.
 #![tactic(auto)]
 
 #[cfg(test)]
@@ -7,6 +7,8 @@ mod audited_first;
 mod audits;
 #[cfg(test)]
 mod endings;
+#[cfg(test)]
+mod followers;
 #[cfg(test)]
 mod full;
 #[cfg(test)]

@@ -100,6 +100,33 @@ fn sink_of(alloc: Global, outside: &Outside) -> Result<TextSink, Fail> {
     Ok(sink)
 }
 
+/// The status, what was written, and whether all of that was handed on.
+#[derive(Drop)]
+pub struct Written {
+    pub status: u8,
+    pub bytes: Vec<u8>,
+    pub handed: bool,
+}
+
+/// What a command with these words and this input comes to, whose output may be no text.
+pub fn outcome_of<R: Machine>(
+    rt: &R,
+    words: &[&str],
+    input: &[u8],
+    outside: &Outside,
+) -> Result<Written, Fail> {
+    let alloc = rt.alloc();
+    let reads = outside.reads.to_vec(alloc)?;
+    let mut source = TextSource::new(input.to_vec(alloc)?, reads, outside.greatest.max(1));
+    let mut sink = sink_of(alloc, outside)?;
+    let status = status_of(rt, words, &mut source, &mut sink);
+    Ok(Written {
+        status,
+        bytes: sink.bytes().to_vec(alloc)?,
+        handed: sink.handed() == sink.bytes(),
+    })
+}
+
 /// What a command with these words and this input comes to.
 pub fn ran<R: Machine>(
     rt: &R,
@@ -107,15 +134,15 @@ pub fn ran<R: Machine>(
     input: &[u8],
     outside: &Outside,
 ) -> Result<Outcome, Fail> {
-    let alloc = rt.alloc();
-    let reads = outside.reads.to_vec(alloc)?;
-    let mut source = TextSource::new(input.to_vec(alloc)?, reads, outside.greatest.max(1));
-    let mut sink = sink_of(alloc, outside)?;
-    let status = status_of(rt, words, &mut source, &mut sink);
+    let Written {
+        status,
+        bytes,
+        handed,
+    } = outcome_of(rt, words, input, outside)?;
     Ok(Outcome {
         status,
-        text: String::from_str(alloc, str::from_utf8(sink.bytes())?)?,
-        handed: sink.handed() == sink.bytes(),
+        text: String::from_utf8(bytes)?,
+        handed,
     })
 }
 

@@ -3,8 +3,8 @@ use crate::texts::input_of;
 use std::alloc::Global;
 use std::test::Fail;
 
-// A script that asks for two numbers, and shows their sum.
-const SUM: &str =
+/// A script that asks for two numbers, and shows their sum.
+pub const SUM: &str =
     "(let ((a (string->number (extract-binding/single 'n (send/suspend (lambda (u) (list 'a (list (list 'href u)) \"1\")))))) (b (string->number (extract-binding/single 'n (send/suspend (lambda (u) (list 'a (list (list 'href u)) \"2\"))))))) (list 'p (number->string (+ a b))))";
 
 // A sum goes on.
@@ -53,7 +53,7 @@ pub fn first_sums(alloc: Global) -> Result<String, Fail> {
     input_of(alloc, &[("sum", SUM)], FIRST_STEPS)
 }
 
-/// The same visits of each of two shelves.
+/// The input of the first visits of each of two shelves.
 pub fn sums_of_two(alloc: Global) -> Result<String, Fail> {
     input_of(alloc, &[("sum", SUM)], STEPS_OF_TWO)
 }

@@ -1,0 +1,193 @@
+//! Following and promoting over disks that stop or fail at each of their calls.
+ghost use Rattle.std.specs.Prelude.{true};
+ghost use Rattle.disk_trio.specs.Trio.{trio_view};
+ghost use Rattle.shelf.specs.Following.{IsInOrderIfFed};
+
+use crate::adoptions::{PLACES, WRECKS};
+use crate::feeds::{bodies_in, feed_of, feed_with, first_of};
+use crate::followed::{FAIR, fed, held};
+use crate::openings::{Opening, RULES, opened_bare, tried_bare};
+use crate::sums::{SEVEN, bare, nothing, sums_feed, sums_setup, visited_with};
+use disk_trio::Disks;
+use page_follower::FollowEnd;
+use script_value::Reply;
+use shelf::BeginFault;
+use std::alloc::Global;
+use std::test::Fail;
+use test_compactions::files::{Files, Place, Trouble, Wrong, disks_of, files_of, left_by};
+use test_shelves::MemoryShelf;
+use web_disk::{MemoryDisk, Wreck};
+
+// Behind so many calls of each of its disks a shelf that follows has come to the end of a feed of four records.
+const MOST_CALLS: u64 = 40;
+
+// How many records of the feed were acknowledged that a journal without records follows, one of whose disks is wrong; and what is left of these.
+fn acked_despite(
+    alloc: Global,
+    feed: &[u8],
+    wrong: Wrong,
+) -> Result<(u64, Disks<MemoryDisk>), Fail> {
+    let disks = disks_of(alloc, &bare(alloc)?, Some(wrong))?;
+    match tried_bare(alloc, disks, Opening::ToFollow, RULES) {
+        Ok(mut shelf) => {
+            let (end, acks) = fed(alloc, &mut shelf, feed, &FAIR)?;
+            let (disks, _nonces) = shelf.close();
+            match end {
+                FollowEnd::Held | FollowEnd::DiskFault => Ok((acks, disks)),
+                _ => Err(Fail::from("another end")),
+            }
+        }
+        Err((BeginFault::DiskFault, disks)) => Ok((0, disks)),
+        Err(_) => Err(Fail::from("another fault")),
+    }
+}
+
+// Whether at least as many records of the feed are held on these files as were acknowledged, and at most one more; the feed goes on from there.
+fn are_held(alloc: Global, files: &Files, feed: &[u8], acks: u64) -> Result<bool, Fail> {
+    let known = feed_of(alloc, files)?;
+    let whole = held(alloc, files, feed, 4)?;
+    let bodies = bodies_in(alloc, &whole.a)?;
+    let least = feed_with(alloc, first_of(&bodies, acks as usize))?;
+    let most = feed_with(alloc, first_of(&bodies, (acks as usize).saturating_add(1)))?;
+    Ok(known == least || known == most)
+}
+
+// Refuses a crash behind such a feeding that loses a record that was acknowledged.
+fn expect_held(alloc: Global, feed: &[u8], wrong: Wrong) -> Result<(), Fail> {
+    for wreck in WRECKS {
+        let (acks, disks) = acked_despite(alloc, feed, wrong)?;
+        let left = left_by(disks, *wreck);
+        if !are_held(alloc, &left, feed, acks)? {
+            return Err(Fail::from("a record that was acknowledged is gone"));
+        }
+    }
+    Ok(())
+}
+
+#[test]
+fn what_was_acknowledged_is_held(rt: HostRuntime) -> Result<(), Fail> {
+    let alloc = rt.alloc();
+    let feed = sums_feed(alloc)?;
+    for place in PLACES {
+        for trouble in [Trouble::Stops, Trouble::Fails] {
+            for call in 0..MOST_CALLS {
+                let wrong = Wrong {
+                    place: *place,
+                    trouble,
+                    call,
+                };
+                expect_held(alloc, &feed, wrong)?;
+            }
+        }
+    }
+    Ok(())
+}
+
+/// How promoting a shelf went.
+#[derive(Clone, Copy, Debug, PartialEq, Eq)]
+enum Went {
+    Unopened,
+    Fell,
+    Promoted,
+}
+
+// Promotes a shelf; where the disk fails, it follows no longer and leads no more than before, until it is opened again.
+fn promote(alloc: Global, shelf: &mut MemoryShelf) -> Result<Went, Fail>
+    requires { IsInOrderIfFed trio_view true shelf.old }
+{
+    match shelf.promote(alloc) {
+        Ok(true) => return Ok(Went::Promoted),
+        Err(Reply::DiskFault(1)) => {}
+        _ => return Err(Fail::from("another answer")),
+    }
+    match shelf.promote(alloc) {
+        Err(Reply::Down(1)) => Ok(Went::Fell),
+        _ => Err(Fail::from("a promotion of a shelf whose disk failed")),
+    }
+}
+
+// How promoting the shelf of these files went, one of whose disks is wrong; and what is left of the disks.
+fn promoted_despite(
+    alloc: Global,
+    files: &Files,
+    wrong: Wrong,
+) -> Result<(Went, Disks<MemoryDisk>), Fail> {
+    let disks = disks_of(alloc, files, Some(wrong))?;
+    match tried_bare(alloc, disks, Opening::AsItIs, RULES) {
+        Ok(mut shelf) => {
+            let went = promote(alloc, &mut shelf)?;
+            let (disks, _nonces) = shelf.close();
+            Ok((went, disks))
+        }
+        Err((BeginFault::DiskFault, disks)) => Ok((Went::Unopened, disks)),
+        Err(_) => Err(Fail::from("another fault")),
+    }
+}
+
+// Whether the shelf of these files follows.
+fn follows(alloc: Global, files: &Files) -> Result<bool, Fail> {
+    let shelf = opened_bare(alloc, files, Opening::AsItIs)?;
+    Ok(shelf.follows())
+}
+
+// Whether the shelf follows of these files, which such a crash left of a promotion. It goes on with its visits, once it is promoted where it follows.
+fn goes_on(alloc: Global, files: &Files) -> Result<bool, Fail> {
+    let still = follows(alloc, files)?;
+    let whole = promoted_again(alloc, files, still)?;
+    let setup = sums_setup(alloc)?;
+    let _visited = visited_with(alloc, &whole, &setup, SEVEN, RULES)?;
+    Ok(still)
+}
+
+// What stands on the disks of these files once they are promoted, where that is still to be done.
+fn promoted_again(alloc: Global, files: &Files, still: bool) -> Result<Files, Fail> {
+    let mut shelf = opened_bare(alloc, files, Opening::AsItIs)?;
+    match shelf.promote(alloc) {
+        Ok(promoted) if promoted == still => files_of(alloc, shelf),
+        _ => Err(Fail::from("another promotion")),
+    }
+}
+
+// Whether a shelf may follow behind a promotion that went so.
+fn may_follow(went: Went, follows: bool) -> bool {
+    match went {
+        Went::Unopened => follows,
+        Went::Fell => true,
+        Went::Promoted => !follows,
+    }
+}
+
+// Whether, behind each such crash, the shelf is promoted or follows as a promotion of these files went with this call.
+fn is_whole(alloc: Global, files: &Files, wrong: Wrong, wreck: Wreck) -> Result<bool, Fail> {
+    let (went, disks) = promoted_despite(alloc, files, wrong)?;
+    let left = left_by(disks, wreck);
+    Ok(may_follow(went, goes_on(alloc, &left)?))
+}
+
+// Refuses a crash behind which a shelf that was promoted follows, or one that was not leads.
+fn expect_whole(alloc: Global, files: &Files, place: Place, trouble: Trouble) -> Result<(), Fail> {
+    for call in 0..MOST_CALLS {
+        let wrong = Wrong {
+            place,
+            trouble,
+            call,
+        };
+        for wreck in WRECKS {
+            if !is_whole(alloc, files, wrong, *wreck)? {
+                return Err(Fail::from("a promotion in part"));
+            }
+        }
+    }
+    Ok(())
+}
+
+#[test]
+fn a_promotion_that_stops_happened_or_not(rt: HostRuntime) -> Result<(), Fail> {
+    let alloc = rt.alloc();
+    let files = held(alloc, &nothing(alloc), &sums_feed(alloc)?, 4)?;
+    for place in PLACES {
+        expect_whole(alloc, &files, *place, Trouble::Stops)?;
+        expect_whole(alloc, &files, *place, Trouble::Fails)?;
+    }
+    Ok(())
+}
