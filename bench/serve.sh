@@ -2,11 +2,13 @@
 # Starts `serve` on a free port, tries a start, an answer, the way back and a second window with curl, and prints how many
 # requests a second it serves, beside a bare loop that accepts, reads, replies and closes (bare_loop.c, by `cc -O2`). Then
 # 1, 8 and 64 clients that keep their links (clients.c) ask four workers over four shelves, for what is unknown and for
-# visits, in memory and with a journal, beside four bare loops that keep their links, up to 100 requests a link as `serve`
-# does. Beside the visits with a journal stand bare loops of write, sync, write, sync of as many bytes (sync_loop.c), one for
-# each client and four at most. Of each column it prints what part of its loops' figure it is. At last 64 links are held open and idle, and visitors come (idle_links.c): where one waits for 50 milliseconds or more, it fails. The first
-# word says how many requests one client sends, 1,000 if it is not given, the second how many those that keep their links,
-# 20,000. No part of the gate. Needs curl, cc, and a date that knows %N.
+# visits, four of each shelf, in memory and with a journal, beside four bare loops that keep their links, up to 100 requests
+# a link as `serve` does. Beside the visits with a journal stand bare loops of write, sync, write, sync of as many bytes
+# (sync_loop.c), one for each client and four at most. Of each column it prints what part of its loops' figure it is, and over
+# how many connections the visits came. At last 64 links are held open and idle, and visitors come (idle_links.c): where one
+# waits for 50 milliseconds or more, it fails. The first word says how many requests one client sends, 1,000 if it is not
+# given, the second how many those that keep their links, 20,000. No part of the gate. Needs curl, cc, and a date that knows
+# %N.
 
 here=$(CDPATH='' cd -- "$(dirname -- "$0")/.." && pwd) || exit 1
 work=$(mktemp -d "${TMPDIR:-/tmp}/hovgyelit-serve.XXXXXX") || exit 1
@@ -117,14 +119,25 @@ kept_rate() {
     echo "$rate"
 }
 
-# Targets of visits: each is the last answer of an instance of its own, which leaves a record.
+# Targets of visits: each is the last answer of an instance of its own, which leaves a record. A start goes to the shelf of
+# the worker that takes its connection, and idle workers take turns at that. So an odd number of connections stands between
+# two starts, and an instance beyond the fourth of its shelf is left alone: each of the four shelves gives four targets.
 visits() {
     : >"$work/visits"
-    for _ in 1 2 3 4 5 6 7 8 9 10 11 12 13 14 15 16; do
+    tries=0
+    while [ "$(wc -l <"$work/visits")" -lt 16 ]; do
+        tries=$((tries + 1))
+        [ "$tries" -le 400 ] || fail "starts do not come to all four shelves: $(cut -d'*' -f1 "$work/visits" | sort | uniq -c)"
         page /servlets/sum >"$work/first"
         page "$(action_in "$work/first")" n=3 >"$work/second"
-        echo "$(action_in "$work/second")?n=4" >>"$work/visits"
+        last=$(action_in "$work/second")
+        shelf=$(echo "$last" | sed -n 's/^[^;]*;\([0-9]*\)[*].*/\1/p')
+        [ -n "$shelf" ] || fail "the second page shows no form: $(cat "$work/second")"
+        [ "$(grep -c ";$shelf[*]" "$work/visits")" -ge 4 ] || echo "$last?n=4" >>"$work/visits"
+        page /servlets/other >/dev/null
     done
+    sort -t'*' -k2,2n -k1,1 "$work/visits" >"$work/in_turn"
+    mv "$work/in_turn" "$work/visits"
 }
 
 # How many bytes the journal has.
@@ -149,18 +162,21 @@ visits
 for clients in 1 8 64; do
     unknown=$(kept_rate "$in_memory" "$clients" "$work/unknown") || exit 1
     memory=$(kept_rate "$in_memory" "$clients" "$work/visits_in_memory") || exit 1
+    read -r _ _ _ memory_links <"$work/said"
     before=$(journal_bytes)
     journal=$(kept_rate "$host" "$clients" "$work/visits") || exit 1
     record=$((($(journal_bytes) - before + kept / 2) / kept))
     bare=$(kept_rate "$there" "$clients" "$work/unknown") || exit 1
+    read -r _ _ _ bare_links <"$work/said"
     files=$((clients < 4 ? clients : 4))
     syncs=$("$work/sync_loop" "$work/synced" "$((kept / files))" "$record" "$files") || fail "the sync loops ended badly"
     printf '%7s %8s %17s %22s %11s %11s\n' "$clients" "$unknown" "$memory" "$journal" "$bare" "$syncs"
-    echo "$clients $unknown $memory $journal $bare $syncs" >>"$work/parts"
+    echo "$clients $unknown $memory $journal $bare $syncs $memory_links $bare_links" >>"$work/parts"
 done
 awk '{
     printf "%s clients: unknown %.2f and visits in memory %.2f of the bare loops, visits with a journal %.2f of the sync loops\n",
         $1, $2 / $5, $3 / $5, $4 / $6
+    printf "  visits in memory came over %s connections, those of the bare loops over %s\n", $7, $8
 }' "$work/parts"
 pkill -P "$bare_loops" 2>/dev/null
 kill "$bare_loops"
