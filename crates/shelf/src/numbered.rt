@@ -8,6 +8,13 @@ impl Rules {
     pub fn numbered(self, number: u32) -> Rules
         ensures { result ≡ numbered self number }
     {
-        Rules { number, ..self }
+        Rules {
+            number,
+            shelves: self.shelves,
+            fuel: self.fuel,
+            life: self.life,
+            instances: self.instances,
+            pages: self.pages,
+        }
     }
 }
