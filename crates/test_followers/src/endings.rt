@@ -1,13 +1,14 @@
 //! Each way in which following a feed ends before the feed does.
 
 use crate::feeds::{HEAD, ROLES, bodies_in, feed_of, front, with_record};
-use crate::followed::{Outcome, Pipes, followed, followed_through, held};
-use crate::openings::{Opening, opened_bare};
+use crate::followed::{
+    Outcome, Pipes, followed, followed_through, follower, held, promoted, waiting,
+};
 use crate::sums::{PLACES, bare, leader, nothing, sums_feed};
 use page_follower::{FeedFault, FollowEnd};
 use std::alloc::Global;
 use std::test::Fail;
-use test_compactions::files::{Files, files_of};
+use test_compactions::files::Files;
 
 // How following this feed ends, and how many records are acknowledged, which has to leave the disks as they are.
 fn refused(alloc: Global, files: &Files, feed: &[u8]) -> Result<(FollowEnd, u64), Fail> {
@@ -20,16 +21,6 @@ fn refused(alloc: Global, files: &Files, feed: &[u8]) -> Result<(FollowEnd, u64)
         return Ok((end, acks));
     }
     Err(Fail::from("something was written"))
-}
-
-// What stands on the disks of a follower that holds this feed of four records.
-fn follower(alloc: Global, feed: &[u8]) -> Result<Files, Fail> {
-    held(alloc, &nothing(alloc), feed, 4)
-}
-
-// The same of one that was fed nothing.
-fn waiting(alloc: Global) -> Result<Files, Fail> {
-    held(alloc, &nothing(alloc), HEAD, 0)
 }
 
 // A copy of these bytes with another one at this place.
@@ -62,33 +53,24 @@ fn another_head_is_told(rt: HostRuntime) -> Result<(), Fail> {
 // The end where the shelf does not follow.
 const LEADS: (FollowEnd, u64) = (FollowEnd::Promoted, 0);
 
-// What stands on the disks of the shelf of these files once it was promoted.
-fn promoted(alloc: Global, files: &Files) -> Result<Files, Fail> {
-    let mut shelf = opened_bare(alloc, files, Opening::AsItIs)?;
-    match shelf.promote(alloc) {
-        Ok(true) => files_of(alloc, shelf),
-        _ => Err(Fail::from("not promoted")),
-    }
+// Whether the shelf of these files takes no feed: whatever it is, and where it cannot be read.
+fn takes_none(alloc: Global, files: &Files, feed: &[u8]) -> Result<bool, Fail> {
+    let whole = refused(alloc, files, feed)?;
+    let other = refused(alloc, files, b"no feed")?;
+    let unread = followed_unread(alloc, files, feed, 0)?;
+    Ok(whole == LEADS && other == LEADS && (unread.end, unread.acks) == LEADS)
 }
 
-// That a journal was not begun by a follower, or was promoted, is told before the feed is read: whatever it is, and where it cannot be read.
+// That a journal was not begun by a follower, or was promoted, is told before the feed is read.
 #[test]
 fn a_leader_takes_no_feed(rt: HostRuntime) -> Result<(), Fail> {
     let alloc = rt.alloc();
     let feed = sums_feed(alloc)?;
-    let leaders = [
-        leader(alloc)?,
-        promoted(alloc, &follower(alloc, &feed)?)?,
-        promoted(alloc, &waiting(alloc)?)?,
-    ];
-    for files in &leaders {
-        assert_eq!(rt; refused(alloc, files, &feed)?, LEADS);
-        assert_eq!(rt; refused(alloc, files, b"no feed")?, LEADS);
-        assert_eq!(rt;
-            followed_unread(alloc, files, &feed, 0)?.end,
-            FollowEnd::Promoted
-        );
-    }
+    assert!(rt; takes_none(alloc, &leader(alloc)?, &feed)?);
+    let files = promoted(alloc, &follower(alloc, &feed)?, true)?;
+    assert!(rt; takes_none(alloc, &files, &feed)?, "promoted");
+    let files = promoted(alloc, &waiting(alloc)?, true)?;
+    assert!(rt; takes_none(alloc, &files, &feed)?, "fed nothing");
     Ok(())
 }
 
@@ -207,7 +189,7 @@ fn a_record_that_differs_is_told(rt: HostRuntime) -> Result<(), Fail> {
 
 // The feed with its first record, and then one of the front of the second body that has this length, and of the last bytes.
 fn with_second(alloc: Global, feed: &[u8], length: usize, more: &[u8]) -> Result<Vec<u8>, Fail> {
-    let (before, rest) = feed.split_at(304.min(feed.len()));
+    let (before, rest) = feed.split_at(feed.len().min(304));
     let mut body = front(rest, length).to_vec(alloc)?;
     body.extend_from_slice(more)?;
     with_record(alloc, front(before, 300), &body)
@@ -294,7 +276,7 @@ fn a_journal_begins_with_its_first_record(rt: HostRuntime) -> Result<(), Fail> {
     let alloc = rt.alloc();
     let files = waiting(alloc)?;
     let bodies = bodies_in(alloc, &leader(alloc)?.a)?;
-    let (_first, others) = bodies.split_at(1.min(bodies.len()));
+    let (_first, others) = bodies.split_at(bodies.len().min(1));
     for body in others {
         let feed = with_record(alloc, HEAD, body)?;
         assert_eq!(rt;

@@ -5,8 +5,8 @@ ghost use Rattle.setup_reader.specs.Texts.{IsReadSetup};
 ghost use Rattle.disk_trio.specs.Trio.{trio_view};
 ghost use Rattle.shelf.specs.Views.{IsInOrder};
 
-use crate::feeds::{HEAD, feed_in};
-use crate::followed::held;
+use crate::feeds::feed_in;
+use crate::followed::{follower, held, waiting};
 use crate::openings::RULES;
 use crate::sums::{nothing, opened, sums_feed, sums_setup};
 use script_nodes::Setup;
@@ -109,16 +109,8 @@ fn does_nothing(alloc: Global, files: &Files, clock: u64) -> Result<bool, Fail> 
 fn a_shelf_that_follows_does_nothing_else(rt: HostRuntime) -> Result<(), Fail> {
     let alloc = rt.alloc();
     let feed = sums_feed(alloc)?;
-    let files = held(alloc, &nothing(alloc), &feed, 4)?;
-    assert!(rt; does_nothing(alloc, &files, 0)?);
-    Ok(())
-}
-
-#[test]
-fn a_shelf_that_was_fed_nothing_does_nothing_else(rt: HostRuntime) -> Result<(), Fail> {
-    let alloc = rt.alloc();
-    let files = held(alloc, &nothing(alloc), HEAD, 0)?;
-    assert!(rt; does_nothing(alloc, &files, 0)?);
+    assert!(rt; does_nothing(alloc, &follower(alloc, &feed)?, 0)?);
+    assert!(rt; does_nothing(alloc, &waiting(alloc)?, 0)?, "fed nothing");
     Ok(())
 }
 

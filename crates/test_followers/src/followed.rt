@@ -4,7 +4,9 @@ ghost use Rattle.disk_trio.specs.Trio.{trio_view};
 ghost use Rattle.shelf.specs.Following.{CanBeFed, IsInOrderIfFed, IsReadable};
 ghost use Rattle.shelf.specs.Views.{follows_in};
 
+use crate::feeds::HEAD;
 use crate::openings::{Opening, opened_bare};
+use crate::sums::nothing;
 use page_follower::{FollowEnd, follow};
 use std::alloc::Global;
 use std::test::Fail;
@@ -109,4 +111,23 @@ pub fn held(alloc: Global, files: &Files, feed: &[u8], records: u64) -> Result<F
         return Ok(files);
     }
     Err(Fail::from("a feed that is not held"))
+}
+
+/// What stands on the disks of a new follower that holds this feed of four records.
+pub fn follower(alloc: Global, feed: &[u8]) -> Result<Files, Fail> {
+    held(alloc, &nothing(alloc), feed, 4)
+}
+
+/// What stands on the disks of a new follower that was fed nothing.
+pub fn waiting(alloc: Global) -> Result<Files, Fail> {
+    held(alloc, &nothing(alloc), HEAD, 0)
+}
+
+/// What stands on the disks of these files once they are promoted, which has to tell whether they followed; they follow no longer.
+pub fn promoted(alloc: Global, files: &Files, followed: bool) -> Result<Files, Fail> {
+    let mut shelf = opened_bare(alloc, files, Opening::AsItIs)?;
+    match shelf.promote(alloc) {
+        Ok(told) if told == followed && !shelf.follows() => files_of(alloc, shelf),
+        _ => Err(Fail::from("another promotion")),
+    }
 }

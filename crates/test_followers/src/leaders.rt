@@ -1,14 +1,11 @@
 //! Feeds of journals that were compacted, of an older format, and of several setups; and what a follower of each goes on with once it is promoted.
-ghost use Rattle.std.specs.Prelude.{true};
 ghost use Rattle.script_nodes.specs.Views.{scripts_of};
 ghost use Rattle.setup_reader.specs.Texts.{IsReadSetup};
-ghost use Rattle.disk_trio.specs.Trio.{trio_view};
-ghost use Rattle.shelf.specs.Views.{IsInOrder};
 
 use crate::feeds::{bodies_in, feed_of, feed_with};
-use crate::followed::{followed, held};
+use crate::followed::{followed, follower, held, promoted};
 use crate::openings::{Opening, RULES, opened_bare};
-use crate::sums::{SEVEN, VISITS, nothing, opened, sums_feed, sums_setup, visited_with};
+use crate::sums::{SEVEN, VISITS, nothing, opened, sums_feed, sums_setup, visited, visited_with};
 use page_follower::FollowEnd;
 use script_nodes::Setup;
 use std::alloc::Global;
@@ -31,15 +28,6 @@ fn follower_of(alloc: Global, leader: &Files, records: u64) -> Result<Files, Fai
     Err(Fail::from("another feed"))
 }
 
-// What stands on the disks of these files once they are promoted.
-fn promoted(alloc: Global, files: &Files) -> Result<Files, Fail> {
-    let mut shelf = opened_bare(alloc, files, Opening::AsItIs)?;
-    match shelf.promote(alloc) {
-        Ok(true) => files_of(alloc, shelf),
-        _ => Err(Fail::from("not promoted")),
-    }
-}
-
 // Refuses a leader of these files and so many records, a new follower of which does not go on with these visits once it is promoted.
 fn expect_goes_on(
     alloc: Global,
@@ -50,7 +38,7 @@ fn expect_goes_on(
 ) -> Result<(), Fail>
     requires { IsReadSetup (scripts_of setup.now) }
 {
-    let files = promoted(alloc, &follower_of(alloc, leader, records)?)?;
+    let files = promoted(alloc, &follower_of(alloc, leader, records)?, true)?;
     let _visited = visited_with(alloc, &files, setup, visits, RULES)?;
     Ok(())
 }
@@ -103,12 +91,6 @@ const OLDER: &[(u8, &[&[&[u8]]])] = &[
     (5, &[DRAWN, FORMAT_3, RENEWED]),
 ];
 
-// How many records a file has.
-fn count_of(alloc: Global, files: &Files) -> Result<u64, Fail> {
-    let bodies = bodies_in(alloc, newest_file(files))?;
-    Ok(bodies.len() as u64)
-}
-
 // The file that the root names.
 fn newest_file(files: &Files) -> &[u8] {
     if files.root.is_empty() {
@@ -129,8 +111,8 @@ fn expect_followed(alloc: Global, format: u8, parts: &[&[&[u8]]]) -> Result<(), 
     let setup = setup(alloc, SCRIPTS)?;
     let old = files_with(alloc, file_of(alloc, format, SCRIPTS, parts)?);
     let migrated = reopened(alloc, &old)?;
-    let records = count_of(alloc, &migrated)?;
     let bodies = bodies_in(alloc, newest_file(&migrated))?;
+    let records = bodies.len() as u64;
     if feed_of(alloc, &old)? != feed_with(alloc, &bodies)? {
         return Err(Fail::from("another feed than the migrated file's"));
     }
@@ -147,22 +129,27 @@ fn journals_of_older_formats_are_followed(rt: HostRuntime) -> Result<(), Fail> {
     Ok(())
 }
 
-// What stands on the disks of a shelf of sums behind its visits and a compaction, which leaves out the last one.
-fn short_files(alloc: Global, setup: &Setup) -> Result<Files, Fail>
+// What stands on the disks of the shelf of these files behind visits and a compaction.
+fn compacted_behind(
+    alloc: Global,
+    files: &Files,
+    setup: &Setup,
+    visits: &[Visit],
+) -> Result<Files, Fail>
     requires { IsReadSetup (scripts_of setup.now) }
 {
-    let mut shelf = opened(alloc, &nothing(alloc), setup, RULES)?;
-    expect_visits(alloc, &mut shelf, VISITS)?;
+    let mut shelf = opened(alloc, files, setup, RULES)?;
+    expect_visits(alloc, &mut shelf, visits)?;
     let _length = compacted(alloc, &mut shelf)?;
     files_of(alloc, shelf)
 }
 
-// Behind the first record stands the number that is drawn next.
+// A compaction leaves out the last visit. Behind the first record stands the number that is drawn next.
 #[test]
 fn a_compacted_journal_is_followed(rt: HostRuntime) -> Result<(), Fail> {
     let alloc = rt.alloc();
     let setup = sums_setup(alloc)?;
-    let files = short_files(alloc, &setup)?;
+    let files = compacted_behind(alloc, &nothing(alloc), &setup, VISITS)?;
     let bodies = bodies_in(alloc, newest_file(&files))?;
     let drawn = bodies.get(1).ok_or("no second record")?;
     assert_eq!(rt; drawn.as_slice(), b"\x07\x03\0\0\0\0\0\0\0".as_slice());
@@ -173,9 +160,10 @@ fn a_compacted_journal_is_followed(rt: HostRuntime) -> Result<(), Fail> {
 #[test]
 fn a_compaction_ends_following(rt: HostRuntime) -> Result<(), Fail> {
     let alloc = rt.alloc();
-    let files = held(alloc, &nothing(alloc), &sums_feed(alloc)?, 4)?;
-    let short = feed_of(alloc, &short_files(alloc, &sums_setup(alloc)?)?)?;
-    let after = followed(alloc, &files, &short)?;
+    let files = follower(alloc, &sums_feed(alloc)?)?;
+    let setup = sums_setup(alloc)?;
+    let short = compacted_behind(alloc, &nothing(alloc), &setup, VISITS)?;
+    let after = followed(alloc, &files, &feed_of(alloc, &short)?)?;
     assert_eq!(rt;
         (after.end, after.acks),
         (FollowEnd::Other { place: 300 }, 1)
@@ -227,38 +215,47 @@ fn started(alloc: Global, files: &Files, version: usize) -> Result<Files, Fail> 
     visited_with(alloc, files, &setup, &[*start], RULES)
 }
 
+// What stands on the disks of a promoted follower of the first of these, once it was fed the other one too, which has four records.
+fn fed_twice(alloc: Global, first: &Files, both: &Files) -> Result<Files, Fail> {
+    let early = follower_of(alloc, first, 2)?;
+    let late = held(alloc, &early, &feed_of(alloc, both)?, 4)?;
+    promoted(alloc, &late, true)
+}
+
 // The feed of a leader is longer behind another setup. Its follower has each: promoted, it goes on with both, and tells no setup when it is opened
 // with the second one.
 #[test]
 fn a_journal_of_two_setups_is_followed(rt: HostRuntime) -> Result<(), Fail> {
     let alloc = rt.alloc();
-    let first = started(alloc, &nothing(alloc), 0)?;
-    let both = started(alloc, &first, 1)?;
     let text = VERSIONS.get(1).ok_or("no second version")?;
     let second = setup(alloc, &[("s", text)])?;
-    let early = follower_of(alloc, &first, 2)?;
-    let late = held(alloc, &early, &feed_of(alloc, &both)?, 4)?;
-    let files = promoted(alloc, &late)?;
+    let first = started(alloc, &nothing(alloc), 0)?;
+    let both = started(alloc, &first, 1)?;
+    let files = fed_twice(alloc, &first, &both)?;
     let opened = visited_with(alloc, &files, &second, &[], RULES)?;
     assert_eq!(rt; opened.a.as_slice(), files.a.as_slice());
     expect_goes_on(alloc, &both, 4, &second, PAGES)
 }
 
-// A follower can be followed in its turn, and so can a promoted one.
 #[test]
-fn followers_have_followers(rt: HostRuntime) -> Result<(), Fail> {
+fn a_follower_is_followed(rt: HostRuntime) -> Result<(), Fail> {
     let alloc = rt.alloc();
-    let setup = sums_setup(alloc)?;
-    let feed = sums_feed(alloc)?;
-    let once = held(alloc, &nothing(alloc), &feed, 4)?;
+    let once = follower(alloc, &sums_feed(alloc)?)?;
     let twice = follower_of(alloc, &once, 4)?;
     assert_eq!(rt; twice.a.as_slice(), once.a.as_slice());
-    expect_goes_on(alloc, &twice, 4, &setup, SEVEN)?;
-    let new = promoted(alloc, &once)?;
-    let longer = visited_with(alloc, &new, &setup, SEVEN, RULES)?;
-    let third = follower_of(alloc, &longer, 5)?;
+    expect_goes_on(alloc, &twice, 4, &sums_setup(alloc)?, SEVEN)
+}
+
+// What followed it before goes on, and so does a new follower.
+#[test]
+fn a_promoted_shelf_is_followed(rt: HostRuntime) -> Result<(), Fail> {
+    let alloc = rt.alloc();
+    let once = follower(alloc, &sums_feed(alloc)?)?;
+    let twice = follower_of(alloc, &once, 4)?;
+    let longer = visited(alloc, &promoted(alloc, &once, true)?, SEVEN)?;
     let _next = held(alloc, &twice, &feed_of(alloc, &longer)?, 5)?;
-    expect_goes_on(alloc, &third, 5, &setup, SEVEN)
+    let third = follower_of(alloc, &longer, 5)?;
+    expect_goes_on(alloc, &third, 5, &sums_setup(alloc)?, SEVEN)
 }
 
 // A promoted shelf is compacted as any other: the records that tell what it was are gone, and it takes no feed.
@@ -267,20 +264,11 @@ fn a_promoted_shelf_is_compacted(rt: HostRuntime) -> Result<(), Fail> {
     let alloc = rt.alloc();
     let setup = sums_setup(alloc)?;
     let feed = sums_feed(alloc)?;
-    let files = promoted(alloc, &held(alloc, &nothing(alloc), &feed, 4)?)?;
-    let short = compacted_files(alloc, &files, &setup)?;
-    let led = short_files(alloc, &setup)?;
+    let files = promoted(alloc, &follower(alloc, &feed)?, true)?;
+    let short = compacted_behind(alloc, &files, &setup, &[])?;
+    let led = compacted_behind(alloc, &nothing(alloc), &setup, VISITS)?;
     assert_eq!(rt; newest_file(&short), newest_file(&led));
     assert_eq!(rt; followed(alloc, &short, &feed)?.end, FollowEnd::Promoted);
-    let _visited = visited_with(alloc, &short, &setup, SEVEN, RULES)?;
+    let _visited = visited(alloc, &short, SEVEN)?;
     Ok(())
-}
-
-// What stands on the disks of the shelf of these files behind a compaction.
-fn compacted_files(alloc: Global, files: &Files, setup: &Setup) -> Result<Files, Fail>
-    requires { IsReadSetup (scripts_of setup.now) }
-{
-    let mut shelf = opened(alloc, files, setup, RULES)?;
-    let _length = compacted(alloc, &mut shelf)?;
-    files_of(alloc, shelf)
 }

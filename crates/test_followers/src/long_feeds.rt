@@ -1,9 +1,9 @@
 //! The greatest length of a feed.
 
 use crate::feeds::HEAD;
-use crate::followed::{acks_in, held};
+use crate::followed::{acks_in, follower};
 use crate::openings::{Opening, opened_bare};
-use crate::sums::{nothing, sums_feed};
+use crate::sums::sums_feed;
 use page_follower::{FeedFault, FollowEnd, follow};
 use std::alloc::Global;
 use std::test::Fail;
@@ -89,7 +89,7 @@ fn front_with(alloc: Global, length: u32) -> Result<Vec<u8>, Fail> {
 #[test]
 fn a_feed_has_at_most_1073741824_bytes(rt: HostRuntime) -> Result<(), Fail> {
     let alloc = rt.alloc();
-    let files = held(alloc, &nothing(alloc), &sums_feed(alloc)?, 4)?;
+    let files = follower(alloc, &sums_feed(alloc)?)?;
     let most = front_with(alloc, 1_073_741_812)?;
     assert_eq!(rt;
         ended(alloc, &files, &most, 2_000_000_000)?,

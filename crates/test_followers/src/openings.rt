@@ -35,7 +35,7 @@ pub const OTHER_RULES: Rules = Rules {
 };
 
 /// What a shelf without a setup is opened for.
-#[derive(Clone, Copy, Debug, PartialEq, Eq)]
+#[derive(Clone, Copy)]
 pub enum Opening {
     /// To be what its records tell.
     AsItIs,

@@ -5,16 +5,16 @@ ghost use Rattle.shelf.specs.Following.{IsInOrderIfFed};
 
 use crate::adoptions::{PLACES, WRECKS};
 use crate::feeds::{bodies_in, feed_of, feed_with, first_of};
-use crate::followed::{FAIR, fed, held};
+use crate::followed::{FAIR, fed, follower, held, promoted};
 use crate::openings::{Opening, RULES, opened_bare, tried_bare};
-use crate::sums::{SEVEN, bare, nothing, sums_feed, sums_setup, visited_with};
+use crate::sums::{SEVEN, bare, sums_feed, visited};
 use disk_trio::Disks;
 use page_follower::FollowEnd;
 use script_value::Reply;
 use shelf::BeginFault;
 use std::alloc::Global;
 use std::test::Fail;
-use test_compactions::files::{Files, Place, Trouble, Wrong, disks_of, files_of, left_by};
+use test_compactions::files::{Files, Place, Trouble, Wrong, disks_of, left_by};
 use test_shelves::MemoryShelf;
 use web_disk::{MemoryDisk, Wreck};
 
@@ -84,7 +84,7 @@ fn what_was_acknowledged_is_held(rt: HostRuntime) -> Result<(), Fail> {
 }
 
 /// How promoting a shelf went.
-#[derive(Clone, Copy, Debug, PartialEq, Eq)]
+#[derive(Clone, Copy)]
 enum Went {
     Unopened,
     Fell,
@@ -133,19 +133,9 @@ fn follows(alloc: Global, files: &Files) -> Result<bool, Fail> {
 // Whether the shelf follows of these files, which such a crash left of a promotion. It goes on with its visits, once it is promoted where it follows.
 fn goes_on(alloc: Global, files: &Files) -> Result<bool, Fail> {
     let still = follows(alloc, files)?;
-    let whole = promoted_again(alloc, files, still)?;
-    let setup = sums_setup(alloc)?;
-    let _visited = visited_with(alloc, &whole, &setup, SEVEN, RULES)?;
+    let whole = promoted(alloc, files, still)?;
+    let _visited = visited(alloc, &whole, SEVEN)?;
     Ok(still)
-}
-
-// What stands on the disks of these files once they are promoted, where that is still to be done.
-fn promoted_again(alloc: Global, files: &Files, still: bool) -> Result<Files, Fail> {
-    let mut shelf = opened_bare(alloc, files, Opening::AsItIs)?;
-    match shelf.promote(alloc) {
-        Ok(promoted) if promoted == still => files_of(alloc, shelf),
-        _ => Err(Fail::from("another promotion")),
-    }
 }
 
 // Whether a shelf may follow behind a promotion that went so.
@@ -184,7 +174,7 @@ fn expect_whole(alloc: Global, files: &Files, place: Place, trouble: Trouble) ->
 #[test]
 fn a_promotion_that_stops_happened_or_not(rt: HostRuntime) -> Result<(), Fail> {
     let alloc = rt.alloc();
-    let files = held(alloc, &nothing(alloc), &sums_feed(alloc)?, 4)?;
+    let files = follower(alloc, &sums_feed(alloc)?)?;
     for place in PLACES {
         expect_whole(alloc, &files, *place, Trouble::Stops)?;
         expect_whole(alloc, &files, *place, Trouble::Fails)?;
