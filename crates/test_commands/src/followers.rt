@@ -34,6 +34,13 @@ fn feed_of<R: Machine>(rt: &R, folder: &str, shelf: &str) -> Result<Vec<u8>, Fai
     Err(Fail::from("no feed"))
 }
 
+// The feed of the first sums, which are played over an empty folder.
+fn feed_of_sums<R: Machine>(rt: &R, folder: &str) -> Result<Vec<u8>, Fail> {
+    let input = first_sums(rt.alloc())?;
+    play_into(rt, folder, input.as_str())?;
+    feed_of(rt, folder, "0")
+}
+
 // Whether following this feed comes to this.
 fn is_followed<R: Machine>(
     rt: &R,
@@ -76,13 +83,14 @@ const LAST_VISIT: Street = Street {
     ..QUIET
 };
 
-// What the first link is told while a script is served over the journals of a folder.
-fn text_served<R: Machine>(
+// Whether the first link is told this while a script is served over the journals of a folder: how the reply begins, and how it ends.
+fn is_served<R: Machine>(
     rt: &R,
     folder: &str,
     script: (&str, &str),
     street: &Street,
-) -> Result<String, Fail> {
+    told: (&str, &str),
+) -> Result<bool, Fail> {
     let words = &[
         "hovgyelit",
         "serve",
@@ -94,13 +102,13 @@ fn text_served<R: Machine>(
         folder,
     ];
     let ending = served(rt, words, script, street)?;
-    Ok(String::from_str(rt.alloc(), told_on(&ending, 0))?)
+    let text = told_on(&ending, 0);
+    Ok(text.starts_with(told.0) && text.ends_with(told.1))
 }
 
-// Whether that answer is told this over a folder: how the reply begins, and how it ends.
+// Whether that answer is told this over a folder.
 fn is_answered<R: Machine>(rt: &R, folder: &str, told: (&str, &str)) -> Result<bool, Fail> {
-    let text = text_served(rt, folder, ("sum", SUM), &LAST_VISIT)?;
-    Ok(text.starts_with(told.0) && text.ends_with(told.1))
+    is_served(rt, folder, ("sum", SUM), &LAST_VISIT, told)
 }
 
 const FOLLOWING: (&str, &str) = ("HTTP/1.1 503 ", "\r\n\r\nfollowing\n");
@@ -111,9 +119,7 @@ const FOUR: &str = "ack 1\nack 2\nack 3\nack 4\n";
 
 #[test]
 fn a_follower_is_promoted_and_goes_on(rt: HostRuntime) -> Result<(), Fail> {
-    let input = first_sums(rt.alloc())?;
-    play_into(&rt, "leader-of-sums", input.as_str())?;
-    let feed = feed_of(&rt, "leader-of-sums", "0")?;
+    let feed = feed_of_sums(&rt, "leader-of-sums")?;
     assert_eq!(rt; feed.len(), 614);
     assert!(rt; feed.starts_with(b"KSFEED\0\x06"));
     emptied(&rt, "follower-of-sums")?;
@@ -203,9 +209,7 @@ fn is_refused_behind<R: Machine>(rt: &R, feed: &[u8], change: &Change) -> Result
 
 #[test]
 fn another_feed_is_told_at_its_place(rt: HostRuntime) -> Result<(), Fail> {
-    let input = first_sums(rt.alloc())?;
-    play_into(&rt, "leader-of-others", input.as_str())?;
-    let feed = feed_of(&rt, "leader-of-others", "0")?;
+    let feed = feed_of_sums(&rt, "leader-of-others")?;
     for change in CHANGES {
         assert!(rt; is_refused_behind(&rt, &feed, change)?, "{}", change.told.1);
     }
@@ -216,9 +220,7 @@ fn another_feed_is_told_at_its_place(rt: HostRuntime) -> Result<(), Fail> {
 
 #[test]
 fn a_feed_that_is_cut_is_told_at_its_place(rt: HostRuntime) -> Result<(), Fail> {
-    let input = first_sums(rt.alloc())?;
-    play_into(&rt, "leader-of-cuts", input.as_str())?;
-    let feed = feed_of(&rt, "leader-of-cuts", "0")?;
+    let feed = feed_of_sums(&rt, "leader-of-cuts")?;
     let front = &feed[..354.min(feed.len())];
     emptied(&rt, "follower-of-cuts")?;
     let told = (13, "error 13 0 cut\n");
@@ -293,9 +295,7 @@ const SHORT: Outside<'static> = Outside { room: 6, ..FAIR };
 
 #[test]
 fn an_outside_that_fails_is_told(rt: HostRuntime) -> Result<(), Fail> {
-    let input = first_sums(rt.alloc())?;
-    play_into(&rt, "leader-of-failures", input.as_str())?;
-    let feed = feed_of(&rt, "leader-of-failures", "0")?;
+    let feed = feed_of_sums(&rt, "leader-of-failures")?;
     let follow = &["hovgyelit", "follow", "--journal", "follower-of-failures"];
     emptied(&rt, "follower-of-failures")?;
     assert!(rt; comes_to(&rt, follow, &feed, &UNREAD, (5, "error 5 read\n"))?);
@@ -314,20 +314,23 @@ fn an_outside_that_fails_is_told(rt: HostRuntime) -> Result<(), Fail> {
     emptied(&rt, "follower-of-failures")
 }
 
+// A page with a link, and the page that shows the answer to it.
+const ONE: (&str, &str) = ("HTTP/1.1 200 ", "\">1</a>");
+
+const SHOWN: (&str, &str) = ("HTTP/1.1 200 ", "\r\n\r\n<p>1</p>");
+
 #[test]
 fn a_server_takes_over(rt: HostRuntime) -> Result<(), Fail> {
     emptied(&rt, "served-leader")?;
     emptied(&rt, "served-follower")?;
-    assert!(rt; text_served(&rt, "served-leader", ALL, &A_START)?.starts_with("HTTP/1.1 200 "));
+    assert!(rt; is_served(&rt, "served-leader", ALL, &A_START, ONE)?);
     let feed = feed_of(&rt, "served-leader", "0")?;
     assert!(rt; is_followed(&rt, "served-follower", "0", &feed, (0, "ack 1\nack 2\n"))?);
     let before = fs::read(&rt, "served-follower/shelf-0")?;
-    let refused = text_served(&rt, "served-follower", ALL, &AN_ANSWER)?;
-    assert!(rt; refused.starts_with("HTTP/1.1 503 ") && refused.ends_with("\r\n\r\nfollowing\n"));
+    assert!(rt; is_served(&rt, "served-follower", ALL, &AN_ANSWER, FOLLOWING)?);
     assert_eq!(rt; fs::read(&rt, "served-follower/shelf-0")?, before);
     assert!(rt; is_promoted(&rt, "served-follower", "1", (0, "shelf 0 promoted\n"))?);
-    let told = text_served(&rt, "served-follower", ALL, &AN_ANSWER)?;
-    assert!(rt; told.starts_with("HTTP/1.1 200 ") && told.ends_with("\r\n\r\n<p>1</p>"));
+    assert!(rt; is_served(&rt, "served-follower", ALL, &AN_ANSWER, SHOWN)?);
     emptied(&rt, "served-leader")?;
     emptied(&rt, "served-follower")
 }
