@@ -9,7 +9,7 @@ use crate::kept::KeptShelf;
 use crate::pass::{SiteNote, SitePass};
 use ghost_history::History;
 use lock_row::LockRow;
-use page_names::Target;
+use page_names::{Target, shelf_for};
 use script_nodes::Library;
 use script_value::{Refusal, Reply, Value};
 use shelf::{Segment, Ticket, run_ticket};
