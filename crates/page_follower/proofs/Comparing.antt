@@ -1,10 +1,10 @@
 -- A body that comes piece by piece and is compared with one that is held.
-use Rattle.std.proofs.Common.{◌≡◌, ◌≤◌, ◌↔◌, ◌+◌, ◌++◌, ◌∙◌, ℕ, Bool, true, false, IsTrue, List, [], Ok, length, take, drop, arith, sym, ap, refl, subst, length-append}
+use Rattle.std.proofs.Common.{◌≡◌, ◌≤◌, ◌↔◌, ◌+◌, ◌++◌, ◌∙◌, ℕ, Bool, false, IsTrue, List, length, take, drop, arith, sym, ap, length-append}
 use Rattle.std.proofs.Math.Seq.{take-add, take-append_seam, drop-append_seam}
-use Rattle.std.proofs.lemmas.List.{length-take-le, take_all}
+use Rattle.std.proofs.lemmas.List.{length-take-le}
 use Rattle.shelf.specs.WebOutside.View.{SourceView}
-use Rattle.page_follower.specs.Reading.{Got, Gives, Matches}
-use Rattle.page_follower.proofs.Readings.{got_nothing, got_then}
+use Rattle.page_follower.specs.Reading.{Got, Gives}
+use Rattle.page_follower.proofs.Readings.{got_then}
 
 -- So many bytes of a body of this size came, and it is told whether they and the size are those of the body that is held.
 pub record Compared (old new : SourceView) (before after size : ℕ) (held : List ℕ) (done : ℕ) (same : Bool) : Type 0 where
@@ -14,18 +14,6 @@ pub record Compared (old new : SourceView) (before after size : ℕ) (held : Lis
   pub within : done ≤ size
   pub says : IsTrue same → (size ≡ length held) × (take done held ≡ came)
   pub denies : size ≡ length held → take done held ≡ came → IsTrue same
-
--- no byte came, and the size alone is told
-pub compared_none : (s : SourceView) (place size : ℕ) (held : List ℕ) (same : Bool) → (IsTrue same ↔ (size ≡ length held))
-    → Compared s s place place size held 0 same
-compared_none s place size held same told = record {
-  came = [];
-  got = got_nothing s place;
-  count = refl;
-  within = omega arith;
-  says = λ h. (told.0 h, refl);
-  denies = λ e f. told.1 e;
-}
 
 -- a piece more
 pub compared_more : (old mid new : SourceView) (before between after size : ℕ) (held buffer : List ℕ) (done count : ℕ) (same next : Bool)
@@ -68,29 +56,6 @@ compared_next old mid new before between after size held buffer piece done count
     (λ h. ((told.0 h).0, ap (λ n. take n (drop done held)) (sym few) ∙ (told.0 h).1 ∙ is))
     (λ h e. told.1 (h, ap (λ n. take n (drop done held)) few ∙ e ∙ sym is))
 
--- where it is the same so far, the text that is held goes so far
-pub held_so_far : (old mid : SourceView) (before between size : ℕ) (held : List ℕ) (done : ℕ) (same : Bool)
-    → Compared old mid before between size held done same → IsTrue same → done ≤ length held
-held_so_far old mid before between size held done same p h = let w = p.within in let e = (p.says h).0 in omega arith
-
 -- what is false is not told
 not_so : IsTrue false → ⊥
 not_so h = cc
-
--- the whole body came
-pub compared_all : (old new : SourceView) (before after size start : ℕ) (held : List ℕ) (done : ℕ) (same : Bool)
-    → Compared old new before after size held done same → size ≤ done → Matches old new before after size start held (Ok same)
-compared_all old new before after size start held done true p all =
-    let w = p.within in
-    let told : (size ≡ length held) × (take done held ≡ p.came) = p.says refl in
-    let whole : held ≡ p.came = sym (take_all done held (let e = told.0 in omega arith)) ∙ told.1 in
-    record { got = subst (Got old new before after) (sym whole) p.got; length_is = sym told.0 }
-compared_all old new before after size start held done false p all =
-    let w = p.within in
-    let e = p.count in
-    let is_size : length p.came ≡ size = omega arith in
-    record {
-      body = p.came;
-      got = record { got = p.got; length_is = is_size };
-      other = λ same. not_so (p.denies (sym (ap length same ∙ is_size)) (take_all done held (let l = ap length same in omega arith) ∙ same));
-    }

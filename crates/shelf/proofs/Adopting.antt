@@ -2,7 +2,6 @@
 use Rattle.std.proofs.Common.{◌≡◌, ◌∙◌, ap, sym, subst, refl, ℕ, ◌+◌, Bool, true, false, List, [], ◌∷◌, ◌++◌, length, Option, Some, None, option_map, is_some, IfSome, Ok, IsTrue, arith}
 use Rattle.std.proofs.lemmas.List.{length-append}
 use Rattle.std.proofs.lemmas.Option.{same_Some, none-some}
-use Rattle.std.proofs.lemmas.Bool.{false≢true}
 use Rattle.book_recovery.specs.SetupReader.Texts.{setup_of_texts as texts}
 use Rattle.script_nodes.specs.Setup.{Library}
 use Rattle.script_nodes.specs.Views.{library_of}
@@ -220,10 +219,6 @@ module _ {D N : Type 0} (view : D → View) (tells : Bool) (s : Shelf D N) (f : 
         let bs = bodies_in view s.journal in
         let got = some (8 + length (frames bs)) (book_of texts n bs) (before_so n f s.book (library_in s) bs (at_rest_now told)) in
         record { fed = fed_so; made = got.0; makes = ap made_in (sym (with_more_is n body one bs)) ∙ got.1 }
-
-  -- one that tells whether a shelf follows stands nowhere
-  pub role_nowhere : (body : List ℕ) → is_role body ≡ true → StandsNowhere view tells s body
-  role_nowhere body is = λ told can. let no : true ≡ false = sym is ∙ can.fed in false≢true (sym no)
 
   -- where the records made a book with it
   pub fed_stands : (body : List ℕ) (g : Follower) (c : RustBook) (next : kept.Library) (then_notes : FileNotes) → IsFedOn n body f g s.book c s.library next s.notes then_notes → OneBodyMore → is_role body ≡ false → StandsBehind view tells s body

@@ -3,7 +3,7 @@ use Rattle.std.proofs.Common.{◌≡◌, ◌∙◌, ap, sym, subst, refl, ℕ, �
 use Rattle.std.specs.Prelude.{⊤}
 use Rattle.script_value.specs.declared.outcome.Reply.{Reply}
 use Rattle.script_value.specs.declared.outcome.Reply.TheVariants as reply
-use Rattle.script_nodes.specs.Setup.{Named, Library}
+use Rattle.script_nodes.specs.Setup.{Library}
 use Rattle.page_names.specs.Views.{target_of}
 use Rattle.web_disk.specs.View.{View, LeavesOnly}
 use Rattle.page_journal.specs.Records.{newest}
@@ -92,10 +92,6 @@ pub record Laws : Type 0 where
   pub landings : LandingsAreKept
   pub landings_between : LandingsStandBetween
   pub exact : AreRecordsExact
-
--- whatever states its pages had under these scripts, they have
-abbrev pub KeepsStatesIn : List Named → (old new : kept.Book) → Type 0
-KeepsStatesIn all old new = (source : Source ⊤) → HasStatesFrom source all old → HasStatesFrom source all new
 
 -- nothing was recorded
 pub spent_publishes : {D N : Type 0} (view : D → View) (tells : Bool) (coming : N → ℕ → ℕ) (s u : Shelf D N) (t : Ticket) (x : Reply) → IsInOrder view tells s → EventsAreKept

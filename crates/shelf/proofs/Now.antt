@@ -3,7 +3,7 @@ use Rattle.std.proofs.Common.{◌≡◌, ◌∙◌, ap, sym, subst, ℕ, List, [
 use Rattle.script_value.specs.Val.{Val}
 use Rattle.script_nodes.specs.Arena.{Arena, IsScript, script_of}
 use Rattle.script_nodes.specs.Setup.{Named}
-use Rattle.page_names.specs.Names.{start, page}
+use Rattle.page_names.specs.Names.{page}
 use Rattle.page_names.specs.declared.names.PageName.{PageName}
 use Rattle.instance_cells.specs.Cells.{Holds}
 use Rattle.replay_spec.specs.Tape.{recorded, present}
@@ -14,7 +14,7 @@ use Rattle.replay_spec.specs.Admission.{Place, Admission, begins, resumes, refus
 use Rattle.replay_spec.specs.Next.{Visit, home_of, answered, comes_to, start_visit, page_visit}
 use Rattle.replay_spec.specs.Next as next
 use Rattle.replay_spec.specs.Laws.{EffectsHoldRunSame}
-use Rattle.replay_spec.proofs.Admitted.{page_stands, start_is_no_page, page_is_no_start}
+use Rattle.replay_spec.proofs.Admitted.{page_stands, page_is_no_start}
 use Rattle.replay_spec.proofs.Second.{pages_past}
 use Rattle.machine_states.specs.Views.{segment_of}
 use Rattle.machine_states.specs.declared.segment.Segment.{Segment}
@@ -49,14 +49,6 @@ module _ (all : List Named) (b : Book) (t : Ticket) (name : List ℕ) (a : Arena
   keeps_state (begins k x) fits = (run_as (start_visit b (ticket_of t) k x) refl fits.run).state
   keeps_state (resumes at) fits = (run_as (page_visit b (ticket_of t) at) refl fits).state
   keeps_state (refused why) fits = tt
-
-  -- the segment of a start that is admitted, over the cells of its ticket
-  pub start_segment : (adm : Admission) → admit b (start name) ≡ adm → FitsAs all b t adm → over ≡ t.cells → IsSegmentOf fuel b t adm (segment_of r)
-  start_segment (begins k x) e fits own =
-      let v = start_visit b (ticket_of t) k x in
-      (run_as v refl fits.run).comes ∙ ap (λ (vs : List Val). comes_to v (present vs fuel)) (own ∙ fits.cells)
-  start_segment (resumes at) e fits own = absurd (start_is_no_page b name at e)
-  start_segment (refused why) e fits own = tt
 
   module _ (n : PageName) (cells : List Val) (here : cells_in n.instance b ≡ Some cells) where
     its_cells : (at : Place) → admit b (page name n) ≡ resumes at → cells ≡ at.instance.cells

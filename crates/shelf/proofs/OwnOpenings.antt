@@ -1,49 +1,25 @@
 -- An opening finds and leaves own records.
-use Rattle.std.proofs.Common.{◌≡◌, ℕ, ◌+◌, ◌≤◌, ◌^◌, Bool, List, [], ◌∷◌, length, None, IsTrue, refl, sym, ◌∙◌, ap, subst, arith}
+use Rattle.std.proofs.Common.{◌≡◌, ℕ, Bool, List, [], ◌∷◌, length, None, IsTrue, refl, sym, ◌∙◌, ap, subst, arith}
 use Rattle.book_recovery.specs.SetupReader.Texts.{setup_of_texts as texts}
-use Rattle.web_disk.specs.View.{View, NoNewImage, Elapses, LeavesOnly}
+use Rattle.web_disk.specs.View.{View}
 use Rattle.page_journal.specs.Records.{newest, format_of, stored, at_rest}
 use Rattle.page_journal.specs.Opened.{TellsFormat}
-use Rattle.page_journal.specs.Holding.{MayHold}
 use Rattle.page_journal.specs.Scanned.{IsQuiet}
 use Rattle.page_journal.specs.Settled.{IsSettled, view_of, bodies_in, length_of}
 use Rattle.page_journal.specs.declared.journal.Journal.{Journal}
-use Rattle.page_journal.proofs.Mending.{leaves_then}
-use Rattle.book_recovery.specs.JournalSpec.Owning.{AreOwn, AreOwnIn}
+use Rattle.book_recovery.specs.JournalSpec.Owning.{AreOwnIn}
 use Rattle.book_recovery.specs.JournalSpec.Disks.{IsFit}
 use Rattle.shelf.specs.declared.shelf.Shelf.{Shelf}
 use Rattle.shelf.specs.Views.{book_in, rules_of, IsOwnShelf}
 use Rattle.shelf.specs.Opening.{HasOwnRecords, OpensOwn}
-use Rattle.shelf.specs.Owning.{IsOwnImage, HoldsOwnRecords, HasOwnImages, StaysOwnThroughout}
-use Rattle.shelf.proofs.Owned.{none_own, first_own, images_own, stored_own, with_added, settled_own, stays_own, quiet_own, quiet_run_own}
-use Rattle.shelf.proofs.Newest.{own_in, now_own}
-use Rattle.shelf.proofs.Standing.{OnlyNow}
+use Rattle.shelf.specs.Owning.{IsOwnImage, HasOwnImages, StaysOwnThroughout}
+use Rattle.shelf.proofs.Owned.{none_own, images_own, stored_own, settled_own, quiet_own}
+use Rattle.shelf.proofs.Newest.{own_in}
 use Rattle.shelf.proofs.Recorded.{measured_up}
 
 -- a journal without records has a header and a gate
 nine : {D : Type 0} (view : D → View) (j : Journal D) → IsSettled view j → bodies_in view j ≡ [] → length_of j ≡ 9
 nine view j s none = omega (arith, s.end, ap (λ (bs : List (List ℕ)). length (at_rest bs)) none)
-
--- a journal without records, for whose first one room is made
-module _ {D : Type 0} (view : D → View) (shelf : ℕ) (j0 j1 : Journal D) (now_is : j0.format ≡ newest) (settled : IsSettled view j0) (none : bodies_in view j0 ≡ []) (only_now : OnlyNow (view_of view j0))
-    (images : NoNewImage (view_of view j0) (view_of view j1)) (time : Elapses (view_of view j0) (view_of view j1)) where
-  pub unwritten_moments : StaysOwnThroughout shelf (view_of view j0) (view_of view j1)
-  unwritten_moments =
-      quiet_run_own shelf (view_of view j0) (view_of view j1) only_now images time
-      (settled_own view shelf j0 settled (subst (AreOwnIn j0.format texts shelf) (sym none) (none_own j0.format shelf)))
-
-  pub begun_moments : (j2 : Journal D) (body : List ℕ) → (view_of view j1).seen ≡ (view_of view j0).seen → length_of j0 + 5 + length body ≤ 2 ^ 30
-      → LeavesOnly (view_of view j1) (view_of view j2) (MayHold newest (bodies_in view j1) body) → StaysOwnThroughout shelf (view_of view j0) (view_of view j2)
-  begun_moments j2 body seen room run =
-      let here : LeavesOnly (view_of view j1) (view_of view j2) (MayHold newest [] body) =
-      subst (λ (bs : List (List ℕ)). LeavesOnly (view_of view j1) (view_of view j2) (MayHold newest bs body)) (ap stored seen ∙ none) run in
-      let o = with_added shelf [] body (omega (arith, room, nine view j0 settled none)) (now_own shelf [] (none_own newest shelf)) (first_own shelf body) in
-      leaves_then (view_of view j0) (view_of view j1) (view_of view j2) (HoldsOwnRecords shelf) unwritten_moments
-      (stays_own shelf (view_of view j1) (view_of view j2) o here)
-
--- the first record there is an own one
-pub begun_records : {D : Type 0} (view : D → View) (shelf : ℕ) (j : Journal D) (body : List ℕ) → bodies_in view j ≡ body ∷ [] → HasOwnRecords view shelf j
-begun_records view shelf j body is = subst (AreOwn texts shelf) (sym is) (first_own shelf body)
 
 -- own records are read
 pub read_moments : {D : Type 0} (view : D → View) (shelf : ℕ) (j0 j1 : Journal D) → j0.format ≡ newest → IsSettled view j0 → HasOwnRecords view shelf j0 → IsQuiet (view_of view j0) (view_of view j1)

@@ -1,5 +1,5 @@
 -- Own records go on to be own, in what a crash leaves of them.
-use Rattle.std.proofs.Common.{◌≡◌, refl, inl, inr, ⊎_elim, ℕ, true, ◌≤◌, ◌^◌, List, [], ◌∷◌, ◌++◌, length, get_or, Some, sym, ◌∙◌, ap, subst, arith, append_assoc}
+use Rattle.std.proofs.Common.{◌≡◌, refl, inl, inr, ⊎_elim, ℕ, true, ◌≤◌, ◌^◌, List, [], ◌∷◌, ◌++◌, length, get_or, Some, sym, ◌∙◌, ap, subst, arith}
 use Rattle.book_recovery.specs.SetupReader.Texts.{setup_of_texts as texts}
 use Rattle.web_disk.specs.View.{View, NoNewImage, Elapses, LeavesOnly}
 use Rattle.web_disk.proofs.Moments.{started, goes_on}
@@ -15,11 +15,6 @@ use Rattle.book_recovery.specs.JournalSpec.Standing.{Flight, still, adds, puts, 
 use Rattle.book_recovery.proofs.JournalSpec.Between.{closed_format}
 use Rattle.shelf.specs.Owning.{IsOwnImage, OwnRecords, HoldOwn, HoldsOwnRecords, HasOwnImages, StaysOwnThroughout}
 use Rattle.shelf.proofs.Newest.{own_now}
-
--- the first of own records are own
-pub fewer_own : (f shelf : ℕ) (bodies more : List (List ℕ)) → AreOwnIn f texts shelf (bodies ++ more) → AreOwnIn f texts shelf bodies
-fewer_own f shelf bodies more own = λ front rest body m is makes.
-    own front (rest ++ more) body m (ap (λ (bs : List (List ℕ)). bs ++ more) is ∙ append_assoc front (body ∷ rest) more) makes
 
 -- and so is each first record, which tells no state
 no_body : (front rest : List (List ℕ)) (body : List ℕ) → [] ≡ front ++ body ∷ rest → ⊥

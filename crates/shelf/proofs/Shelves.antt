@@ -39,10 +39,10 @@ use Rattle.shelf.specs.declared.shelf.Shelf.{Shelf}
 use Rattle.shelf.specs.Ranges.{AreInRange}
 use Rattle.shelf.specs.declared.doubt.Doubt as doubt_type
 use Rattle.file_copies.specs.OfFileNotes.declared.notes.FileNotes.{FileNotes}
-use Rattle.file_copies.specs.OfFileNotes.Files.{file_in, IsNoted, StaysAsTold}
+use Rattle.file_copies.specs.OfFileNotes.Files.{IsNoted, StaysAsTold}
 use Rattle.shelf.specs.Files.{KnowsFile}
 use Rattle.shelf.proofs.Known.{known_quiet, known_doubted, may_newest}
-use Rattle.shelf.specs.Views.{rules_of, doubt_of, library_in, follows_in, book_in, TellsStates, IsFed, IsInOrder, IsOwnShelf}
+use Rattle.shelf.specs.Views.{rules_of, doubt_of, library_in, book_in, TellsStates, IsFed, IsInOrder, IsOwnShelf}
 use Rattle.book_recovery.specs.Found.{HasToldStates}
 use Rattle.shelf.specs.Owning.{StandsOwn}
 use Rattle.shelf.specs.Events.{HasMoments, HasOwnMoments}
@@ -230,9 +230,3 @@ same_order view tells s t order is some stay journal_same notes_same down told_s
       (subst (λ (n : FileNotes). KnowsFile view tells s.rules.number s.journal (t.down ≡ None) n) (sym notes_same)
       (subst (λ (o : Option doubt_type.Doubt). KnowsFile view tells s.rules.number s.journal (o ≡ None) s.notes) (sym down) order.knows)));
 }
-
--- what holds of the book beside the journal holds of a shelf's book where nothing is in doubt
-pub at_up : {D N : Type 0} (view : D → View) (s : Shelf D N) (P : Book → Type 0) → s.down ≡ None
-    → P (book_of (library_in s) (record { length = length_of s.journal; file = file_in s.notes; down = None; follows = follows_in s }) s.book) → P (book_in view s)
-at_up view s P up h =
-    subst (λ (o : Option doubt_type.Doubt). P (book_of (library_in s) (record { length = length_of s.journal; file = file_in s.notes; down = option_map doubt_of o; follows = follows_in s }) s.book)) (sym up) h

@@ -41,9 +41,6 @@ no_time v = record { later = omega arith; nothing_else = λ t image le left. inl
 pub no_call : {D : Type 0} (view : D → View) (tells : Bool) (j : Journal D) → IsQuietCall view tells j j
 no_call view tells j = record { settled = λ told s. s; format = refl; seen = refl; images = λ image left. left; time = no_time (view_of view j) }
 
-pub no_call_on : {D : Type 0} (view : D → View) (tells : Bool) (old new : Journal D) → new ≡ old → IsQuietCall view tells old new
-no_call_on view tells old new same = subst (λ (j : Journal _). IsQuietCall view tells old j) (sym same) (no_call view tells old)
-
 -- what a disk held between two books that differ in what is out alone, it holds between those
 held_alike : (shelf : ℕ) (a b c d : Book) (images : List ℕ → Type 0) → reopened a ≡ reopened c → reopened b ≡ reopened d → (k : Between texts shelf a b) → HoldIn k images
     → (l : Between texts shelf c d) × HoldIn l images

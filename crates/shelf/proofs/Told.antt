@@ -1,5 +1,5 @@
 -- A state that has a spelling can be told.
-use Rattle.std.proofs.Common.{◌≡◌, ◌∙◌, ap, sym, subst, List, [], ◌∷◌, reverse, Option, Some, None, Result, Ok, Err, IfOk, if◌then◌else◌, Bool, true, false, refl, ℕ, zero, suc, slice_get}
+use Rattle.std.proofs.Common.{◌≡◌, ◌∙◌, ap, sym, subst, List, [], ◌∷◌, reverse, Option, Some, None, Result, Ok, Err, if◌then◌else◌, Bool, true, false, refl, ℕ, zero, suc, slice_get}
 use Rattle.std.specs.Prelude.{OnOk}
 use Rattle.std.proofs.lemmas.Option.{get_or_from_slice_get}
 use Rattle.script_nodes.specs.Setup.{Named}
@@ -27,9 +27,8 @@ use Rattle.book_visits.specs.Fits.{IsRunnable}
 use Rattle.book_recovery.specs.InstanceBook.Places.{arena_of}
 use Rattle.book_recovery.specs.InstanceBook.Views.{script_in, no_script}
 use Rattle.shelf.specs.Holding.{IsWhole, IsWholeFrom, IsWholeIn, IsOfItsScript}
-use Rattle.shelf.specs.Recording.{IsKeptAs, WhereTold, lent}
+use Rattle.shelf.specs.Recording.{IsKeptAs}
 use Rattle.shelf.proofs.Now.{of_some, if_some}
-use Rattle.std.specs.Borrow.{Bor}
 
 all_shallow : {A : Type 0} (P : A → Type 0) (test : A → Bool) → ((x : A) → P x → test x ≡ true) → (xs : List A) → AllByRecursion P xs → list_all test xs ≡ true
 all_shallow P test f [] h = refl
@@ -88,19 +87,9 @@ module _ (law : KeptAreWritten) (before : Option Suspended) (links : ℕ) (d : S
   pub kept_spelled : (bytes : List ℕ) → bytes_of f ≡ Some bytes → StateHasBytes d
   kept_spelled bytes is = (by_form before links d f kept bytes is).0
 
-  pub kept_binds : (bytes : List ℕ) → bytes_of f ≡ Some bytes → BindsBefore (behind_at links before) d
-  kept_binds bytes is = (by_form before links d f kept bytes is).1
-
   pub kept_told : (bytes : Option (List ℕ)) → IsKeptAs d f bytes → bytes ≡ told_bytes (behind_at links before) d
   kept_told None deep = deep_told (behind_at links before) d deep
   kept_told (Some bytes) is = ap (λ (bs : List ℕ). Some bs) (law before links d f bytes kept is) ∙ sym (spelled_told (behind_at links before) d (kept_spelled bytes is))
-
--- where bytes are lent, what holds of a state that is kept as bytes
-pub where_kept : {E : Type 0} (P : Type 0) (d : Suspended) (f : Form) (r : Result (Option (Bor (List ℕ))) E) → IfOk r (λ bytes. IsKeptAs d f (lent bytes)) → ((bytes : List ℕ) → bytes_of f ≡ Some bytes → P)
-    → WhereTold r P
-where_kept P d f (Err e) h g = tt
-where_kept P d f (Ok None) h g = tt
-where_kept P d f (Ok (Some b)) h g = g b.now h
 
 -- ---- a page is whole under the script of its instance
 
