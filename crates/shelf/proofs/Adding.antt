@@ -24,6 +24,10 @@ nothing_then v w P only_now less time holds = record {
   before = λ t image le left. ⊎_elim (λ was. inl was) (λ now. inr (holds image (less image now))) (time.nothing_else t image le left);
 }
 
+-- calls that write nothing leave just that
+pub as_before : (v w : View) → OnlyNow v → NoNewImage v w → Elapses v w → LeavesOnly v w v.images
+as_before v w only_now less time = nothing_then v w v.images only_now less time (λ image left. left)
+
 module _ {D : Type 0} (view : D → View) (j : Journal D) (body : List ℕ) (settled : IsSettled view j) (now_is : j.format ≡ newest) (only_now : OnlyNow (view_of view j)) where
   abbrev pub Held : List ℕ → Type 0
   Held = MayHold newest (bodies_in view j) body

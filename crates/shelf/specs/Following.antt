@@ -147,6 +147,17 @@ abbrev pub AddsThroughout : {D N : Type 0} → (D → View) → (old new : Shelf
 AddsThroughout view old new body =
     CanBeFed old → LeavesOnly (view_of view old.journal) (view_of view new.journal) (MayHold newest (bodies_in view old.journal) body)
 
+-- a crash at any moment of a call leaves what one might have left before it
+abbrev pub LeavesAsBefore : {D N : Type 0} → (D → View) → (old new : Shelf D N) → Type 0
+LeavesAsBefore view old new = LeavesOnly (view_of view old.journal) (view_of view new.journal) (view_of view old.journal).images
+
+-- What a crash at any moment leaves while a shelf is fed a body. Where the disk was asked to write it, this is the records that the journal had, with
+-- the body behind them or without it, if the disk tells its bytes. Where the body is refused, it is what a crash might have left before, on any disk.
+abbrev pub AdoptsThroughout : {D N : Type 0} → (D → View) → Bool → (old new : Shelf D N) → (body : List ℕ) → Result (Unit {0}) AdoptFault → Type 0
+AdoptsThroughout view tells old new body (Ok x) = IsTrue tells → AddsThroughout view old new body
+AdoptsThroughout view tells old new body (Err (fault.DiskFault count)) = IsTrue tells → AddsThroughout view old new body
+AdoptsThroughout view tells old new body (Err _) = LeavesAsBefore view old new
+
 -- ---- and none
 
 -- The body that tells that the shelf follows no longer stands behind those that the journal had. The book is as it was, but for the length of its

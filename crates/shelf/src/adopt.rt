@@ -1,4 +1,4 @@
-ghost use Rattle.std.specs.Prelude.{◌≡◌, ◌<◌, ◌≤◌, ◌+◌, ◌^◌, false, length, IsTrue};
+ghost use Rattle.std.specs.Prelude.{◌≡◌, ◌<◌, ◌≤◌, ◌+◌, ◌^◌, false, length};
 ghost use Rattle.script_nodes.specs.Views.{library_of};
 ghost use Rattle.journal_records.specs.Roles.{is_role};
 ghost use Rattle.file_copies.specs.OfFileNotes.Files.{IsNoted};
@@ -103,20 +103,21 @@ fn has_place(
 
 impl<D: Disk, N> Shelf<D, N> {
     ghost use Rattle.shelf.specs.Events.{CountsOn};
-    ghost use Rattle.shelf.specs.Following.{IsInOrderIfFed, Adopts, AddsThroughout};
+    ghost use Rattle.shelf.specs.Following.{IsInOrderIfFed, Adopts, AdoptsThroughout};
 
     /// Feeds a shelf that follows the body of one record more of the other one's journal. From `Ok` on it stands behind those that it has, and
     /// the book is the one that these make.
     ///
     /// That the shelf does not follow is told first, and then that the disk failed before; that the record has no place there, that there is
-    /// no room for it, and that the disk fails. All memory is taken before the first call of the disk: want of it changes nothing. Where the
-    /// disk fails, a crash leaves the record or does not, and the shelf is fed no more until it is opened again.
+    /// no room for it, and that the disk fails. All memory is taken before the first call of the disk: want of it changes nothing. A record
+    /// that is refused is on no disk at any moment. Where the disk fails, a crash leaves the record or does not, and the shelf is fed no more
+    /// until it is opened again.
     pub fn adopt(&mut self, alloc: Global, body: &[u8]) -> Result<(), AdoptFault>
         requires short { length body.now ≤ 2 ^ 30 }
         requires in_order { IsInOrderIfFed D.view D.tells self.old }
         ensures adopts { Adopts D.view D.tells self.old self.new body.now result }
         ensures in_order { IsInOrderIfFed D.view D.tells self.new }
-        ensures any_moment { IsTrue D.tells → AddsThroughout D.view self.old self.new body.now }
+        ensures any_moment { AdoptsThroughout D.view D.tells self.old self.new body.now result }
         ensures later { CountsOn D.view self.old self.new }
         ensures nonces { self.new.nonces ≡ self.old.nonces }
         ensures rules { self.new.rules ≡ self.old.rules }

@@ -1,12 +1,13 @@
 use Rattle.std.proofs.Common.{◌≡◌, ◌∙◌, ap, sym, subst, refl, ℕ, ◌+◌, ◌++◌, ◌∷◌, [], List, Bool, true, false, length, Option, Some, Ok, arith}
 use Rattle.page_journal.specs.Records.{stored}
-use Rattle.page_journal.specs.Settled.{length_of, length_with}
+use Rattle.page_journal.specs.Settled.{length_of, length_with, view_of}
 use Rattle.shelf.specs.declared.follower.Follower.{Follower}
 use Rattle.shelf.specs.Following.{IsFedMore, TellsPlace}
 use Rattle.shelf.specs.Views.{book_in, IsInOrder}
-use Rattle.shelf.proofs.Adding.{none_adds, then_adds, can_be_fed, settled_fed}
+use Rattle.shelf.proofs.Adding.{as_before, then_adds, can_be_fed, settled_fed}
 use Rattle.shelf.proofs.Adopting.{stands_nowhere, stands_there, fed_stands, adopted, adopted_order}
 use Rattle.shelf.proofs.Known.{told_still}
+use Rattle.shelf.proofs.Openings.{quiet_none}
 use Rattle.shelf.proofs.Quiet.{untouched}
 use Rattle.shelf.proofs.Still.{order_still}
 use Rattle.shelf.proofs.Unmoved.{same_book, kept_order}
@@ -35,10 +36,8 @@ returns-in-Ok-true-clause-adopts g c =
     }
 
 pub returns-in-Ok-true-clause-any_moment : goal.returns-in-Ok-true-clause-any_moment
-returns-in-Ok-true-clause-any_moment g c = λ told can.
-    let s = c.args.self.now in
-    let order = c.requires.in_order can in
-    none_adds g.D.Disk.view s.journal c.args.body.now (settled_fed s c.in-Some.follower c.in-Some.is g.D.Disk.view g.D.Disk.tells order told) order.knows.newest_is (g.met.D.Disk.only_now s.journal.disk)
+returns-in-Ok-true-clause-any_moment g c =
+    let s = c.args.self.now in (quiet_none (view_of g.D.Disk.view s.journal) (g.met.D.Disk.only_now s.journal.disk)).moments
 
 pub returns-in-Ok-false-clause-adopts : goal.returns-in-Ok-false-clause-adopts
 returns-in-Ok-false-clause-adopts g c =
@@ -59,16 +58,12 @@ returns-in-Ok-false-clause-adopts g c =
     }
 
 pub returns-in-Ok-false-clause-any_moment : goal.returns-in-Ok-false-clause-any_moment
-returns-in-Ok-false-clause-any_moment g c = λ told can.
-    let s = c.args.self.now in
-    let order = c.requires.in_order can in
-    none_adds g.D.Disk.view s.journal c.args.body.now (settled_fed s c.in-Some.follower c.in-Some.is g.D.Disk.view g.D.Disk.tells order told) order.knows.newest_is (g.met.D.Disk.only_now s.journal.disk)
+returns-in-Ok-false-clause-any_moment g c =
+    let s = c.args.self.now in (quiet_none (view_of g.D.Disk.view s.journal) (g.met.D.Disk.only_now s.journal.disk)).moments
 
 pub returns-in-Err-clause-any_moment : goal.returns-in-Err-clause-any_moment
-returns-in-Err-clause-any_moment g c = λ told can.
-    let s = c.args.self.now in
-    let order = c.requires.in_order can in
-    none_adds g.D.Disk.view s.journal c.args.body.now (settled_fed s c.in-Some.follower c.in-Some.is g.D.Disk.view g.D.Disk.tells order told) order.knows.newest_is (g.met.D.Disk.only_now s.journal.disk)
+returns-in-Err-clause-any_moment g c =
+    let s = c.args.self.now in (quiet_none (view_of g.D.Disk.view s.journal) (g.met.D.Disk.only_now s.journal.disk)).moments
 
 -- there was no memory for it
 
@@ -79,6 +74,11 @@ returns-then-is_err-clause-in_order g c = λ can.
     let order = c.requires.in_order (can_be_fed s c.in-Some.follower c.in-Some.is c.in_default-fallen.is) in
     subst (λ (o : Option Follower). IsInOrder g.D.Disk.view g.D.Disk.tells (record s { journal = c.room.new.self; follower = o })) c.in-Some.is
     (order_still g.D.Disk.view g.D.Disk.tells s c.room.new.self s.notes (record { settled = λ told settled. done.settled told; format = done.format; seen = done.seen; images = done.images }) done.len (told_still s.notes) order done.sound done.whole order.knows.noted)
+
+pub returns-then-is_err-clause-any_moment : goal.returns-then-is_err-clause-any_moment
+returns-then-is_err-clause-any_moment g c =
+    let s = c.args.self.now in
+    as_before (view_of g.D.Disk.view s.journal) (view_of g.D.Disk.view c.room.new.self) (g.met.D.Disk.only_now s.journal.disk) c.room.ensures.images c.room.ensures.time
 
 -- it stands nowhere, or there was no memory to read it
 
@@ -112,6 +112,11 @@ returns-in-Ok-false-fed_more-clause-in_order g c = λ can.
     let more = subst (λ (t : Bool). IsFedMore s.rules.number c.args.body.now f next.follower s.book next.book s.library next.library s.notes next.notes (Ok t)) c.in-Ok-false-fed_more.field-0-test c.in-Ok-false-fed_more.ensures.more in
     kept_order g.D.Disk.view g.D.Disk.tells s f c.in-Some.is order next.follower next.book next.library next.notes more.0 c.room.new.self (record { settled = λ told settled. done.settled told; format = done.format; seen = done.seen; images = done.images }) done.len done.sound done.whole c.fed_more.ensures.noted
 
+pub returns-in-Ok-false-fed_more-clause-any_moment : goal.returns-in-Ok-false-fed_more-clause-any_moment
+returns-in-Ok-false-fed_more-clause-any_moment g c =
+    let s = c.args.self.now in
+    as_before (view_of g.D.Disk.view s.journal) (view_of g.D.Disk.view c.room.new.self) (g.met.D.Disk.only_now s.journal.disk) c.room.ensures.images c.room.ensures.time
+
 pub returns-in-Err-fed_more-clause-adopts : goal.returns-in-Err-fed_more-clause-adopts
 returns-in-Err-fed_more-clause-adopts g c =
     let s = c.args.self.now in
@@ -135,6 +140,11 @@ returns-in-Err-fed_more-clause-in_order g c = λ can.
     let done = c.room.ensures in
     let order = c.requires.in_order (can_be_fed s f c.in-Some.is c.in_default-fallen.is) in
     kept_order g.D.Disk.view g.D.Disk.tells s f c.in-Some.is order next.follower next.book next.library next.notes c.in-Err-fed_more.ensures.more c.room.new.self (record { settled = λ told settled. done.settled told; format = done.format; seen = done.seen; images = done.images }) done.len done.sound done.whole c.fed_more.ensures.noted
+
+pub returns-in-Err-fed_more-clause-any_moment : goal.returns-in-Err-fed_more-clause-any_moment
+returns-in-Err-fed_more-clause-any_moment g c =
+    let s = c.args.self.now in
+    as_before (view_of g.D.Disk.view s.journal) (view_of g.D.Disk.view c.room.new.self) (g.met.D.Disk.only_now s.journal.disk) c.room.ensures.images c.room.ensures.time
 
 -- it was added
 
