@@ -2,7 +2,7 @@
 use Rattle.std.proofs.Common.{◌≡◌, ◌≤◌, ◌<◌, ◌+◌, ◌-◌, ◌++◌, ◌∷◌, ◌∙◌, ◌^◌, ℕ, zero, suc, Bool, true, false, IsTrue, List, [], Option, Some, None, Err, length, arith, sym, ap, refl, subst, append_assoc, append-nil, length-append}
 use Rattle.std.specs.Io.KnownBytes.{Appends}
 use Rattle.shelf.proofs.WebOutside.Writes.{appends_then}
-use Rattle.shelf.specs.WebDisk.View.{View}
+use Rattle.shelf.specs.WebDisk.View.{View, LeavesOnly, NoNewImage}
 use Rattle.shelf.specs.WireBytes.Spelling.{u32_bytes}
 use Rattle.shelf.specs.PageJournal.Holding.{IsClosed}
 use Rattle.shelf.specs.PageJournal.Records.{at_rest, framed, newest, stored}
@@ -13,7 +13,7 @@ use Rattle.shelf.proofs.PageJournal.Mending.{leaves_map}
 use Rattle.shelf.specs.PageJournal.Scanned.{IsQuiet}
 use Rattle.shelf.specs.JournalRecords.Roles.{feed_of}
 use Rattle.shelf.specs.Views.{follows_in}
-use Rattle.shelf.specs.Following.{AddsThroughout, Adopts, CanBeFed, HasAdopted, IsInOrderIfFed, fallen_in}
+use Rattle.shelf.specs.Following.{AddsThroughout, Adopts, AdoptsThroughout, CanBeFed, HasAdopted, IsInOrderIfFed, LeavesAsBefore, StaysFed, fallen_in}
 use Rattle.shelf.specs.declared.adopt.AdoptFault.{AdoptFault}
 use Rattle.shelf.specs.declared.adopt.AdoptFault.TheVariants as fault
 use Rattle.shelf.specs.declared.shelf.Shelf.{Shelf}
@@ -21,8 +21,8 @@ use Rattle.page_follower.specs.Acks.{ack_line, acks_behind, IsAcked, IsUnacked}
 use Rattle.page_follower.specs.Comparing.{Progress, Acknowledges, Tells, TellsNothing}
 use Rattle.page_follower.specs.Ends.{end_for}
 use Rattle.page_follower.specs.Feed.{fed}
-use Rattle.page_follower.specs.Held.{Adopting, AdoptsNext, Feeds, GoesOnAdopting, HasAcked, HasCompared, StopsAdopting, StopsComparing, compared, adopted}
-use Rattle.page_follower.specs.Moments.{HasFed, HasGained, HasRested, HoldsOnly, IsFedOn, IsOffered}
+use Rattle.page_follower.specs.Held.{Adopting, AdoptsNext, Feeds, GoesOnAdopting, HasAcked, HasCompared, IsRefused, StopsAdopting, StopsComparing, compared, adopted}
+use Rattle.page_follower.specs.Moments.{HasFed, HasGained, HasRested, HoldsOnly, IsFedOn, IsOffered, refused_record, written_record}
 use Rattle.page_follower.specs.Reading.{Came, Got}
 use Rattle.page_follower.specs.declared.fault.FollowEnd.{FollowEnd}
 use Rattle.page_follower.specs.declared.fault.FollowEnd.TheVariants as end
@@ -64,7 +64,7 @@ adopted_next view old mid new before after body held holds (Some (end.Record p))
 adopted_next view old mid new before after body held holds (Some (end.Full n)) came sink acks grows gained tells = absurd tells
 adopted_next view old mid new before after body held holds (Some end.DiskFault) came sink acks grows gained tells = absurd tells
 adopted_next view old mid new before after body held holds (Some end.Unwritten) came sink acks grows gained tells = (
-  Some body,
+  written_record body,
   record {
     body = body;
     offers = refl;
@@ -91,49 +91,51 @@ gained view tells before after body told adopts order run =
       fits = subst (λ l. length (at_rest l) ≤ 2 ^ 30) (adopts.bodies told) (let e = here.end in let f = here.fits in omega arith);
     }
 
--- a record came that the shelf was not fed, for this reason
-pub stops_by : {D N : Type 0} (view : D → View) (tells : Bool) (old new : Progress) (before after : Shelf D N) (body : List ℕ) (f : AdoptFault)
-    → CanBeFed before → Came old.source new.source old.place new.place body → TellsNothing old new → Adopts view tells before after body (Err f)
-    → StopsAdopting old new (Some body) (bodies_in view before.journal) (bodies_in view after.journal) (end_for f old.place)
-stops_by view tells old new before after body fault.Leader can came nothing adopts =
-    absurd (let leads : follows_in before ≡ false = adopts.leads in let follows : follows_in before ≡ true = can.follows_on in
-    let no : ⊥ = cc in no)
-stops_by view tells old new before after body (fault.Down count) can came nothing adopts = record {
-  body = body;
-  offers = refl;
-  came = came;
-  tells = nothing;
-}
-stops_by view tells old new before after body fault.Outside can came nothing adopts = (
-  refl,
-  record {
-    body = body;
-    offers = refl;
-    came = came;
-    tells = nothing;
-    stays = ap stored adopts.stays.disk.seen;
-  },
-)
-stops_by view tells old new before after body (fault.Full n) can came nothing adopts = record {
-  body = body;
-  offers = refl;
-  came = came;
-  tells = nothing;
-  stays = ap stored adopts.stays.disk.seen;
-}
-stops_by view tells old new before after body (fault.DiskFault count) can came nothing adopts = record {
-  body = body;
-  offers = refl;
-  came = came;
-  tells = nothing;
-}
-stops_by view tells old new before after body fault.Memory can came nothing adopts = record {
-  body = body;
-  offers = refl;
-  came = came;
-  tells = nothing;
-  stays = ap stored adopts.disk.seen;
-}
+-- a disk that holds these records was left alone
+left_alone : {D : Type 0} (view : D → View) (old new : Journal D) → IsSettled view old → old.format ≡ newest → NoNewImage (view old.disk) (view new.disk)
+    → LeavesOnly (view old.disk) (view new.disk) (view old.disk).images → HasRested (view old.disk) (view new.disk) (bodies_in view old)
+left_alone view old new here now images moments =
+    let held : HoldsOnly (view old.disk) (bodies_in view old) =
+    λ image left. subst (λ f. IsClosed f (bodies_in view old) image) now (settled_images view old here image left) in
+    record {
+      moments = leaves_map (view old.disk) (view new.disk) (view old.disk).images (IsClosed newest (bodies_in view old)) held moments;
+      left = λ image left. held image (images image left);
+    }
+
+-- it was read
+pub quiet_rested : {D : Type 0} (view : D → View) (old new : Journal D) → IsSettled view old → old.format ≡ newest
+    → IsQuiet (view old.disk) (view new.disk) → HasRested (view old.disk) (view new.disk) (bodies_in view old)
+quiet_rested view old new here now quiet = left_alone view old new here now quiet.images quiet.moments
+
+-- a record came that the shelf was not fed
+module _ {D N : Type 0} (view : D → View) (tells : Bool) (old new : Progress) (before after : Shelf D N) (body : List ℕ) (told : IsTrue tells)
+    (can : CanBeFed before) (order : IsInOrderIfFed view tells before) (came : Came old.source new.source old.place new.place body)
+    (nothing : TellsNothing old new) where
+  -- it was refused
+  refused : StaysFed view before after → LeavesAsBefore view before after → IsRefused old new (refused_record body) (bodies_in view before.journal) (bodies_in view after.journal)
+      × IsOffered view (bodies_in view before.journal) before.journal.disk (refused_record body) after.journal.disk
+  refused stays moments = (
+    record { body = body; offers = refl; came = came; tells = nothing; stays = ap stored stays.disk.seen },
+    left_alone view before.journal after.journal (settled view tells before can (order can) told) (of_newest view tells before (order can)) stays.disk.images moments,
+  )
+
+  -- for this reason
+  pub stops_by : (f : AdoptFault) → Adopts view tells before after body (Err f) → AdoptsThroughout view tells before after body (Err f)
+      → AdoptsNext view old new before.journal.disk after.journal.disk (bodies_in view before.journal) (bodies_in view after.journal) (Some (end_for f old.place))
+  stops_by fault.Leader adopts run =
+      absurd (let leads : follows_in before ≡ false = adopts.leads in let follows : follows_in before ≡ true = can.follows_on in
+      let no : ⊥ = cc in no)
+  stops_by (fault.Down count) adopts run =
+      absurd (let fallen : fallen_in before ≡ Some count = adopts.fallen in let standing : fallen_in before ≡ None = can.standing in
+      let no : ⊥ = cc in no)
+  stops_by fault.Outside adopts run = let both = refused adopts.stays run in (refused_record body, (refl, both.0), both.1)
+  stops_by (fault.Full n) adopts run = let both = refused adopts.stays run in (refused_record body, both.0, both.1)
+  stops_by (fault.DiskFault count) adopts run = (
+    written_record body,
+    record { body = body; offers = refl; came = came; tells = nothing },
+    run told can,
+  )
+  stops_by fault.Memory adopts run = let both = refused adopts run in (refused_record body, both.0, both.1)
 
 -- ---- all records
 
@@ -185,13 +187,13 @@ adopting_more view old mid new before between after held so_far holds None p (bo
       (subst (λ l. HasGained (view between) (view after) l body) p.grows gains)
       (subst (IsAcked mid.sink new.sink) (acks.acks ∙ ap (λ n. n + 1) p.acked.acks) acks.acked);
 }
-adopting_more view old mid new before between after held so_far holds (Some e) p (next, stops, offer) = record {
+adopting_more view old mid new before between after held so_far holds (Some e) p (offer, stops, last) = record {
   more = p.more;
   mid = mid;
   acked = p.acked;
-  next = next;
-  stops = subst (λ l. StopsAdopting mid new next l holds e) p.grows stops;
-  told = (between, p.are_fed, subst (λ l. IsOffered view l between next after) p.grows offer);
+  offer = offer;
+  stops = subst (λ l. StopsAdopting mid new offer l holds e) p.grows stops;
+  told = (between, p.are_fed, subst (λ l. IsOffered view l between offer after) p.grows last);
 }
 
 -- how much is to be read, where following goes on
@@ -208,17 +210,6 @@ less_to_read (Some x) n before after is nearer within = absurd (cc)
 
 -- ---- the whole feed
 
--- nothing was written on a disk that holds these records
-pub quiet_rested : {D : Type 0} (view : D → View) (old new : Journal D) → IsSettled view old → old.format ≡ newest
-    → IsQuiet (view old.disk) (view new.disk) → HasRested (view old.disk) (view new.disk) (bodies_in view old)
-quiet_rested view old new here now quiet =
-    let held : HoldsOnly (view old.disk) (bodies_in view old) =
-    λ image left. subst (λ f. IsClosed f (bodies_in view old) image) now (settled_images view old here image left) in
-    record {
-      moments = leaves_map (view old.disk) (view new.disk) (view old.disk).images (IsClosed newest (bodies_in view old)) held quiet.moments;
-      left = λ image left. held image (quiet.images image left);
-    }
-
 -- what was done with a feed behind its head, where the records that are held were compared: following went on, or not
 pub fed_all : {D : Type 0} (view : D → View) (begun between new : Progress) (before read after : D) (held holds : List (List ℕ)) (b : Option FollowEnd)
     (e : FollowEnd) → between.ending ≡ b → HasRested (view before) (view read) held → HasCompared begun between (feed_of held) → new.ending ≡ Some e
@@ -230,7 +221,7 @@ fed_all view begun between new before read after held holds (Some x) e goes rest
     (rest.1, (read, rested, (read, (refl, refl), rest.2)))
 fed_all view begun between new before read after held holds None e goes rested compares ends same adopts =
     adopted between compares goes
-    (adopted_by_less (IsFedOn view held read after) (HasFed view held before after) (λ sink acks more told next on. (read, rested, on)) between new held holds e
+    (adopted_by_less (IsFedOn view held read after) (HasFed view held before after) (λ sink acks more told offer on. (read, rested, on)) between new held holds e
     (adopts refl))
 
 -- records have places at least as far as their number

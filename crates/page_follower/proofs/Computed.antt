@@ -1,5 +1,5 @@
 -- What a follower did with known bytes is what following computes from them.
-use Rattle.std.proofs.Common.{◌≡◌, ◌≤◌, ◌+◌, ◌++◌, ◌∷◌, ◌∙◌, ℕ, zero, suc, Bool, List, [], Option, Some, None, length, arith, sym, ap, refl, subst, append_assoc, append-nil, length-append}
+use Rattle.std.proofs.Common.{◌≡◌, ◌≤◌, ◌+◌, ◌++◌, ◌∷◌, ◌∙◌, ℕ, zero, suc, Bool, List, [], Some, None, length, arith, sym, ap, refl, subst, append_assoc, append-nil, length-append}
 use Rattle.std.specs.Io.KnownBytes.{Appends}
 use Rattle.std.proofs.KnownBytes.{Appends-nil}
 use Rattle.shelf.specs.WebOutside.View.{SourceView, SinkView}
@@ -12,6 +12,7 @@ use Rattle.page_follower.specs.Feed.{Feed, complete, cut, ends_so, fed, feed_in,
 use Rattle.page_follower.specs.Following.{Outcome, cut_at, differs_at, followed, follows, held_all, no_head, refused_at}
 use Rattle.page_follower.specs.Held.{Begins, Feeds, Follows, HasAcked, HasAdopted, HasCompared, StopsAdopting, StopsComparing, adopted, compared, fed_behind, unread}
 use Rattle.page_follower.specs.Held as held_by
+use Rattle.page_follower.specs.Moments.{Offer, no_record}
 use Rattle.page_follower.specs.declared.fault.FeedFault.TheVariants as fault
 use Rattle.page_follower.specs.declared.fault.FollowEnd.{FollowEnd}
 use Rattle.page_follower.specs.declared.fault.FollowEnd.TheVariants as end
@@ -68,42 +69,42 @@ by_compare bytes held same rest h mid new end.Memory o fits all s c is = absurd 
 -- ---- ends behind them
 
 -- what is told where following ended behind the records that are held
-abbrev Adopted : (bytes : List ℕ) → (held fed_before more holds : List (List ℕ)) → (next : Option (List ℕ)) → (mid new : Progress) → Outcome → Type 0
-Adopted bytes held fed_before more holds next mid new o =
+abbrev Adopted : (bytes : List ℕ) → (held fed_before more holds : List (List ℕ)) → (offer : Offer) → (mid new : Progress) → Outcome → Type 0
+Adopted bytes held fed_before more holds offer mid new o =
     (new.sink ≡ mid.sink) × (holds ≡ held ++ more)
-    × ((admits : List (List ℕ) → List ℕ → Bool) → AdmitsEach admits fed_before more → RefusesNext admits (fed_before ++ more) next o
+    × ((admits : List (List ℕ) → List ℕ → Bool) → AdmitsEach admits fed_before more → RefusesNext admits (fed_before ++ more) offer o
     → followed admits fed_before (feed_in bytes) ≡ does (length fed_before + length more) more o)
 
-by_adopt : (bytes : List ℕ) (held before more holds : List (List ℕ)) (next : Option (List ℕ)) (mid new : Progress) (e : FollowEnd) (o : Outcome)
-    → length bytes ≤ most_of_feed → StandsAt bytes mid (before ++ more) → StopsAdopting mid new next (held ++ more) holds e → outcome_for e ≡ Some o
-    → Adopted bytes held before more holds next mid new o
-by_adopt bytes held before more holds next mid new end.Held o fits s c is = subst (Adopted bytes held before more holds next mid new) (let x : held_all ≡ o = cc is in x) (
+by_adopt : (bytes : List ℕ) (held before more holds : List (List ℕ)) (offer : Offer) (mid new : Progress) (e : FollowEnd) (o : Outcome)
+    → length bytes ≤ most_of_feed → StandsAt bytes mid (before ++ more) → StopsAdopting mid new offer (held ++ more) holds e → outcome_for e ≡ Some o
+    → Adopted bytes held before more holds offer mid new o
+by_adopt bytes held before more holds offer mid new end.Held o fits s c is = subst (Adopted bytes held before more holds offer mid new) (let x : held_all ≡ o = cc is in x) (
   c.ended.tells.sink,
   c.stays,
   λ admits each refuses. adopted_so admits before more bytes (ends_so complete) held_all
       (finds_end bytes mid new (before ++ more) fits s c.ended ∙ in_front_append before more (ends_so complete)) each
       (ends_here admits (before ++ more) [] (8 + length (fed before) + length (fed more)) complete),
 )
-by_adopt bytes held before more holds next mid new end.Promoted o fits s c is = absurd c
-by_adopt bytes held before more holds next mid new (end.Feed fault.Head) o fits s c is = absurd c.finds.none
-by_adopt bytes held before more holds next mid new (end.Feed (fault.Cut p)) o fits s c is =
-    subst (Adopted bytes held before more holds next mid new) (ap cut_at (sym c.finds.none.0) ∙ (let x : cut_at p ≡ o = cc is in x)) (
+by_adopt bytes held before more holds offer mid new end.Promoted o fits s c is = absurd c
+by_adopt bytes held before more holds offer mid new (end.Feed fault.Head) o fits s c is = absurd c.finds.none
+by_adopt bytes held before more holds offer mid new (end.Feed (fault.Cut p)) o fits s c is =
+    subst (Adopted bytes held before more holds offer mid new) (ap cut_at (sym c.finds.none.0) ∙ (let x : cut_at p ≡ o = cc is in x)) (
       c.finds.tells.sink,
       c.stays,
       λ admits each refuses. adopted_so admits before more bytes (ends_so (cut mid.place)) (cut_at mid.place)
           (finds_cut bytes mid new (before ++ more) fits s c.finds.none.1 ∙ in_front_append before more (ends_so (cut mid.place))) each
           (ends_here admits (before ++ more) [] (8 + length (fed before) + length (fed more)) (cut mid.place)),
     )
-by_adopt bytes held before more holds next mid new (end.Feed fault.Long) o fits s c is =
+by_adopt bytes held before more holds offer mid new (end.Feed fault.Long) o fits s c is =
     absurd (finds_past bytes mid new (before ++ more) fits s c.finds.none)
-by_adopt bytes held before more holds next mid new (end.Feed fault.Failed) o fits s c is = absurd (cc is)
-by_adopt bytes held before more holds next mid new (end.Feed fault.Memory) o fits s c is = absurd (cc is)
-by_adopt bytes held before more holds next mid new (end.Other p) o fits s c is = absurd c
-by_adopt bytes held before more holds next mid new (end.Record p) o fits s c is =
+by_adopt bytes held before more holds offer mid new (end.Feed fault.Failed) o fits s c is = absurd (cc is)
+by_adopt bytes held before more holds offer mid new (end.Feed fault.Memory) o fits s c is = absurd (cc is)
+by_adopt bytes held before more holds offer mid new (end.Other p) o fits s c is = absurd c
+by_adopt bytes held before more holds offer mid new (end.Record p) o fits s c is =
     let l = ap length (fed_append before more) in
     let m = length-append (fed before) (fed more) in
     let here : mid.place ≡ 8 + length (fed before) + length (fed more) = let q = s.place in omega arith in
-    subst (Adopted bytes held before more holds next mid new) (ap refused_at (sym (c.0 ∙ here)) ∙ (let x : refused_at p ≡ o = cc is in x)) (
+    subst (Adopted bytes held before more holds offer mid new) (ap refused_at (sym (c.0 ∙ here)) ∙ (let x : refused_at p ≡ o = cc is in x)) (
       c.1.tells.sink,
       c.1.stays,
       λ admits each refuses.
@@ -112,10 +113,10 @@ by_adopt bytes held before more holds next mid new (end.Record p) o fits s c is 
           (found.1 ∙ in_front_append before more (with_record c.1.body found.0)) each
           (refused_here admits (before ++ more) c.1.body (8 + length (fed before) + length (fed more)) found.0 (refuses _ c.1.body refl c.1.offers)),
     )
-by_adopt bytes held before more holds next mid new (end.Full n) o fits s c is = absurd (cc is)
-by_adopt bytes held before more holds next mid new end.DiskFault o fits s c is = absurd (cc is)
-by_adopt bytes held before more holds next mid new end.Unwritten o fits s c is = absurd (cc is)
-by_adopt bytes held before more holds next mid new end.Memory o fits s c is = absurd (cc is)
+by_adopt bytes held before more holds offer mid new (end.Full n) o fits s c is = absurd (cc is)
+by_adopt bytes held before more holds offer mid new end.DiskFault o fits s c is = absurd (cc is)
+by_adopt bytes held before more holds offer mid new end.Unwritten o fits s c is = absurd (cc is)
+by_adopt bytes held before more holds offer mid new end.Memory o fits s c is = absurd (cc is)
 
 -- ---- the whole feed
 
@@ -142,7 +143,7 @@ module _ (source : SourceView) (sink : SinkView) (held holds : List (List ℕ)) 
           let told = by_compare bytes (feed_of held) c.same rest h c.mid new e o fits all (acked_at bytes begun c.mid [] c.same s c.acked) stops is in record {
             adopted = [];
             acks = length c.same;
-            next = None;
+            offer = no_record;
             grows = same ∙ sym (append-nil held);
             acknowledges = subst (λ v. Appends sink.written v.written (acks_behind 0 (length c.same))) (sym told.0)
                 (subst (λ n. Appends sink.written c.mid.sink.written (acks_behind n (length c.same))) begins.1.1
@@ -155,11 +156,11 @@ module _ (source : SourceView) (sink : SinkView) (held holds : List (List ℕ)) 
       → between.ending ≡ None → HasAdopted nothing_told between new held holds e → IsComputed bytes held holds sink.written new.sink.written o
   by_adopted begun between new begins s c goes a =
       let all = all_acked begun between (feed_of held) c goes in
-      let told = by_adopt bytes held (feed_of held) a.more holds a.next a.mid new e o fits
+      let told = by_adopt bytes held (feed_of held) a.more holds a.offer a.mid new e o fits
       (acked_at bytes between a.mid (feed_of held) a.more (acked_at bytes begun between [] (feed_of held) s all) a.acked) a.stops is in record {
         adopted = a.more;
         acks = length (feed_of held) + length a.more;
-        next = a.next;
+        offer = a.offer;
         grows = told.1;
         acknowledges = subst (λ v. Appends sink.written v.written (acks_behind 0 (length (feed_of held) + length a.more))) (sym told.0)
             (subst (Appends sink.written a.mid.sink.written) (sym (acks_join 0 (length (feed_of held)) (length a.more)))
@@ -179,7 +180,7 @@ module _ (source : SourceView) (sink : SinkView) (held holds : List (List ℕ)) 
   nothing_done new x same quiet stays feed all ends = record {
     adopted = [];
     acks = 0;
-    next = None;
+    offer = no_record;
     grows = stays ∙ sym (append-nil held);
     acknowledges = subst (λ v. Appends sink.written v.written []) (sym quiet) (Appends-nil sink.written);
     is = λ admits each refuses. ap (followed admits (feed_of held)) all ∙ ends admits ∙ ap (does 0 []) same;

@@ -1,5 +1,5 @@
 -- What a crash may leave of a disk while records are added to it.
-use Rattle.std.proofs.Common.{◌≡◌, ◌≤◌, ◌+◌, ◌++◌, ◌∷◌, ◌∙◌, ◌^◌, inl, inr, ℕ, suc, List, [], Option, Some, None, length, arith, sym, ap, refl, subst, append_assoc, append-nil, length-append}
+use Rattle.std.proofs.Common.{◌≡◌, ◌≤◌, ◌+◌, ◌++◌, ◌∷◌, ◌∙◌, ◌^◌, inl, inr, ℕ, suc, List, [], length, arith, sym, ap, refl, subst, append_assoc, append-nil, length-append}
 use Rattle.shelf.specs.WebOutside.View.{SinkView}
 use Rattle.shelf.specs.WebDisk.View.{View, LeavesOnly}
 use Rattle.shelf.specs.PageJournal.Records.{Intact, at_rest, frames, framed, newest, records, IsBeforeOrAfter}
@@ -9,7 +9,7 @@ use Rattle.shelf.proofs.PageJournal.Holds.{before_or_after, just_these}
 use Rattle.shelf.proofs.PageJournal.Mending.{leaves_map, leaves_then}
 use Rattle.page_follower.specs.Acks.{IsAcked}
 use Rattle.page_follower.specs.Laws.{AcknowledgedRecordsAreHeld, FirstRecordsAreFound}
-use Rattle.page_follower.specs.Moments.{AreFed, HasFed, HasGained, HoldsFirst, HoldsOnly, HoldsWith, IsFedOn, IsOffered, offered}
+use Rattle.page_follower.specs.Moments.{AreFed, HasFed, HasGained, HoldsFirst, HoldsOnly, HoldsWith, IsFedOn, IsOffered, Offer, in_flight, no_record, refused_record, written_record}
 
 -- since a moment there is no other
 abbrev pub OnlyNow : {D : Type 0} → (D → View) → Type 0
@@ -137,44 +137,46 @@ fed_moments view only_now held old new sink told acks (b ∷ more) others left f
     (fed_moments view only_now (held ++ b ∷ []) fed.0 new fed.1 told (acks + 1) more others fed.2.left fed.4))
 
 -- a record was offered, if one was
-offered_moments : {D : Type 0} (view : D → View) → OnlyNow view → (bodies : List (List ℕ)) (old new : D) (next : Option (List ℕ))
-    → HoldsOnly (view old) bodies → IsOffered view bodies old next new → LeavesOnly (view old) (view new) (HoldsFirst bodies (offered next))
-offered_moments view only_now bodies old new None left same =
+offered_moments : {D : Type 0} (view : D → View) → OnlyNow view → (bodies : List (List ℕ)) (old new : D) (offer : Offer)
+    → HoldsOnly (view old) bodies → IsOffered view bodies old offer new → LeavesOnly (view old) (view new) (HoldsFirst bodies (in_flight offer))
+offered_moments view only_now bodies old new no_record left same =
     subst (λ d. LeavesOnly (view old) (view d) (HoldsFirst bodies [])) (sym same) (rested_on view only_now old bodies [] left)
-offered_moments view only_now bodies old new (Some body) left run =
+offered_moments view only_now bodies old new (refused_record body) left rested =
+    leaves_map (view old) (view new) (IsClosed newest bodies) (HoldsFirst bodies []) (first_none bodies []) rested.moments
+offered_moments view only_now bodies old new (written_record body) left run =
     leaves_map (view old) (view new) (MayHold newest bodies body) (HoldsFirst bodies (body ∷ [])) (first_may bodies body []) run
 
 -- records were added, and then one was offered, if one was
 fed_on_moments : {D : Type 0} (view : D → View) → OnlyNow view → (held : List (List ℕ)) (old new : D) (sink : SinkView) (acks : ℕ)
-    (more : List (List ℕ)) (told : SinkView) (next : Option (List ℕ)) → HoldsOnly (view old) held
-    → IsFedOn view held old new sink acks more told next → LeavesOnly (view old) (view new) (HoldsFirst held (more ++ offered next))
-fed_on_moments view only_now held old new sink acks more told next left (mid, fed, offer) =
-    let P = HoldsFirst held (more ++ offered next) in
+    (more : List (List ℕ)) (told : SinkView) (offer : Offer) → HoldsOnly (view old) held
+    → IsFedOn view held old new sink acks more told offer → LeavesOnly (view old) (view new) (HoldsFirst held (more ++ in_flight offer))
+fed_on_moments view only_now held old new sink acks more told offer left (mid, fed, last) =
+    let P = HoldsFirst held (more ++ in_flight offer) in
     leaves_then (view old) (view mid) (view new) P
-    (fed_moments view only_now held old mid sink told acks more (offered next) left fed)
-    (leaves_map (view mid) (view new) (HoldsFirst (held ++ more) (offered next)) P (first_behind held more (offered next))
-    (offered_moments view only_now (held ++ more) mid new next (fed_left view held old mid sink told acks more left fed) offer))
+    (fed_moments view only_now held old mid sink told acks more (in_flight offer) left fed)
+    (leaves_map (view mid) (view new) (HoldsFirst (held ++ more) (in_flight offer)) P (first_behind held more (in_flight offer))
+    (offered_moments view only_now (held ++ more) mid new offer (fed_left view held old mid sink told acks more left fed) last))
 
 -- and before that those that were held were read
 pub has_fed_moments : {D : Type 0} (view : D → View) → OnlyNow view → (held : List (List ℕ)) (old new : D) (sink : SinkView) (acks : ℕ)
-    (more : List (List ℕ)) (told : SinkView) (next : Option (List ℕ)) → HasFed view held old new sink acks more told next
-    → LeavesOnly (view old) (view new) (HoldsFirst held (more ++ offered next))
-has_fed_moments view only_now held old new sink acks more told next (read, rested, fed) =
-    let P = HoldsFirst held (more ++ offered next) in
+    (more : List (List ℕ)) (told : SinkView) (offer : Offer) → HasFed view held old new sink acks more told offer
+    → LeavesOnly (view old) (view new) (HoldsFirst held (more ++ in_flight offer))
+has_fed_moments view only_now held old new sink acks more told offer (read, rested, fed) =
+    let P = HoldsFirst held (more ++ in_flight offer) in
     leaves_then (view old) (view read) (view new) P
-    (leaves_map (view old) (view read) (IsClosed newest held) P (first_none held (more ++ offered next)) rested.moments)
-    (fed_on_moments view only_now held read new sink acks more told next rested.left fed)
+    (leaves_map (view old) (view read) (IsClosed newest held) P (first_none held (more ++ in_flight offer)) rested.moments)
+    (fed_on_moments view only_now held read new sink acks more told offer rested.left fed)
 
 -- ---- laws
 
 pub acknowledged_records_are_held : {D : Type 0} (view : D → View) → OnlyNow view → CountsNow view → AcknowledgedRecordsAreHeld view
-acknowledged_records_are_held view only_now counts_now held first rest next old new sink told acks (read, rested, (end, fed, offer)) =
+acknowledged_records_are_held view only_now counts_now held first rest offer old new sink told acks (read, rested, (end, fed, last)) =
     let cut = fed_cut view held read end sink told acks first rest fed in
     let left = fed_left view held read cut.0 sink cut.1 acks first rested.left cut.2 in
-    let later : IsFedOn view (held ++ first) cut.0 new cut.1 (acks + length first) rest told next =
-    (end, cut.3, subst (λ l. IsOffered view l end next new) (sym (append_assoc held first rest)) offer) in
-    let run = fed_on_moments view only_now (held ++ first) cut.0 new cut.1 (acks + length first) rest told next left later in (
-      has_fed_moments view only_now held old new sink acks (first ++ rest) told next (read, rested, (end, fed, offer)),
+    let later : IsFedOn view (held ++ first) cut.0 new cut.1 (acks + length first) rest told offer =
+    (end, cut.3, subst (λ l. IsOffered view l end offer new) (sym (append_assoc held first rest)) last) in
+    let run = fed_on_moments view only_now (held ++ first) cut.0 new cut.1 (acks + length first) rest told offer left later in (
+      has_fed_moments view only_now held old new sink acks (first ++ rest) told offer (read, rested, (end, fed, last)),
       (
         cut.0,
         cut.1,

@@ -1,16 +1,16 @@
 -- What a follower did with a feed, by less that is told of its disk.
-use Rattle.std.proofs.Common.{ℕ, List, Option}
+use Rattle.std.proofs.Common.{ℕ, List}
 use Rattle.shelf.specs.WebOutside.View.{SourceView, SinkView}
 use Rattle.page_follower.specs.Comparing.{Progress}
 use Rattle.page_follower.specs.Held.{AdoptsNone, Feeds, Follows, HasAdopted, HasFollowed, adopted, compared, fed_behind, headless, unread}
-use Rattle.page_follower.specs.Moments.{Moments}
+use Rattle.page_follower.specs.Moments.{Moments, Offer}
 use Rattle.page_follower.specs.declared.fault.FollowEnd.{FollowEnd}
 
 -- whatever is told by the one is told by the other
 abbrev pub TellsLess : (Told Less : Moments) → Type 0
 TellsLess Told Less =
-    (sink : SinkView) (acks : ℕ) (more : List (List ℕ)) (told : SinkView) (next : Option (List ℕ)) → Told sink acks more told next
-    → Less sink acks more told next
+    (sink : SinkView) (acks : ℕ) (more : List (List ℕ)) (told : SinkView) (offer : Offer) → Told sink acks more told offer
+    → Less sink acks more told offer
 
 module _ (Told Less : Moments) (less : TellsLess Told Less) where
   -- where no record was adopted
@@ -24,7 +24,7 @@ module _ (Told Less : Moments) (less : TellsLess Told Less) where
     more = p.more;
     mid = p.mid;
     acked = p.acked;
-    next = p.next;
+    offer = p.offer;
     stops = p.stops;
     told = less _ _ _ _ _ p.told;
   }

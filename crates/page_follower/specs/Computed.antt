@@ -7,7 +7,7 @@ use Rattle.page_follower.specs.Acks.{acks_behind}
 use Rattle.page_follower.specs.Feed.{feed_in, most_of_feed}
 use Rattle.page_follower.specs.Following.{Followed, Outcome, held_all, no_head, differs_at, refused_at, cut_at, over, followed}
 use Rattle.page_follower.specs.Held.{HasFollowed}
-use Rattle.page_follower.specs.Moments.{Moments}
+use Rattle.page_follower.specs.Moments.{Moments, Offer, refused_record}
 use Rattle.page_follower.specs.declared.fault.FeedFault.TheVariants as fault
 use Rattle.page_follower.specs.declared.fault.FollowEnd.{FollowEnd}
 use Rattle.page_follower.specs.declared.fault.FollowEnd.TheVariants as end
@@ -38,24 +38,24 @@ AdmitsEach admits so_far [] = ⊤
 AdmitsEach admits so_far (body ∷ more) = (admits so_far body ≡ true) × AdmitsEach admits (so_far ++ body ∷ []) more
 
 -- the record that was offered cannot stand behind these, where following ended for that
-abbrev pub RefusesNext : (admits : List (List ℕ) → List ℕ → Bool) → (so_far : List (List ℕ)) → Option (List ℕ) → Outcome → Type 0
-RefusesNext admits so_far next o =
-    (place : ℕ) (body : List ℕ) → o ≡ refused_at place → next ≡ Some body → admits so_far body ≡ false
+abbrev pub RefusesNext : (admits : List (List ℕ) → List ℕ → Bool) → (so_far : List (List ℕ)) → Offer → Outcome → Type 0
+RefusesNext admits so_far offer o =
+    (place : ℕ) (body : List ℕ) → o ≡ refused_at place → offer ≡ refused_record body → admits so_far body ≡ false
 
 -- A follower adopted these records behind those that it held, and wrote so many acknowledgments. It is what following computes from the feed's
 -- bytes, whatever tells which records can stand where, if that says yes to those that were adopted and no to one that was refused.
 pub record IsComputed (bytes : List ℕ) (held holds : List (List ℕ)) (written now : Option (List ℕ)) (o : Outcome) : Type 0 where
   pub adopted : List (List ℕ)
   pub acks : ℕ
-  pub next : Option (List ℕ)
+  pub offer : Offer
   pub grows : holds ≡ held ++ adopted
   pub acknowledges : Appends written now (acks_behind 0 acks)
-  pub is : (admits : List (List ℕ) → List ℕ → Bool) → AdmitsEach admits (feed_of held) adopted → RefusesNext admits (feed_of held ++ adopted) next o
+  pub is : (admits : List (List ℕ) → List ℕ → Bool) → AdmitsEach admits (feed_of held) adopted → RefusesNext admits (feed_of held ++ adopted) offer o
       → followed admits (feed_of held) (feed_in bytes) ≡ does acks adopted o
 
 -- nothing is told of the disk
 abbrev pub nothing_told : Moments
-nothing_told = λ sink acks more told next. ⊤
+nothing_told = λ sink acks more told offer. ⊤
 
 -- Where the bytes of a source are known, and not too many for a feed, what a follower did with them is what following computes from them, unless
 -- something failed or there was no room.

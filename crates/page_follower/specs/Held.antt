@@ -8,7 +8,7 @@ use Rattle.shelf.specs.JournalRecords.Roles.{feed_of}
 use Rattle.page_follower.specs.Acks.{acks_behind, IsUnacked}
 use Rattle.page_follower.specs.Comparing.{Progress, Acknowledges, Compares, FindsEnd, FindsNone, TellsNothing}
 use Rattle.page_follower.specs.Feed.{feed_head, fed}
-use Rattle.page_follower.specs.Moments.{HasGained, AreFed, IsFedOn, IsOffered, Moments}
+use Rattle.page_follower.specs.Moments.{HasGained, AreFed, IsFedOn, IsOffered, Moments, Offer, no_record, refused_record, written_record}
 use Rattle.page_follower.specs.Reading.{Came, Got, NoHead}
 use Rattle.page_follower.specs.declared.fault.FeedFault.{FeedFault}
 use Rattle.page_follower.specs.declared.fault.FollowEnd.{FollowEnd}
@@ -40,54 +40,54 @@ pub record HasCompared (old new : Progress) (held : List (List ℕ)) : Type 0 wh
   pub acked : HasAcked old mid same
   pub stops : StopsComparing mid new rest new.ending
 
--- nothing came of the record that was offered: it is not held, and nothing was acknowledged
-pub record IsRefused (mid new : Progress) (next : Option (List ℕ)) (held holds : List (List ℕ)) : Type 0 where
+-- nothing came of the record that was offered: it was refused, it is not held, and nothing was acknowledged
+pub record IsRefused (mid new : Progress) (offer : Offer) (held holds : List (List ℕ)) : Type 0 where
   pub body : List ℕ
-  pub offers : next ≡ Some body
+  pub offers : offer ≡ refused_record body
   pub came : Came mid.source new.source mid.place new.place body
   pub tells : TellsNothing mid new
   pub stays : holds ≡ held
 
 -- A record was offered that the disk has or has not, since a call of it failed. Nothing was acknowledged.
-pub record IsInDoubt (mid new : Progress) (next : Option (List ℕ)) : Type 0 where
+pub record IsInDoubt (mid new : Progress) (offer : Offer) : Type 0 where
   pub body : List ℕ
-  pub offers : next ≡ Some body
+  pub offers : offer ≡ written_record body
   pub came : Came mid.source new.source mid.place new.place body
   pub tells : TellsNothing mid new
 
 -- the record that was offered is held, and was not acknowledged, since a write failed
-pub record IsUntold (mid new : Progress) (next : Option (List ℕ)) (held holds : List (List ℕ)) : Type 0 where
+pub record IsUntold (mid new : Progress) (offer : Offer) (held holds : List (List ℕ)) : Type 0 where
   pub body : List ℕ
-  pub offers : next ≡ Some body
+  pub offers : offer ≡ written_record body
   pub came : Came mid.source new.source mid.place new.place body
   pub unacked : IsUnacked mid.sink new.sink (mid.acks + 1)
   pub acks : new.acks ≡ mid.acks
   pub grows : holds ≡ held ++ body ∷ []
 
 -- the feed had ended, and no record was offered
-pub record IsEnded (mid new : Progress) (next : Option (List ℕ)) (held holds : List (List ℕ)) : Type 0 where
-  pub offers : next ≡ None
+pub record IsEnded (mid new : Progress) (offer : Offer) (held holds : List (List ℕ)) : Type 0 where
+  pub offers : offer ≡ no_record
   pub ended : FindsEnd mid new
   pub stays : holds ≡ held
 
 -- no record came, for this reason, and none was offered
-pub record IsUnfed (mid new : Progress) (f : FeedFault) (next : Option (List ℕ)) (held holds : List (List ℕ)) : Type 0 where
-  pub offers : next ≡ None
+pub record IsUnfed (mid new : Progress) (f : FeedFault) (offer : Offer) (held holds : List (List ℕ)) : Type 0 where
+  pub offers : offer ≡ no_record
   pub finds : FindsNone mid new f
   pub stays : holds ≡ held
 
 -- how following came to its end behind the records that are held, by the record that was offered, if one was, and by those that are held before
 -- and now
-abbrev pub StopsAdopting : (mid new : Progress) → (next : Option (List ℕ)) → (held holds : List (List ℕ)) → FollowEnd → Type 0
-StopsAdopting mid new next held holds end.Held = IsEnded mid new next held holds
-StopsAdopting mid new next held holds end.Promoted = ⊥
-StopsAdopting mid new next held holds (end.Feed f) = IsUnfed mid new f next held holds
-StopsAdopting mid new next held holds (end.Other place) = ⊥
-StopsAdopting mid new next held holds (end.Record place) = (place ≡ mid.place) × IsRefused mid new next held holds
-StopsAdopting mid new next held holds (end.Full len) = IsRefused mid new next held holds
-StopsAdopting mid new next held holds end.DiskFault = IsInDoubt mid new next
-StopsAdopting mid new next held holds end.Unwritten = IsUntold mid new next held holds
-StopsAdopting mid new next held holds end.Memory = IsRefused mid new next held holds
+abbrev pub StopsAdopting : (mid new : Progress) → (offer : Offer) → (held holds : List (List ℕ)) → FollowEnd → Type 0
+StopsAdopting mid new offer held holds end.Held = IsEnded mid new offer held holds
+StopsAdopting mid new offer held holds end.Promoted = ⊥
+StopsAdopting mid new offer held holds (end.Feed f) = IsUnfed mid new f offer held holds
+StopsAdopting mid new offer held holds (end.Other place) = ⊥
+StopsAdopting mid new offer held holds (end.Record place) = (place ≡ mid.place) × IsRefused mid new offer held holds
+StopsAdopting mid new offer held holds (end.Full len) = IsRefused mid new offer held holds
+StopsAdopting mid new offer held holds end.DiskFault = IsInDoubt mid new offer
+StopsAdopting mid new offer held holds end.Unwritten = IsUntold mid new offer held holds
+StopsAdopting mid new offer held holds end.Memory = IsRefused mid new offer held holds
 
 -- The records of the feed behind those that are held: the first of them were adopted and acknowledged, and it is told what came of the next one,
 -- and what a crash may leave of the disk.
@@ -95,16 +95,16 @@ pub record HasAdopted (Told : Moments) (old new : Progress) (held holds : List (
   pub more : List (List ℕ)
   pub mid : Progress
   pub acked : HasAcked old mid more
-  pub next : Option (List ℕ)
-  pub stops : StopsAdopting mid new next (held ++ more) holds e
-  pub told : Told old.sink old.acks more mid.sink next
+  pub offer : Offer
+  pub stops : StopsAdopting mid new offer (held ++ more) holds e
+  pub told : Told old.sink old.acks more mid.sink offer
 
 -- What came of the next record of the feed behind those that are held: it was adopted and acknowledged, or following came to its end.
 abbrev pub AdoptsNext : {D : Type 0} → (D → View) → (old new : Progress) → (before after : D) → (held holds : List (List ℕ)) → Option FollowEnd → Type 0
 AdoptsNext view old new before after held holds None =
     (body : List ℕ) × Acknowledges old new body × (holds ≡ held ++ body ∷ []) × HasGained (view before) (view after) held body
 AdoptsNext view old new before after held holds (Some e) =
-    (next : Option (List ℕ)) × StopsAdopting old new next held holds e × IsOffered view held before next after
+    (offer : Offer) × StopsAdopting old new offer held holds e × IsOffered view held before offer after
 
 -- records were adopted and acknowledged, and following goes on
 pub record GoesOnAdopting {D : Type 0} (view : D → View) (old new : Progress) (before after : D) (held holds : List (List ℕ)) : Type 0 where
@@ -133,7 +133,7 @@ Begins source sink new (Some end.Memory) = ⊥
 
 -- no record was adopted, and it is told what a crash may leave of the disk
 abbrev pub AdoptsNone : (Told : Moments) → (new : Progress) → (held holds : List (List ℕ)) → Type 0
-AdoptsNone Told new held holds = (holds ≡ held) × Told new.sink new.acks [] new.sink None
+AdoptsNone Told new held holds = (holds ≡ held) × Told new.sink new.acks [] new.sink no_record
 
 -- What a follower did with a feed behind its head, whose file held these records and holds those now. A call of the disk failed while it compared
 -- those that it held; or it compared them up to the end; or it adopted those behind them.

@@ -1,5 +1,5 @@
 -- What a crash may leave of a follower's disk at each moment, and which records were acknowledged by then.
-use Rattle.std.specs.Prelude.{◌≡◌, ◌≤◌, ◌^◌, ℕ, ◌+◌, ◌++◌, List, [], ◌∷◌, length, Option, Some, None}
+use Rattle.std.specs.Prelude.{◌≡◌, ◌≤◌, ◌^◌, ℕ, ◌+◌, ◌++◌, List, [], ◌∷◌, length}
 use Rattle.shelf.specs.WebOutside.View.{SinkView}
 use Rattle.shelf.specs.WebDisk.View.{View, LeavesOnly}
 use Rattle.shelf.specs.PageJournal.Records.{newest, at_rest}
@@ -34,35 +34,46 @@ AreFed {D} view held old sink acks (body ∷ more) told new =
     (mid : D) × (between : SinkView) × HasGained (view old) (view mid) held body × IsAcked sink between (acks + 1)
     × AreFed view (held ++ body ∷ []) mid between (acks + 1) more told new
 
--- A record was offered to a disk that held these, if one was, and was not acknowledged: a crash at any moment left them, with it or without it.
-abbrev pub IsOffered : {D : Type 0} → (D → View) → (bodies : List (List ℕ)) → (old : D) → Option (List ℕ) → (new : D) → Type 0
-IsOffered view bodies old None new = new ≡ old
-IsOffered view bodies old (Some body) new = LeavesOnly (view old) (view new) (MayHold newest bodies body)
+-- The record that was offered behind others and not acknowledged. There was none; or it was refused, and the disk was not asked to write it; or the
+-- disk was asked to write it, whatever came of that.
+pub data Offer : Type 0 where
+  no_record : Offer
+  refused_record : (body : List ℕ) → Offer
+  written_record : (body : List ℕ) → Offer
+
+-- What became of a disk that held these records, while another one was offered and not acknowledged. Without one it was left alone. Where it was
+-- refused, a crash at any moment left these records and no other, and one now does. Where the disk was asked to write it, a crash at any moment left
+-- these, with it or without it.
+abbrev pub IsOffered : {D : Type 0} → (D → View) → (bodies : List (List ℕ)) → (old : D) → Offer → (new : D) → Type 0
+IsOffered view bodies old no_record new = new ≡ old
+IsOffered view bodies old (refused_record body) new = HasRested (view old) (view new) bodies
+IsOffered view bodies old (written_record body) new = LeavesOnly (view old) (view new) (MayHold newest bodies body)
 
 -- records were added and acknowledged, and then one was offered, if one was
 abbrev pub IsFedOn : {D : Type 0} → (D → View) → (held : List (List ℕ)) → (old new : D) → (sink : SinkView) → (acks : ℕ) → (more : List (List ℕ))
-    → (told : SinkView) → (next : Option (List ℕ)) → Type 0
-IsFedOn {D} view held old new sink acks more told next =
-    (mid : D) × AreFed view held old sink acks more told mid × IsOffered view (held ++ more) mid next new
+    → (told : SinkView) → Offer → Type 0
+IsFedOn {D} view held old new sink acks more told offer =
+    (mid : D) × AreFed view held old sink acks more told mid × IsOffered view (held ++ more) mid offer new
 
 -- The records that a disk held were read, which changed nothing. Then those behind them were added and acknowledged, and one was offered, if one
 -- was.
 abbrev pub HasFed : {D : Type 0} → (D → View) → (held : List (List ℕ)) → (old new : D) → (sink : SinkView) → (acks : ℕ) → (more : List (List ℕ))
-    → (told : SinkView) → (next : Option (List ℕ)) → Type 0
-HasFed {D} view held old new sink acks more told next =
-    (read : D) × HasRested (view old) (view read) held × IsFedOn view held read new sink acks more told next
+    → (told : SinkView) → Offer → Type 0
+HasFed {D} view held old new sink acks more told offer =
+    (read : D) × HasRested (view old) (view read) held × IsFedOn view held read new sink acks more told offer
 
 -- what is told of a follower's disk by the records that were adopted and acknowledged, from one output to another, and the one that was offered
 -- behind them, if one was
 abbrev pub Moments : Type 1
-Moments = (sink : SinkView) → (acks : ℕ) → (more : List (List ℕ)) → (told : SinkView) → (next : Option (List ℕ)) → Type 0
+Moments = (sink : SinkView) → (acks : ℕ) → (more : List (List ℕ)) → (told : SinkView) → Offer → Type 0
 
 -- ---- what a crash finds
 
--- the record that was offered, if one was, alone
-abbrev pub offered : Option (List ℕ) → List (List ℕ)
-offered None = []
-offered (Some body) = body ∷ []
+-- the record that may be in flight behind others: the one that the disk was asked to write, if there is one, alone
+abbrev pub in_flight : Offer → List (List ℕ)
+in_flight no_record = []
+in_flight (refused_record body) = []
+in_flight (written_record body) = body ∷ []
 
 -- bytes hold these records, or these with the first of the others in flight
 abbrev pub HoldsWith : (bodies others : List (List ℕ)) → (bytes : List ℕ) → Type 0
