@@ -61,7 +61,7 @@ HasItsNote (Draws number) = ⊤
 HasItsNote (Passes long) = ⊤
 HasItsNote (Lands logged note long) = note ≡ note_read (logged_of logged.value) long
 
--- so much more is known of the file with it
+-- what is noted of a record adds this to what is known of its file
 abbrev pub NotesBy : Noting → (old new : FileNotes) → Type 0
 NotesBy (Draws number) old new = (file_in new ≡ with_drawn number (file_in old)) × (marks_in new ≡ marks_in old)
 NotesBy (Passes long) old new = (file_in new ≡ file_in old) × (marks_in new ≡ marks_in old ++ false ∷ [])

@@ -49,7 +49,7 @@ pub struct Options {
 /// What the options of `serve` say, each in its range.
 #[derive(Drop)]
 pub struct Service {
-    /// Those that it shares with `play`.
+    /// The options that `serve` shares with `play`.
     pub options: Options,
     /// The port to listen at, 0 to 65,535. At 0 the machine chooses one.
     pub port: u16,

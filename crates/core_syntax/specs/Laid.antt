@@ -12,7 +12,7 @@ use Rattle.core_syntax.specs.Limits.{most_nodes, most_levels}
 use Rattle.script_nodes.specs.Core.{Core, Cores, core, count, count_all, height, height_all}
 use Rattle.script_nodes.specs.Layout.{layout, layout_all, starts}
 
--- so many more nodes are too many behind these, or they nest deeper than `left`
+-- nodes that would come after these are too many, or nest deeper than `left`
 abbrev pub Lacks : (before left more high : ℕ) → Type 0
 Lacks before left more high = before + more ≤ most_nodes → left < high
 

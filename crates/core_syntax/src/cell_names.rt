@@ -95,7 +95,7 @@ impl<'a> CellNames<'a> {
         self.is_taken_ahead(self.later, name)
     }
 
-    /// The same, where these forms define names too.
+    /// Whether a name is that of a form, an operation, a cell or a task, or one that these forms define.
     pub fn is_taken_ahead(&self, later: &[Value], name: &Str) -> bool
         ensures { result ≡ is_taken (with_forms later.now self.now) name.now }
     {

@@ -65,7 +65,7 @@ fn first_seen<'a>(
     seen_behind(&nothing, &scope, first, others, forms)
 }
 
-// The same, behind no definition and within no variable.
+// What the first form tells where nothing is defined yet and no variable is bound.
 fn seen_behind<'a>(
     nothing: &Defined<'a>,
     scope: &Names<'a>,

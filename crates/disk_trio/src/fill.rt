@@ -29,7 +29,7 @@ impl<D: Disk> Disks<D> {
         }
     }
 
-    /// The same three disks, of which nothing is known.
+    /// Gives the three disks back as disks of which nothing is known.
     pub fn renew(self) -> Disks<D>
         ensures three { three_of result ≡ three_of self }
         ensures before { before result ≡ [] }

@@ -96,7 +96,7 @@ abbrev pub read_frame : Arena → Reader Frame
 read_frame a [] = None
 read_frame a (kind ∷ rest) = read_kind a kind rest
 
--- so many frames
+-- reads so many frames, one after the other
 abbrev pub read_frames_of : Arena → (count : ℕ) → Reader (List Frame)
 read_frames_of a count bytes = read_several (read_frame a) count bytes
 

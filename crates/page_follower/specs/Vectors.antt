@@ -45,7 +45,7 @@ other_head = refl
 cut_record : feed_in (take 19 (feed_with four_bodies)) ≡ record { bodies = some_bytes 3 ∷ []; ends = cut 15 }
 cut_record = refl
 
--- and so it is inside a record's length
+-- inside a record's length a feed is cut at the record's first byte
 cut_length : feed_in (take 17 (feed_with four_bodies)) ≡ record { bodies = some_bytes 3 ∷ []; ends = cut 15 }
 cut_length = refl
 

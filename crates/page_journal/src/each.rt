@@ -114,7 +114,7 @@ impl<D: Disk> Journal<D> {
             OnOk result (TakesAll T.takes taker.old 8 (bodies_in D.view self.old) taker.new) }
         ensures front { IsTrue D.tells →
             TakesFront T.takes taker.old (bodies_in D.view self.old) taker.new }
-        // Also of a disk that does not tell its bytes, and where a call of it failed.
+        // What follows holds of a disk that does not tell its bytes too, and where a call of it failed.
         ensures handed { TakesSome T.takes taker.old taker.new }
         ensures quiet { IsQuiet (view_of D.view self.old) (view_of D.view self.new) }
         ensures len { length_of self.new ≡ length_of self.old }

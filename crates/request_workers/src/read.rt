@@ -24,7 +24,7 @@ fn read_into<S: Source>(
     Ok(count)
 }
 
-// The same of so many bytes. A head is read byte by byte, since none behind it may be taken.
+// Reads so many bytes at most. A head is read byte by byte, since none behind it may be taken.
 fn read_piece<S: Source>(
     source: &mut S,
     bytes: &mut Vec<u8>,

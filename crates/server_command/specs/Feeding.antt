@@ -75,7 +75,7 @@ followed_status end.DiskFault = status.Disk
 followed_status end.Unwritten = status.Write
 followed_status end.Memory = status.Memory
 
--- It was told how following ended; or there was no memory for the line; or all was done and could not be handed on.
+-- The output tells how following ended; or there was no memory for the line; or all was done and could not be handed on.
 pub data TellsFollowed (shelf : ℕ) (e : FollowEnd) (how : Status) (out : Sinks) : Type 0 where
   told : how ≡ followed_status e → PrintsTo out (followed_line shelf e) → TellsFollowed shelf e how out
   untold : how ≡ status.Memory → PrintsTo out memory_line → TellsFollowed shelf e how out
@@ -87,7 +87,7 @@ TellsFeed line status.Feed out = PrintsTo out line
 TellsFeed line status.Memory out = PrintsTo out memory_line
 TellsFeed line _ out = ⊥
 
--- It was told why a feed was not read on. No shelf is named.
+-- The output tells why a feed was not read on. It names no shelf.
 abbrev pub TellsFeedFault : FeedFault → Status → Sinks → Type 0
 TellsFeedFault fault how out = (shelf : ℕ) → TellsFollowed shelf (end.Feed fault) how out
 
@@ -161,7 +161,7 @@ pub record IsPromoted {D : Type 0} (view : D → View) (told : Type 0) (before a
   pub left : told → LeavesPromoted shelf followed (view taken) (view given)
   pub lawful : told → IsLawful (making_after shelf (view taken))
 
--- so it is of each shelf from this number on
+-- each shelf from this number on was promoted, or did not follow
 abbrev pub ArePromoted : {D : Type 0} → (D → View) → (told : Type 0) → (before after : RackView) → (shelf : ℕ) → List Bool → Type 0
 ArePromoted view known before after shelf [] = ⊤
 ArePromoted view known before after shelf (followed ∷ later) =

@@ -202,7 +202,7 @@ pub record IsFollowerOf {D : Type 0} (view : D → View) (tells : Bool) (shelf :
   pub made : IsFedSome f.fed shelf f.seen o.0 (library_of o.1)
   pub told : IsTrue tells → IsFedBy f.fed shelf f.seen o.0 (library_of o.1) (making_of view shelf journal)
 
--- so it is of the shelf that was opened, if it follows
+-- a shelf that was opened and follows keeps what the records of its journal fed it
 abbrev pub IsFollowedBy : {D : Type 0} → (D → View) → Bool → (shelf : ℕ) → Journal D → Option Follower → Result (RustBook × Library) BeginFault → Type 0
 IsFollowedBy view tells shelf journal o result = IfOk result (λ x. IfSome o (IsFollowerOf view tells shelf journal x))
 

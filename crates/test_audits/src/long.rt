@@ -48,7 +48,7 @@ fn short_files(alloc: Global, files: &Files, setup: &Setup) -> Result<Files, Fai
     files_of(alloc, shelf)
 }
 
-// The same behind visits and then a compaction. Before it and behind it the files have to pass.
+// What stands there after visits and then a compaction. Before it and after it the files have to pass.
 fn compacted_files(
     alloc: Global,
     files: &Files,
@@ -81,7 +81,7 @@ const FIRST_ANSWERS: &[Visit] = &[
     },
 ];
 
-// And behind a compaction.
+// What pages of the older journal go on with after a compaction.
 const LATER_ANSWERS: &[Visit] = &[
     Visit {
         path: "/servlets/hotel;0*3*5*0000000000000005",

@@ -102,7 +102,7 @@ fn visited(alloc: Global, files: &Files, setup: &Setup) -> Result<Files, Fail>
     files_of(alloc, shelf)
 }
 
-// The same behind a compaction.
+// What stands on the disks of the shelf of these files, after visits of their pages and a compaction.
 fn compacted_files(alloc: Global, files: &Files, setup: &Setup) -> Result<Files, Fail>
     requires { IsReadSetup (scripts_of setup.now) }
 {

@@ -147,7 +147,7 @@ impl Counts {
     }
 }
 
-// The same for each crash behind a compaction that goes wrong so.
+// The counts for each crash after a compaction that goes wrong so.
 fn count_crashes(
     alloc: Global,
     setup: &Setup,

@@ -301,7 +301,7 @@ fn what_was_adopted_stands_where_a_call_fails(rt: HostRuntime) -> Result<(), Fai
     Ok(())
 }
 
-// The same from a journal without records on, which is told that its shelf follows before it is fed.
+// What was adopted stands so too from a journal without records on, which is told that its shelf follows before it is fed.
 #[test]
 fn a_journal_without_records_that_stops_goes_on(rt: HostRuntime) -> Result<(), Fail> {
     let alloc = rt.alloc();

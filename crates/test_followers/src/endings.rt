@@ -27,7 +27,7 @@ fn follower(alloc: Global, feed: &[u8]) -> Result<Files, Fail> {
     held(alloc, &nothing(alloc), feed, 4)
 }
 
-// The same of one that was fed nothing.
+// What stands on the disks of a follower that was fed nothing.
 fn waiting(alloc: Global) -> Result<Files, Fail> {
     held(alloc, &nothing(alloc), HEAD, 0)
 }

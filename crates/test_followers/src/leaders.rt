@@ -204,7 +204,7 @@ const STARTS: &[Visit] = &[
     },
 ];
 
-// And each of their pages is answered.
+// Each page of a start is answered.
 const PAGES: &[Visit] = &[
     Visit {
         path: "/servlets/s;0*0*0*0000000000000000",

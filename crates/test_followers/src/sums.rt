@@ -96,7 +96,7 @@ pub fn visited_with(
     files_of(alloc, shelf)
 }
 
-/// The same with the setup of the script that tells sums.
+/// What stands on the disks of the shelf of these files after visits, with the setup of the script that tells sums.
 pub fn visited(alloc: Global, files: &Files, visits: &[Visit]) -> Result<Files, Fail> {
     let setup = sums_setup(alloc)?;
     visited_with(alloc, files, &setup, visits, RULES)

@@ -250,7 +250,7 @@ fn over_reads(alloc: Global, script: &Script, reads: Vec<Value>) -> Result<Strin
     told.all()
 }
 
-// The same where the data of a text are what was read.
+// A run whose first segment read the data of a text, and copies of the past and of the run.
 fn over_data(alloc: Global, script: &Script, reads: &str) -> Result<String, AllocError> {
     match data(alloc, reads.as_bytes())? {
         Ok(reads) => over_reads(alloc, script, reads),

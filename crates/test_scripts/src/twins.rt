@@ -38,7 +38,7 @@ pub struct Twins {
 #[derive(Drop)]
 pub struct Chain {
     pub segments: Vec<Twins>,
-    /// The same as the slow engine is told of them.
+    /// The segments as the slow engine is told of them.
     past: Vec<Answer>,
     /// The instance's cells behind them.
     cells: Cells,

@@ -34,7 +34,7 @@ fn expect_pages(alloc: Global, shelf: &mut MemoryShelf) -> Result<(), Fail>
     expect_page(alloc, shelf, FIRST, "b")
 }
 
-// The same of a disk of these bytes.
+// Refuses a disk of these bytes where its shelf's page does not go on, or a start is not one of the old setup.
 fn expect_pages_on(alloc: Global, bytes: Vec<u8>, old: &Setup) -> Result<(), Fail>
     requires { IsReadSetup (scripts_of old.now) }
 {

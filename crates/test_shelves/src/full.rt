@@ -116,7 +116,7 @@ fn five_told(alloc: Global, shelf: &mut LongShelf) -> Result<[Option<u64>; 5], F
     ])
 }
 
-// The same on a new shelf of these disks.
+// What a start is told, its page for three texts, and a sweep, on a new shelf of these disks.
 fn five_told_at_the_end(alloc: Global, setup: &Setup) -> Result<[Option<u64>; 5], Fail>
     requires { IsReadSetup (scripts_of setup.now) }
 {

@@ -98,7 +98,7 @@ fn gone_for(reply: &Reply) -> Result<Option<u64>, Fail> {
     }
 }
 
-// The same of the page of a path.
+// For which page the page of a path went; none where it is still there.
 fn gone(alloc: Global, shelf: &mut MemoryShelf, path: &str) -> Result<Option<u64>, Fail>
     requires { IsInOrder trio_view true shelf.old }
     ensures { IsInOrder trio_view true shelf.new }

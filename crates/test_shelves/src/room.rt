@@ -83,7 +83,7 @@ fn another_text_that_has_no_room_is_refused(rt: HostRuntime) -> Result<(), Fail>
     Ok(())
 }
 
-// Nor is there room for another record of the old setup, which is told already.
+// There is no room for another record of the old setup either, which is told already.
 #[test]
 fn the_same_text_needs_no_room(rt: HostRuntime) -> Result<(), Fail> {
     let alloc = rt.alloc();

@@ -15,7 +15,7 @@ use std::test::Fail;
 /// A script with a page behind another.
 pub const OLD: &str = "(begin (send/suspend (lambda (u) \"a\")) (send/suspend (lambda (u) \"b\")))";
 
-/// The same, with other pages.
+/// A script with other pages, one after the other.
 pub const NEW: &str = "(begin (send/suspend (lambda (u) \"c\")) (send/suspend (lambda (u) \"d\")))";
 
 /// The path of a start.

@@ -233,7 +233,7 @@ fn visits_in(alloc: Global, shelf: &mut MemoryShelf) -> Result<u64, Fail>
     Ok(visits)
 }
 
-// The same of a disk of these bytes.
+// How many visits the shelf of a disk of these bytes tells of.
 fn visits_of(alloc: Global, setup: &Setup, bytes: &[u8]) -> Result<u64, Fail>
     requires { IsReadSetup (scripts_of setup.now) }
 {
@@ -311,7 +311,8 @@ fn a_run_that_stops_at_each_call_is_recovered(rt: HostRuntime) -> Result<(), Fai
     Ok(())
 }
 
-// The same; and where the write of its gate fails, a visit is there behind the crash that fills with open gates.
+// A visit whose last sync fails is there so too. And where the write of its gate fails, it is there after the crash that fills with open
+// gates.
 #[test]
 fn a_run_with_a_fault_at_each_call_is_recovered(rt: HostRuntime) -> Result<(), Fail> {
     let alloc = rt.alloc();
