@@ -250,7 +250,7 @@ fn connections_arg<'a>(alloc: Global) -> Arg<'a>
     .default_value("10000")
 }
 
-/// `N`, behind the word `load`
+/// `N`, after the word `load`
 fn run_number_arg<'a>(alloc: Global) -> Arg<'a>
     ensures rule { rule_of result ≡ rule_for run_number }
     ensures local { result.global ≡ false }

@@ -72,7 +72,7 @@ refused : followed admits_short [] (feed_in (feed_with four_bodies))
     ≡ record { acks = 3; adopted = some_bytes 3 ∷ some_bytes 1 ∷ [] ∷ []; outcome = refused_at 24 }
 refused = refl
 
--- a feed that is cut inside its second record, which begins behind 300 bytes: the first is acknowledged
+-- a feed that is cut inside its second record, which begins after 300 bytes: the first is acknowledged
 cut_second : followed admits_all [] (feed_in (take 354 (feed_with (some_bytes 288 ∷ some_bytes 101 ∷ []))))
     ≡ record { acks = 1; adopted = some_bytes 288 ∷ []; outcome = cut_at 300 }
 cut_second = refl

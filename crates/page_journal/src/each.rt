@@ -35,7 +35,7 @@ pub trait Take {
     /// What holds of the taker where the next gate is at this place.
     ghost ready: { Self → ℕ → Type 0 };
 
-    /// Takes the body of the record whose gate is at this place. A closed gate has room behind it.
+    /// Takes the body of the record whose gate is at this place. A closed gate has room after it.
     fn body(&mut self, place: u64, body: &[u8])
         requires room { place + 6 + length body.now ≤ 2 ^ 30 }
         requires ready { ready self.old place }

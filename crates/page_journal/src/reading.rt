@@ -18,7 +18,7 @@ use web_disk::Disk;
 #[derive(Drop)]
 pub struct StoredRecords {
     pub(crate) format: u8,
-    // The length of the file, with what stands behind the records.
+    // The length of the file, with what stands after the records.
     pub(crate) len: u64,
     // Its room is enough for the longest record.
     pub(crate) buffer: Vec<u8>,

@@ -19,7 +19,7 @@ use test_compactions::records::{DRAWN, FORMAT_1, FORMAT_2, FORMAT_3, RENEWED};
 use test_compactions::visits::{Told, Visit, compacted, expect_visits};
 use test_shelves::setup;
 
-// What stands on the disks of a new follower of the shelf of these files, which has so many records. Its feed is its leader's, and behind another
+// What stands on the disks of a new follower of the shelf of these files, which has so many records. Its feed is its leader's, and after another
 // feeding it is still.
 fn follower_of(alloc: Global, leader: &Files, records: u64) -> Result<Files, Fail> {
     let feed = feed_of(alloc, leader)?;
@@ -94,7 +94,7 @@ const ANSWERS: &[Visit] = &[
     },
 ];
 
-// A journal of this format with these records behind the first one, and how many records it has once it is of the newest format.
+// A journal of this format with these records after the first one, and how many records it has once it is of the newest format.
 const OLDER: &[(u8, &[&[&[u8]]])] = &[
     (1, &[FORMAT_1]),
     (2, &[FORMAT_2]),
@@ -147,7 +147,7 @@ fn journals_of_older_formats_are_followed(rt: HostRuntime) -> Result<(), Fail> {
     Ok(())
 }
 
-// What stands on the disks of a shelf of sums behind its visits and a compaction, which leaves out the last one.
+// What stands on the disks of a shelf of sums after its visits and a compaction, which leaves out the last one.
 fn short_files(alloc: Global, setup: &Setup) -> Result<Files, Fail>
     requires { IsReadSetup (scripts_of setup.now) }
 {
@@ -157,7 +157,7 @@ fn short_files(alloc: Global, setup: &Setup) -> Result<Files, Fail>
     files_of(alloc, shelf)
 }
 
-// Behind the first record stands the number that is drawn next.
+// After the first record stands the number that is drawn next.
 #[test]
 fn a_compacted_journal_is_followed(rt: HostRuntime) -> Result<(), Fail> {
     let alloc = rt.alloc();
@@ -218,7 +218,7 @@ const PAGES: &[Visit] = &[
     },
 ];
 
-// What stands on the disks of these files behind a start of this version.
+// What stands on the disks of these files after a start of this version.
 fn started(alloc: Global, files: &Files, version: usize) -> Result<Files, Fail> {
     let (Some(text), Some(start)) = (VERSIONS.get(version), STARTS.get(version)) else {
         return Err(Fail::from("no such version"));
@@ -227,7 +227,7 @@ fn started(alloc: Global, files: &Files, version: usize) -> Result<Files, Fail> 
     visited_with(alloc, files, &setup, &[*start], RULES)
 }
 
-// The feed of a leader is longer behind another setup. Its follower has each: promoted, it goes on with both, and tells no setup when it is opened
+// The feed of a leader is longer after another setup. Its follower has each: promoted, it goes on with both, and tells no setup when it is opened
 // with the second one.
 #[test]
 fn a_journal_of_two_setups_is_followed(rt: HostRuntime) -> Result<(), Fail> {
@@ -276,7 +276,7 @@ fn a_promoted_shelf_is_compacted(rt: HostRuntime) -> Result<(), Fail> {
     Ok(())
 }
 
-// What stands on the disks of the shelf of these files behind a compaction.
+// What stands on the disks of the shelf of these files after a compaction.
 fn compacted_files(alloc: Global, files: &Files, setup: &Setup) -> Result<Files, Fail>
     requires { IsReadSetup (scripts_of setup.now) }
 {

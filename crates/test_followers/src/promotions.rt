@@ -19,13 +19,13 @@ use test_shelves::{setup, tried_under};
 // The header of a file.
 const HEADER: &[u8] = b"KSWEB\0\0\x06";
 
-// The record that tells that a shelf follows, behind its gate.
+// The record that tells that a shelf follows, after its gate.
 const FOLLOW: &[u8] = b"\x01\x01\0\0\0\x08";
 
-// The record that tells that a shelf was promoted, behind its gate.
+// The record that tells that a shelf was promoted, after its gate.
 const PROMOTION: &[u8] = b"\x01\x01\0\0\0\x09";
 
-// These bytes, one behind the other.
+// These bytes, one after the other.
 fn joined(alloc: Global, parts: &[&[u8]]) -> Result<Vec<u8>, Fail> {
     let mut bytes = Vec::new(alloc);
     for part in parts {
@@ -56,7 +56,7 @@ fn follower(alloc: Global, feed: &[u8]) -> Result<Files, Fail> {
     held(alloc, &nothing(alloc), feed, 4)
 }
 
-// The file of a follower begins with the record that tells so, and is its leader's else; behind them stands that it was promoted.
+// The file of a follower begins with the record that tells so, and is its leader's else; after them stands that it was promoted.
 #[test]
 fn a_follower_is_promoted_once(rt: HostRuntime) -> Result<(), Fail> {
     let alloc = rt.alloc();
@@ -112,7 +112,7 @@ fn begun(alloc: Global, files: &Files) -> Result<Files, Fail> {
     visited(alloc, files, &[])
 }
 
-// A shelf that waits gets no setup; once it is promoted, its setup stands behind the two records.
+// A shelf that waits gets no setup; once it is promoted, its setup stands after the two records.
 #[test]
 fn a_shelf_that_was_fed_nothing_is_promoted(rt: HostRuntime) -> Result<(), Fail> {
     let alloc = rt.alloc();
@@ -190,7 +190,7 @@ fn bare_fault(
     }
 }
 
-// The first record of a setup names the shelf: it has its gate at 8, behind the record of a follower at 14, and at 20 where the promotion stands
+// The first record of a setup names the shelf: it has its gate at 8, after the record of a follower at 14, and at 20 where the promotion stands
 // before it too.
 #[test]
 fn another_shelf_is_told_where_the_first_setup_stands(rt: HostRuntime) -> Result<(), Fail> {
@@ -243,7 +243,7 @@ fn such_records_out_of_their_place_are_damage(rt: HostRuntime) -> Result<(), Fai
     Ok(())
 }
 
-// A record that tells that a shelf follows, or was promoted, behind the records of a leader.
+// A record that tells that a shelf follows, or was promoted, after the records of a leader.
 #[test]
 fn behind_records_of_a_leader_they_are_damage(rt: HostRuntime) -> Result<(), Fail> {
     let alloc = rt.alloc();
