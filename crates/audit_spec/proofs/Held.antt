@@ -34,7 +34,7 @@ made_held (made k) m e = tt
 made_held (damaged p) m e = absurd (let never : ⊥ = cc in never)
 made_held (other p) m e = absurd (let never : ⊥ = cc in never)
 
--- no change stands directly behind the record that tells of following
+-- no change stands directly after the record that tells of following
 pub fed_clear : (format : ℕ) (texts : Texts) (shelf place n : ℕ) (k : Made) (r : Option Record) → IsHeld (fed_by texts shelf place n r) → fault_of format k r ≡ None
 fed_clear format texts shelf place n k None h = refl
 fed_clear format texts shelf place n k (Some (begins s named)) h = refl

@@ -168,7 +168,7 @@ module _ (texts : Texts) (shelf : ℕ) (f : File) where
       subst (λ (y : Making). IsMade y end) (sym (format_of_now texts shelf (bodies_of shelf (lined xs))) ∙ reach)
       (subst (IsMade (book_of texts shelf (bodies_of shelf (lined xs)))) h.at (files_made texts shelf (lined xs) h.taken h.written))
 
-  -- what comes behind the bodies of these lines is read behind this
+  -- what comes after the bodies of these lines is read after this
   abbrev Reach : List Line → (place : ℕ) → Making → Type 0
   Reach xs place x = (bs : List (List ℕ)) → with_bodies_at 6 texts shelf 8 (bodies_of shelf (lined xs) ++ bs) nothing ≡ with_bodies_at 6 texts shelf place bs x
 

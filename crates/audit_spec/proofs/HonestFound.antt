@@ -17,7 +17,7 @@ use Rattle.audit_spec.specs.Findings.{fault_of, Finding, found_at, first_found, 
 use Rattle.audit_spec.specs.Honest.{FindsNothing}
 use Rattle.audit_spec.proofs.Held.{IsHeld, held_before, made_held, fed_clear}
 
--- a record has no word, behind what was made
+-- a record has no word, after what was made
 abbrev pub IsClear : (format : ℕ) → Made → Option Record → Type 0
 IsClear format m r = fault_of format m r ≡ None
 

@@ -1,4 +1,4 @@
--- What an audited file makes: each record is lawful behind others, and the book is sound.
+-- What an audited file makes: each record is lawful after others, and the book is sound.
 use Rattle.std.proofs.Common.{◌≡◌, ◌==◌, ◌+◌, ℕ, Bool, true, false, List, [], ◌∷◌, ◌++◌, length, if◌then◌else◌, Option, Some, None, refl, sym, ap, subst, ◌∙◌, inl, inr, ⊎_elim, append_assoc, arith}
 use Rattle.std.specs.Prelude.{nat_lt, ⊤}
 use Rattle.std.proofs.lemmas.Bool.Decides.{nat_tests}
@@ -156,7 +156,7 @@ module _ (m : Made) (c : Change) (inside : List TxName) (fresh : is_repeated (nu
   carries_by place size x false own taken again holds =
       let is_own = told_is x (state_by m.book c) own in carries_told place size x is_own (subst (IsTakenAs m.book c inside) (sym is_own) taken)
 
--- behind it stands the book that carried out what was decided
+-- after it stands the book that carried out what was decided
 carried_book : (m : Made) (c : Change) (inside : List TxName) (size : ℕ) (y : Making) (k : Carries m c inside size y)
     → (retaken size c (Some k.names) k.says m).book ≡ reopened (land (of_length size) c inside m.book)
 carried_book m c inside size y k = ap (λ (is : List Instance). reopened (record (land (of_length size) c inside m.book) { instances = is })) k.same

@@ -220,7 +220,7 @@ module _ (other : List ℕ) where
   sent_still inside kind (stop o names t) d h = λ over. absurd (h over)
 
   module _ (web cells : ℕ) (calls : Calls) (so : (k : ℕ) (vs : List Val) (inside : List TxName) → Same Val (calls k vs inside)) where
-    -- a page that is sent, behind these answers
+    -- a page that is sent, after these answers
     sends_same : (ks : List ℕ) (d : ℕ) (kind : SendKind) (b : Core) (env : List Val) (inside : List TxName) → IsClosed web cells ks d true b
         → ((u : Val) → Same Val (eval calls b (env ++ u ∷ []) inside)) → (later : List Answer) (s : State) → s.later ≡ later
         → IsAlike (after (eval calls b (env ++ text s.segment.url ∷ []) inside s) (send_page inside kind))

@@ -46,7 +46,7 @@ each_none format texts bodies n h =
     let shelf = shelf_in format bodies in
     each_clear format texts shelf bodies (is_yes format texts bodies n h).held (found_none format texts shelf 8 bodies nothing (is_yes format texts bodies n h).none)
 
--- no change stands directly behind the record that tells of following
+-- no change stands directly after the record that tells of following
 behind_role : (format : ℕ) (texts : Texts) (bodies : List (List ℕ)) (n : ℕ) → audited format texts bodies ≡ yes n → (role : List ℕ) (rest : List (List ℕ)) (body : List ℕ) (m : Made)
     → bodies ≡ role ∷ body ∷ rest → read_record_in format role ≡ Some follows → fault_of format m (read_record_in format body) ≡ None
 behind_role format texts bodies n h role rest body m is e =

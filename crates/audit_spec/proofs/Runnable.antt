@@ -143,7 +143,7 @@ not_true : (b : Bool) → not b ≡ true → b ≡ false
 not_true true h = absurd (let no : ⊥ = cc in no)
 not_true false h = refl
 
--- a script behind others has none of their names
+-- a script after others has none of their names
 new_name : (before : List (List ℕ)) (ts : List (List ℕ × List ℕ)) (ss : List Named) (k : ℕ) (s : Named) → are_new before ts ≡ true → AreOf ts ss → slice_get ss k ≡ Some s → is_among s.name before ≡ false
 new_name before [] [] k s new h e = absurd (let no : ⊥ = cc in no)
 new_name before [] (x ∷ ss) k s new h e = absurd h

@@ -22,7 +22,7 @@ fault_in format m c state =
     else (if not (is_in_time m.book c) then Some word.Deadline
     else (if not (tells_own format m c state) then Some word.State else None))))))
 
--- the word for a record of this format behind others: one that tells of no change has none
+-- the word for a record of this format after others: one that tells of no change has none
 abbrev pub fault_of : (format : ℕ) → Made → Option Record → Option Word
 fault_of format m (Some (changes c state)) = fault_in format m c state
 fault_of format m _ = None
@@ -47,7 +47,7 @@ abbrev pub found_in : (format : ℕ) → (place : ℕ) → List ℕ → Option M
 found_in format place body None = None
 found_in format place body (Some m) = found_at place (fault_of format m (read_record_in format body))
 
--- the first finding in these bodies, the gate of the first of them at this place, behind what was made
+-- the first finding in these bodies, the gate of the first of them at this place, after what was made
 abbrev pub first_finding : (format : ℕ) → Texts → (shelf place : ℕ) → List (List ℕ) → Making → Option Finding
 first_finding format texts shelf place [] m = None
 first_finding format texts shelf place (body ∷ bodies) m =
@@ -71,7 +71,7 @@ answer_over (damaged place) n f = is_damaged place
 answer_over (other place) n f = is_damaged place
 answer_over _ n f = answer_by n f
 
--- The number of the shelf that a record names which tells a setup. One that tells of following names none, and leaves it to the records behind
+-- The number of the shelf that a record names which tells a setup. One that tells of following names none, and leaves it to the records after
 -- it. Any other names 0.
 abbrev pub shelf_by : Option Record → (behind : ℕ) → ℕ
 shelf_by (Some (begins shelf named)) n = shelf

@@ -98,7 +98,7 @@ abbrev pub IsDecided : Book → Change → (inside : List TxName) → Type 0
 IsDecided b (sweeps tick) inside = b.clock < tick
 IsDecided b c inside = IsPublished b c inside
 
--- What a record of a change tells behind others. It is none that is passed over: behind it stands the book of the shelf that carried out what was
+-- What a record of a change tells after others. It is none that is passed over: after it stands the book of the shelf that carried out what was
 -- decided. Its page has the state that the page's chain leaves.
 pub record IsLawfulChange (format : ℕ) (m : Made) (c : Change) (state : Option (List ℕ)) : Type 0 where
   pub inside : List TxName
@@ -107,7 +107,7 @@ pub record IsLawfulChange (format : ℕ) (m : Made) (c : Change) (state : Option
       → (k : Made) × ((change_next format place size m c state ≡ made k) × (k.book ≡ reopened (land (of_length size) c inside m.book)))
   pub own : told_of format m c state ≡ own_told m.book c
 
--- a record that tells of a change tells of one that is lawful behind others
+-- a record that tells of a change tells of one that is lawful after others
 abbrev pub IsLawfulRecord : (format : ℕ) → Made → Option Record → Type 0
 IsLawfulRecord format m (Some (changes c state)) = IsLawfulChange format m c state
 IsLawfulRecord format m _ = ⊤
@@ -129,7 +129,7 @@ changes_in format [] = []
 changes_in format (body ∷ bodies) = told_change (read_record_in format body) ++ changes_in format bodies
 
 -- The first ones of these bodies make a book, however many, unless they tell alone that a shelf followed another one's journal and does so no
--- longer. Each record is lawful behind those before it, and no number stands twice in them.
+-- longer. Each record is lawful after those before it, and no number stands twice in them.
 pub record AreLawfulBodies (format : ℕ) (texts : Texts) (shelf : ℕ) (bodies : List (List ℕ)) : Type 0 where
   pub makes : (first : List ℕ) (front rest : List (List ℕ)) → bodies ≡ (first ∷ front) ++ rest
       → (book_of_format format texts shelf (first ∷ front) ≡ waited) ⊎ ((m : Made) × (made_in (book_of_format format texts shelf (first ∷ front)) ≡ Some m))

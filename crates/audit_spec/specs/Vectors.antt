@@ -36,7 +36,7 @@ asking = record {
 abbrev pub texts : Texts
 texts named = Some (asking ∷ [])
 
--- the first record, of shelf 3; the gate behind it is at 111
+-- the first record, of shelf 3; the gate after it is at 111
 abbrev pub begin_asking : List ℕ
 begin_asking = body_of (begin_of 3 (asking ∷ []))
 

@@ -1,4 +1,4 @@
--- What is known of a file behind all of its records.
+-- What is known of a file after all of its records.
 use Rattle.std.proofs.Common.{◌≡◌, ◌∙◌, ap, sym, subst, ℕ, ◌+◌, ◌==◌, Bool, true, false, List, [], ◌∷◌, ◌++◌, length, refl, arith, append_assoc, if◌then◌else◌, inl, inr}
 use Rattle.std.proofs.lemmas.List.{append-nil}
 use Rattle.std.proofs.lemmas.Bool.Decides.{nat_tests}
@@ -59,7 +59,7 @@ none_other shelf n p fed alone (found.Other q) seen P is = tt
 none_other shelf n p fed alone found.Memory seen P is = tt
 
 module _ (format shelf place : ℕ) (bodies : List (List ℕ)) (old new : Reader) (t : TakesAll IsTaken old place bodies new) (number : old.shelf ≡ shelf) (its : old.format ≡ format) where
-  -- behind what is no book none is found
+  -- after what is no book none is found
   lost_damaged : (p : ℕ) (P : Type 0) → Gives shelf (place + 1) old.follows old.alone old.found old.seen (damaged p) → WhereMade new.found P
   lost_damaged p P is =
       none_damaged shelf (place + length (frames bodies) + 1) p new.follows new.alone new.found new.seen P
@@ -70,7 +70,7 @@ module _ (format shelf place : ℕ) (bodies : List (List ℕ)) (old new : Reader
       none_other shelf (place + length (frames bodies) + 1) p new.follows new.alone new.found new.seen P
       (subst (Gives shelf (place + length (frames bodies) + 1) new.follows new.alone new.found new.seen) (stays_other format shelf place bodies p) (all_taken format shelf place bodies old new t number its (other p) is))
 
-  -- so what holds behind a book that was found on the way holds at the end
+  -- so what holds after a book that was found on the way holds at the end
   on_the_way : (P Q : Type 0) (m : Making) → Gives shelf (place + 1) old.follows old.alone old.found old.seen m → WhereMade old.found P → (P → WhereMade new.found Q) → WhereMade new.found Q
   on_the_way P Q m is here go = by_found old.found refl is here
     where
@@ -90,7 +90,7 @@ notes_given format shelf place body old new number its t m is =
     (subst (λ (k : ℕ). NotesWith old.format k place body old.notes new.notes new.found m) number
     (t.notes m (subst (λ (k : ℕ). Gives k (place + 1) old.follows old.alone old.found old.seen m) (sym number) is)))
 
--- the file and the marks, behind these bodies
+-- the file and the marks, after these bodies
 abbrev AreNoted : (format shelf place : ℕ) → List (List ℕ) → (old new : Reader) → Making → Type 0
 AreNoted format shelf place bodies old new m =
     IsFileOf new.notes (with_bodies_at format setup_of_texts shelf place bodies m) × (marks_in new.notes ≡ marks_in old.notes ++ marks_of format setup_of_texts shelf place bodies m)
@@ -158,7 +158,7 @@ anew_given format shelf place body old new number its t m is =
     subst (λ (f : ℕ). AnewWith f body old.anew new.anew new.found m) its
     (t.anew m (subst (λ (k : ℕ). Gives k (place + 1) old.follows old.alone old.found old.seen m) (sym number) is))
 
--- these are kept of these bodies, behind those that were
+-- these are kept of these bodies, after those that were
 abbrev Adds : (format shelf place : ℕ) → List (List ℕ) → (old new : Reader) → Making → Type 0
 Adds format shelf place bodies old new m = (anew : List (List ℕ)) × (AreAnew format setup_of_texts shelf place bodies m anew × HasAnew format anew old.anew new.anew)
 

@@ -367,7 +367,7 @@ module _ (format shelf place : ℕ) (body : List ℕ) (library : Library) (fed a
       by_alone true e = ap (with_body_at format setup_of_texts shelf place body) e ∙ ap (second_at format setup_of_texts place (length body) w) read
       by_alone false e = ap (with_body_at format setup_of_texts shelf place body) e ∙ ap (next_at format setup_of_texts place (length body) w) read
 
-  -- a record of this kind may stand nowhere, or not behind others
+  -- a record of this kind may stand nowhere, or not after others
   out_of_place : (t : Bool) → Record → Type 0
   out_of_place t (begins s named) = Unit {0}
   out_of_place t (changes c state) = has_script (length library.setup) c ≡ false

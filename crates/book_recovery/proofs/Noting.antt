@@ -89,7 +89,7 @@ takes_read library b follows again n t old mid new is tells same file marks = tt
 takes_read library b promotes again n t old mid new is tells same file marks = tt
 takes_read library b (draws k) again n t old mid new is tells same file marks = absurd (let no : ⊥ = cc is in no)
 
--- what is noted of a record behind a book is known of the file as soon as it is told
+-- what is noted of a record after a book is known of the file as soon as it is told
 pub takes_by : (library : Library) (b : kept.Book) (r : Record) (again : Bool) (n : ℕ) (x : Noting) (old mid new : FileNotes) → IsNotingOf library b r again n x → StaysAsTold old mid → NotesBy x mid new → TakesIfLands library b r again n old new
 takes_by library b r again n (Draws number) old mid new of same by =
     takes_drawn library b r again n number old new (sym of) (by.0 ∙ ap (with_drawn number) same.file) (by.1 ∙ ap (λ (ns : List Note). map is_told ns) same.notes)
@@ -240,7 +240,7 @@ module _ (format : ℕ) (library : Library) (seen : InOrder (Unit {0})) (b : kep
       } in
       λ m of. noted_by false (lands_in format library seen b c state m) c state state n old new (passed_lands format library seen b c state is.1 m of) note
 
--- ---- the file behind a record
+-- ---- the file after a record
 
 read_with : (n : ℕ) (c : Change) (state : Option (List ℕ)) (o : Option (List TxName)) (f : File) → with_read (is_some o) (changes c state) n f ≡ file_with n c o f
 read_with n c state None f = refl
@@ -279,7 +279,7 @@ module _ (format shelf place : ℕ) (body : List ℕ) (library : Library) (fed a
         its.marks ∙ ap (λ (ts : List Bool). marks_in old ++ ts) (sym (mark_of format alone w m body (changes c state) is.is read)),
       )
 
-  -- that of a number, which stands directly behind the first one
+  -- that of a number, which stands directly after the first one
   pub draw_noted : (number : ℕ) → alone ≡ true → read_record_in format body ≡ Some (draws number) → NotesRecord format library before b (draws number) (length body) old new → NotesOne
   draw_noted number first read note here =
       let second : m ≡ begun w = is.is ∙ ap (λ (t : Bool). making_of t w) first in
@@ -391,7 +391,7 @@ turned_noted format shelf place body fed then_fed seen old new m same none then_
       as_before ∙ (sym (append-nil (marks_in old)) ∙ ap (λ (ts : List Bool). marks_in old ++ ts) (sym (none_in fed shelf (place + 1) format body m none.before))),
     )
 
--- ---- the bodies that are kept behind a record
+-- ---- the bodies that are kept after a record
 
 pub copied_on : {E : Type 0} (x : Result (Unit {0}) E) (P : Type 0) → is_err x ≡ false → OnOk x P → P
 copied_on (Ok u) P whole h = h

@@ -198,7 +198,7 @@ own_in_first format shelf alone seen b rust body one way =
     let m : Made = record { book = book_under (library_of rust) b; earlier = way.tells.0 } in
     subst (λ (f : ℕ). IsOwnFor f seen (found.Made b rust) body) (sym one) (way.tells.0, (way.tells.1, own_record m (read_record_in 1 body)))
 
--- behind a record that changes nothing of it
+-- after a record that changes nothing of it
 pub way_behind : (shelf : ℕ) (alone : Bool) (seen : InOrder (Unit {0})) (b : kept.Book) (library : Library) → IsUnderWay shelf alone seen b library → IsUnderWay shelf false seen b library
 way_behind shelf alone seen b library way = record {
   placed = way.placed;

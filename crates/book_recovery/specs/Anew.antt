@@ -40,7 +40,7 @@ abbrev pub IsOfLanding : (lands : Bool) → (now body : List ℕ) → Type 0
 IsOfLanding true now body = body ≡ now
 IsOfLanding false now body = ⊤
 
--- These are the bodies that the newest format has of a record behind what records make: one where it has a note.
+-- These are the bodies that the newest format has of a record after what records make: one where it has a note.
 abbrev pub IsAnewBy : (format : ℕ) → Made → (body : List ℕ) → Option Record → List (List ℕ) → Type 0
 IsAnewBy format m body (Some (changes c state)) anew =
     (now : List ℕ) × ((anew ≡ now ∷ []) × IsOfLanding (is_some (landing_of format m c (told_of format m c state))) (body_of (changes c (state_now format m c state))) now)
@@ -75,6 +75,6 @@ ReadsAnew format shelf bodies anew =
 abbrev pub KeepsFileOf : (format shelf : ℕ) → (bodies : List (List ℕ)) → ReadBook → Type 0
 KeepsFileOf format shelf bodies read = WhereMade read.found (ReadsAnew format shelf bodies read.anew.items)
 
--- a body is kept that the newest format has of one more behind what records make, where they make a book
+-- a body is kept that the newest format has of one more after what records make, where they make a book
 abbrev pub AnewWith : (format : ℕ) → (body : List ℕ) → (old new : Vec (List ℕ)) → Found → Making → Type 0
 AnewWith format body old new found m = WhereMade found ((bodies : List (List ℕ)) × (IsAnewIn format m body bodies × HasAnew format bodies old new))

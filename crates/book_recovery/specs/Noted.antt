@@ -47,7 +47,7 @@ TakesIfLands library b (changes c state) again n old new =
 TakesIfLands library b (draws number) again n old new = (file_in new ≡ with_drawn number (file_in old)) × (marks_in new ≡ marks_in old)
 TakesIfLands library b r again n old new = ⊤
 
--- This is noted of a record behind this book as soon as it is taken, of a number that was seen or was not, whose body is so long: that it
+-- This is noted of a record after this book as soon as it is taken, of a number that was seen or was not, whose body is so long: that it
 -- tells a number, that it is passed over, or that it lands.
 abbrev pub IsNotingOf : Library → Book → Record → (again : Bool) → (length : ℕ) → Noting → Type 0
 IsNotingOf library b r again n (Draws number) = drawn_by r ≡ Some number
@@ -61,14 +61,14 @@ HasItsNote (Draws number) = ⊤
 HasItsNote (Passes long) = ⊤
 HasItsNote (Lands logged note long) = note ≡ note_read (logged_of logged.value) long
 
--- so much more is known of the file with it
+-- what is noted of a record adds this to what is known of its file
 abbrev pub NotesBy : Noting → (old new : FileNotes) → Type 0
 NotesBy (Draws number) old new = (file_in new ≡ with_drawn number (file_in old)) × (marks_in new ≡ marks_in old)
 NotesBy (Passes long) old new = (file_in new ≡ file_in old) × (marks_in new ≡ marks_in old ++ false ∷ [])
 NotesBy (Lands logged note long) old new =
     let r = logged_of logged.value in (file_in new ≡ with_read true r long (file_in old)) × (marks_in new ≡ marks_in old ++ with_mark true r ∷ [])
 
--- a record of this format that was read is noted behind this book: one of a change lands in it as recovery decides, or not
+-- a record of this format that was read is noted after this book: one of a change lands in it as recovery decides, or not
 abbrev pub NotesRecord : (format : ℕ) → Library → InOrder (Unit {0}) → Book → Record → (length : ℕ) → (old new : FileNotes) → Type 0
 NotesRecord format library seen b (changes c state) n old new =
     (m : Made) → IsOfMade library seen b m → TakesNote (is_some (landing_of format m c (told_of format m c state))) (changes c state) n old new
@@ -84,7 +84,7 @@ NotesMade format library seen b r n old new (Some c) = NotesRecord format librar
 abbrev pub NotesRedone : Library → Book → Record → (length : ℕ) → (old new : Reader) → Option Book → Type 0
 NotesRedone library b r n old new o = NotesMade old.format library old.seen b r n old.notes new.notes o
 
--- where a setup of these names and texts is told behind others, its record of this length has a note
+-- where a setup of these names and texts is told after others, its record of this length has a note
 abbrev pub NotesSetup : (texts : List (List ℕ × List ℕ)) → (length : ℕ) → (old new : FileNotes) → Found → Type 0
 NotesSetup texts n old new found =
     WhereMade found ((scripts : List Named) → setup_of_texts texts ≡ Some scripts
@@ -95,7 +95,7 @@ abbrev pub NotesFirst : (texts : List (List ℕ × List ℕ)) → (length : ℕ)
 NotesFirst texts n new found =
     WhereMade found ((scripts : List Named) → setup_of_texts texts ≡ Some scripts → (file_in new ≡ first_file (14 + n) scripts) × (marks_in new ≡ []))
 
--- the body is kept that the newest format has of a record of this one behind this book
+-- the body is kept that the newest format has of a record of this one after this book
 abbrev pub KeepsRecord : (format : ℕ) → Library → InOrder (Unit {0}) → Book → Record → (old new : Vec (List ℕ)) → Type 0
 KeepsRecord format library seen b r old new =
     (m : Made) → IsOfMade library seen b m → (body : List ℕ) → (bodies : List (List ℕ)) × (IsAnewBy format m body (Some r) bodies × HasAnew format bodies old new)

@@ -13,7 +13,7 @@ use Rattle.book_recovery.specs.declared.found.Found.{Found}
 use Rattle.book_recovery.specs.declared.found.ReadBook.{ReadBook}
 use Rattle.book_recovery.specs.declared.found.Found.TheVariants as found
 
--- whether recovery takes a record of this format behind what records make, if it is one that has a note
+-- whether recovery takes a record of this format after what records make, if it is one that has a note
 abbrev pub mark_by : (format : ℕ) → Made → Option Record → List Bool
 mark_by format m (Some (changes c state)) = is_some (landing_of format m c (told_of format m c state)) ∷ []
 mark_by format m (Some (renews named)) = true ∷ []
@@ -26,7 +26,7 @@ mark_in format (begun m) body = mark_by format m (read_record_in format body)
 mark_in format (made m) body = mark_by format m (read_record_in format body)
 mark_in format _ body = []
 
--- which of the records of these bodies that have a note recovery takes, the gate of the first at this place, behind what records make
+-- which of the records of these bodies that have a note recovery takes, the gate of the first at this place, after what records make
 abbrev pub marks_of : (format : ℕ) → Texts → (shelf place : ℕ) → List (List ℕ) → Making → List Bool
 marks_of format texts shelf place [] x = []
 marks_of format texts shelf place (body ∷ bodies) x =
@@ -47,7 +47,7 @@ WhereMade (found.Made b library) holds = holds
 WhereMade found.Nothing holds = holds
 WhereMade _ holds = ⊤
 
--- where the file that was known of is that of the book which records make, so it is with one body more, and its mark is behind the others
+-- where the file that was known of is that of the book which records make, so it is with one body more, and its mark is after the others
 abbrev pub NotesWith : (format shelf place : ℕ) → (body : List ℕ) → (old new : FileNotes) → Found → Making → Type 0
 NotesWith format shelf place body old new found m =
     WhereMade found

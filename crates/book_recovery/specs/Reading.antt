@@ -64,7 +64,7 @@ pub record IsSoundLibrary (library : Library) : Type 0 where
   pub read : IsRead setup_of_texts library.setup
 
 -- a book that is made: each instance is of one of the scripts, it is orderly and as after a crash, and its pages have states that records
--- told. Where no record was read behind the first one, no number was seen.
+-- told. Where no record was read after the first one, no number was seen.
 pub record IsUnderWay (shelf : ℕ) (alone : Bool) (seen : InOrder (Unit {0})) (b : Book) (library : Library) : Type 0 where
   pub placed : HasPlaces library.all b
   pub shelf_is : b.shelf ≡ shelf
@@ -81,8 +81,8 @@ SeesNumber number old new = (k : ℕ) → is_one k (seen_by new) ≡ is_one k (w
 abbrev pub Sees : Record → (old new : InOrder (Unit {0})) → Type 0
 Sees r old new = SeesNumber (number_by r) old new
 
--- whether a record that tells no setup may stand behind others: a start is of a script of the present setup, and a number stands directly
--- behind the first record
+-- whether a record that tells no setup may stand after others: a start is of a script of the present setup, and a number stands directly
+-- after the first record
 abbrev pub may_stand : (alone : Bool) → (scripts : ℕ) → Record → Bool
 may_stand alone n (begins shelf named) = false
 may_stand alone n (changes c state) = has_script n c
@@ -161,7 +161,7 @@ IsMadeBy library seen r renewed.Misread old o = o ≡ None
 abbrev pub IsMadeIn : (format : ℕ) → Library → InOrder (Unit {0}) → Record → (old : Book) → Option Book → Type 0
 IsMadeIn format library seen r old o = (x : Renewed) × (IsTold format library old r x × IsMadeBy library seen r x old o)
 
--- the first record stands alone, or others stand behind it
+-- the first record stands alone, or others stand after it
 abbrev pub making_of : (alone : Bool) → Made → Making
 making_of alone m = if alone then begun m else made m
 
@@ -199,7 +199,7 @@ pub record ReadsSome (format shelf : ℕ) (read : ReadBook) : Type 0 where
   pub bytes : AreAllBytes bodies
   pub gives : Gives shelf (length (at_rest bodies)) read.follows read.alone read.found read.seen (book_of_format format setup_of_texts shelf bodies)
 
--- where what was found before is what the records make, so is what is found with one body more, behind the gate at this place
+-- where what was found before is what the records make, so is what is found with one body more, after the gate at this place
 abbrev pub GivesWith : (format shelf place : ℕ) → List ℕ → (fed alone : Bool) → (old : Found) → (then_fed then_alone : Bool) → (new : Found) → (before after : InOrder (Unit {0})) → Type 0
 GivesWith format shelf place body fed alone old then_fed then_alone new before after =
     (m : Making) → Gives shelf (place + 1) fed alone old before m
@@ -265,7 +265,7 @@ pub record IsSameFile (old new : Reader) : Type 0 where
   pub shelf : new.shelf ≡ old.shelf
   pub format : new.format ≡ old.format
 
--- a reader for the same shelf and format, behind as many records
+-- a reader for the same shelf and format, after as many records
 pub record IsSameReader (old new : Reader) : Type 0 where
   pub shelf : new.shelf ≡ old.shelf
   pub format : new.format ≡ old.format

@@ -24,14 +24,14 @@ use script_nodes::Library;
 use std::alloc::{AllocError, Global};
 use std::mem;
 
-// Where the gate is behind the record that tells that a shelf follows.
+// Where the gate is after the record that tells that a shelf follows.
 const WAITING: u64 = 14;
 
-/// Takes one record more of the journal that a shelf follows, behind that of its first setup: whether it stands there. Where it does not, or
+/// Takes one record more of the journal that a shelf follows, after that of its first setup: whether it stands there. Where it does not, or
 /// memory runs out, nothing is changed.
 ///
 /// It asks for what reading the records made: the book, the library, what is known of the file, which numbers were seen, and whether no
-/// record stands behind that of the first setup; and for no record that tells whether a shelf follows. A book that one instance more would
+/// record stands after that of the first setup; and for no record that tells whether a shelf follows. A book that one instance more would
 /// not leave countable in 32 bits is told as want of memory.
 pub fn adopt(
     alloc: Global,
@@ -91,7 +91,7 @@ pub fn adopt(
 }
 
 /// Takes the first record of the journal that a shelf follows: whether it is that of a setup, for a shelf of this number. Where it is not,
-/// or memory runs out, nothing is changed. The book is an empty one behind it, and no number was seen.
+/// or memory runs out, nothing is changed. The book is an empty one after it, and no number was seen.
 ///
 /// It asks for no record that tells whether a shelf follows.
 pub fn adopt_first(
@@ -191,7 +191,7 @@ fn is_read(
     }
 }
 
-/// Whether one record more of the journal that a shelf follows stands behind those that it has.
+/// Whether one record more of the journal that a shelf follows stands after those that it has.
 pub fn would_stand(
     alloc: Global,
     shelf: u32,

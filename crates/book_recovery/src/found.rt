@@ -30,6 +30,6 @@ pub struct ReadBook {
     pub follows: bool,
     /// The numbers that records told of.
     pub seen: InOrder<()>,
-    /// Whether no record stands behind that of the first setup.
+    /// Whether no record stands after that of the first setup.
     pub alone: bool,
 }

@@ -43,7 +43,7 @@ pub fn read_book<D: Disk>(
     ensures kept { IfOk result (λ read. IsKept shelf read.alone read.seen read.found) }
     ensures handed { IfOk result (ReadsSome journal.old.format shelf) }
     ensures bytes { IsTrue D.tells → OnOk result (AreAllBytes (bodies_in D.view journal.old)) }
-    // Also of a disk that does not tell its bytes.
+    // What follows holds of a disk that does not tell its bytes too.
     ensures in_order { IfOk result (λ read. IsFoundInOrder shelf read.found) }
     ensures noted { IfOk result (λ read. IsNoted read.notes) }
     // What is known of the file is so, where its records make a book.

@@ -43,7 +43,7 @@ pub struct Reader {
     pub seen: InOrder<()>,
     /// Whether the shelf follows another one's journal.
     pub follows: bool,
-    /// Whether no record was read behind that of the first setup.
+    /// Whether no record was read after that of the first setup.
     pub alone: bool,
     /// What was made so far.
     pub found: Found,
@@ -95,8 +95,8 @@ fn body_anew(alloc: Global, logged: &Logged) -> Result<Bytes, AllocError>
     encode(alloc, &line)
 }
 
-/// Whether a record that tells no setup may stand behind others: a start is of a script of the present setup, and a number stands
-/// directly behind that of the first setup.
+/// Whether a record that tells no setup may stand after others: a start is of a script of the present setup, and a number stands
+/// directly after that of the first setup.
 pub fn may_stand(alone: bool, present: usize, logged: &Logged) -> bool
     ensures { result ≡ may_stand alone present (logged_of logged.now) }
 {

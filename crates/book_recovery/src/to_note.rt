@@ -48,7 +48,7 @@ pub fn drawn_of(logged: &Logged) -> Option<u64>
     }
 }
 
-/// What is noted of a record of the newest format that is told behind this book, of a number that was seen or was not.
+/// What is noted of a record of the newest format that is told after this book, of a number that was seen or was not.
 pub fn to_note(
     alloc: Global,
     book: &Book,

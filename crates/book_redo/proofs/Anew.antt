@@ -94,7 +94,7 @@ rises s zero o h = tt
 rises s (suc n) None h = tt
 rises s (suc n) (Some p) h = h.shadows.rise
 
--- a state that is written behind what a page goes on from is told
+-- a state that is written after what a page goes on from is told
 pub form_behind : (library : Library) (earlier : Earlier) (b : Book) (c : Change) (x : Behind) (d : Suspended) → IsBehind library earlier b c x
     → IsStored (arena_of (named_of x.script.now).script) d → BindsBefore (behind_at x.links (origin_of x.from)) d
     → told_in earlier (book_under library b) c (Some (form_bytes (behind_at x.links (origin_of x.from)) d)) ≡ told d

@@ -293,7 +293,7 @@ extension_in r k m answer = record {
 pub extension_is : (r : PageRecord) (k m : ℕ) (answer : Val) → origin_of r.origin ≡ fields.answered k m answer → page_change r ≡ extends (extension_in r k m answer)
 extension_is r k m answer e = ap (λ (o : fields.Origin). change_from r.ticket r.nonce o (effects_in r) r.left.items r.kind r.deadline r.evicted.items) e
 
--- the page of an answer has its state, behind that of the page that it answers
+-- the page of an answer has its state, after that of the page that it answers
 next_state : (source : Source ⊤) (shelf : ℕ) (at : Place) (k0 : Kept) (r : PageRecord) (m : ℕ) (answer : Val) (p : ShownState) (bytes : List ℕ) (x : Numbered KeptPage)
     → (has : HasState at.instance.script (source_in at.instance.script (shelf_from source shelf) at.instance.number) at.instance.pages at.page k0)
     → page_at m at.instance.pages ≡ Some at.page → page_at r.ticket at.instance.pages ≡ None

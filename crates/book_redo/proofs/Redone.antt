@@ -213,12 +213,12 @@ misread_by library (changes c state) again old new landed = λ earlier has.
       states = h.states;
     }
 
--- behind more links than none
+-- after more links than none
 pub behind_more : (n : ℕ) (o : Option Suspended) → (n ≡ 0 → ⊥) → o ≡ behind_at n o
 behind_more zero o more = absurd (more refl)
 behind_more (suc n) o more = refl
 
--- what is told of an answer, of the bytes behind the state that is there
+-- what is told of an answer, of the bytes after the state that is there
 pub answer_told : (s : Named) (ps : InOrder KeptPage) (p : Numbered KeptPage) (bytes : List ℕ) (before : Option Suspended) (count : ℕ) (r : Result (Option ShownState) AllocError)
     → count ≡ next_links p.item.state.links → IsBeforeIn s ps p before
     → IfOk r (λ x. IfSome x (IsStateTold (arena_of s.script) before count bytes)) → IfOk r (λ x. IfSome x (IsAnswerTold s ps p bytes))

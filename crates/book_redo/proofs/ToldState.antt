@@ -66,7 +66,7 @@ stored_behind : (a : Arena) (links : ℕ) (o : Option Suspended) → IsStoredBef
 stored_behind a zero o h = tt
 stored_behind a (suc n) o h = h
 
--- what the state is written behind fits the script
+-- what the state is written after fits the script
 pub form_fits : (x : Behind) (before : Option (Bor stored.Suspended)) → IsScript x.script.now.script → IsStoredFrom x → IsWrittenBehind x before
     → IsStoredBefore x.script.now.script (before_of before)
 form_fits x before script stored is =

@@ -34,14 +34,14 @@ comes_again b (extends x) = do
   again x.kind x.effects x.left (comes_to (extension_visit b x at) (present at.instance.cells most_fuel))
 comes_again b _ = None
 
--- A page's script leaves a state there, of which these are the bytes that the newest format has behind the states that records told, and they tell it.
+-- A page's script leaves a state there, of which these are the bytes that the newest format has after the states that records told, and they tell it.
 pub record TellsLeft (earlier : Earlier) (b : spec.Book) (c : Change) (bytes : List ℕ) : Type 0 where
   pub state : Suspended
   pub left : own_told b c ≡ told state
   pub spelled : bytes ≡ form_bytes (before_told earlier b c) state
   pub tells : told_in earlier b c (Some bytes) ≡ told state
 
--- The page's script comes to the page again, and these bytes tell the state that it leaves there, behind the states that records told; where there
+-- The page's script comes to the page again, and these bytes tell the state that it leaves there, after the states that records told; where there
 -- are none, it does not come to the page.
 abbrev pub IsLeftBy : Library → Book → Change → Option (List ℕ) → Type 0
 IsLeftBy library b c None = comes_again (book_under library b) c ≡ None

@@ -1,4 +1,4 @@
--- What the page of a record goes on from, and how its state is written behind that.
+-- What the page of a record goes on from, and how its state is written after that.
 use Rattle.std.specs.Prelude.{◌≡◌, ℕ, List, Option, Some, None, option_map, slice_get, IfSome, ⊤}
 use Rattle.std.specs.Borrow.{Bor}
 use Rattle.script_nodes.specs.Setup.{Library}
@@ -27,7 +27,7 @@ use Rattle.book_redo.specs.declared.behind.Behind.{Behind}
 abbrev pub IsStoredFrom : Behind → Type 0
 IsStoredFrom x = IsStoredBefore (arena_of (named_of x.script.now).script) (origin_of x.from)
 
--- The page of a change is of this script, and is written behind the state that it goes on from, so many links from one that is kept by itself,
+-- The page of a change is of this script, and is written after the state that it goes on from, so many links from one that is kept by itself,
 -- where records told these states. That state fits the script.
 pub record IsBehind (library : Library) (earlier : Earlier) (b : Book) (c : Change) (x : Behind) : Type 0 where
   pub script : script_for (book_under library b) c ≡ Some (named_of x.script.now)
@@ -54,11 +54,11 @@ StartsBehind library script (Some x) = IsStart library script x
 abbrev pub AnswersBehind : Library → Book → (instance page : ℕ) → Option Behind → Type 0
 AnswersBehind library b instance page o = (x : Extension) → x.instance ≡ instance → x.page ≡ page → TellsBehind library b (extends x) o
 
--- what is lent is the state that the page's is written behind, if there is one
+-- what is lent is the state that the page's is written after, if there is one
 abbrev pub IsWrittenBehind : Behind → Option (Bor stored.Suspended) → Type 0
 IsWrittenBehind x d = option_map (λ p. suspended_of p.now) d ≡ behind_at x.links (origin_of x.from)
 
--- the bytes that the newest format has of a state behind that one; none where no record tells it there
+-- the bytes that the newest format has of a state after that one; none where no record tells it there
 abbrev pub IsSpelledBehind : Behind → stored.Suspended → Option (List ℕ) → Type 0
 IsSpelledBehind x d None =
     let before = behind_at x.links (origin_of x.from) in ¬ (StateHasBytes (suspended_of d) × BindsBefore before (suspended_of d))

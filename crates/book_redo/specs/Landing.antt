@@ -43,20 +43,20 @@ LandsRecord library record_told again result old new = IfOk result (λ read. IsL
 abbrev pub RedoesRecord : Library → Record → (again : Bool) → Result Bool AllocError → (old new : Book) → Type 0
 RedoesRecord library record_told again result old new = IfOk result (λ read. IsRedoneBy library record_told again read old new)
 
--- What is found is the state that these bytes tell behind that one, over so many links.
+-- What is found is the state that these bytes tell after that one, over so many links.
 abbrev pub TellsState : Arena → Option Suspended → (links : ℕ) → (bytes : List ℕ) → Result (Option ShownState) AllocError → Type 0
 TellsState a before links bytes result = IfOk result (λ page. IfSome page (IsStateTold a before links bytes))
 
--- Where nothing is found, these bytes tell no state behind that one.
+-- Where nothing is found, these bytes tell no state after that one.
 abbrev pub LacksState : Arena → Option Suspended → (bytes : List ℕ) → Result (Option ShownState) AllocError → Type 0
 LacksState a before bytes result = IfOk result (λ page. IfNone page (read_form a before bytes ≡ None))
 
--- This is the state that a page is written behind which answers the page of a place: that page's, where the links ask for it.
+-- This is the state that a page is written after which answers the page of a place: that page's, where the links ask for it.
 abbrev pub IsBeforeAt : Place → Option stored.Suspended → Type 0
 IsBeforeAt place before =
     IsBeforeIn (named_of place.script.now) place.instance.now.item.pages place.page.now (option_map suspended_of before)
 
--- The state, if it is one, is one that a page of the script of a place may be written behind.
+-- The state, if it is one, is one that a page of the script of a place may be written after.
 abbrev pub IsStoredAt : Place → Option stored.Suspended → Type 0
 IsStoredAt place before = IsStoredBefore (arena_of (named_of place.script.now).script) (option_map suspended_of before)
 

@@ -69,7 +69,7 @@ are_held es cells = are_on (length cells) es && hold_over es cells
 
 -- ---- the state of a page
 
--- What a page has that its record does not tell, where these are the bytes of its state, behind that one: the state, which fits the script;
+-- What a page has that its record does not tell, where these are the bytes of its state, after that one: the state, which fits the script;
 -- what is kept of it, so many links from one kept by itself; and the transactions of its frames.
 pub record IsStateTold (a : Arena) (before : Option Suspended) (links : ℕ) (bytes : List ℕ) (p : ShownState) : Type 0 where
   pub state : read_form a before bytes ≡ Some (suspended_of p.state)
@@ -78,7 +78,7 @@ pub record IsStateTold (a : Arena) (before : Option Suspended) (links : ℕ) (by
   pub formed : IsFormed before (suspended_of p.state) (kept_of p.kept).form
   pub inside : p.inside.items ≡ inside_of (suspended_of p.state).frames
 
--- where the pages of an instance have their states, this is the one that a page behind this one is written behind
+-- where the pages of an instance have their states, this is the one that a page after this one is written after
 abbrev pub IsBeforeIn : Named → InOrder KeptPage → Numbered KeptPage → (before : Option Suspended) → Type 0
 IsBeforeIn s ps p before =
     (are : AreStatesOf s ps p) → before ≡ behind_at (next_links p.item.state.links) (Some are.own.state)

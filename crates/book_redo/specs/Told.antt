@@ -15,11 +15,11 @@ use Rattle.book_redo.specs.declared.behind.Behind.{Behind}
 use Rattle.book_redo.specs.Redo.{is_read}
 use Rattle.book_redo.specs.Renewing.{OfEach}
 
--- the state of the page's script that these bytes spell by itself, where it can be written behind what the page goes on from
+-- the state of the page's script that these bytes spell by itself, where it can be written after what the page goes on from
 abbrev pub alone_behind : Behind → List ℕ → Option Suspended
 alone_behind x bytes = read_alone (arena_of (named_of x.script.now).script) (behind_at x.links (origin_of x.from)) bytes
 
--- the state of the page's script that these bytes spell in the form that is due behind what the page goes on from
+-- the state of the page's script that these bytes spell in the form that is due after what the page goes on from
 abbrev pub form_behind : Behind → List ℕ → Option Suspended
 form_behind x bytes = read_form (arena_of (named_of x.script.now).script) (behind_at x.links (origin_of x.from)) bytes
 

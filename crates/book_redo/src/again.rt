@@ -89,7 +89,7 @@ fn state_in(outcome: Outcome) -> Option<Suspended>
     }
 }
 
-// The state that the script leaves where it comes to the page of the record again, in this instance, behind this answer and over these
+// The state that the script leaves where it comes to the page of the record again, in this instance, after this answer and over these
 // cells; none where it does not.
 fn left_over(
     alloc: Global,

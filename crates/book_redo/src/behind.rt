@@ -84,7 +84,7 @@ pub fn behind_of<'a>(
 }
 
 impl Behind<'_> {
-    /// The state that the page's is written behind: that of the page that is answered, where the links ask for it.
+    /// The state that the page's is written after: that of the page that is answered, where the links ask for it.
     pub fn before(&self) -> Option<&Suspended>
         ensures { IsWrittenBehind self.now result }
     {

@@ -12,7 +12,7 @@ use script_nodes::Script;
 use script_value::Bytes;
 use std::alloc::{AllocError, Global};
 
-/// What a page has that its record does not tell, where these bytes are a state of the script behind that one.
+/// What a page has that its record does not tell, where these bytes are a state of the script after that one.
 pub fn state_told(
     alloc: Global,
     script: &Script,
@@ -40,7 +40,7 @@ pub fn state_told(
     }))
 }
 
-// The state that a page is written behind which answers this one: this page's, where the links ask for it.
+// The state that a page is written after which answers this one: this page's, where the links ask for it.
 fn before(alloc: Global, place: &Place<'_>) -> Result<Option<Suspended>, AllocError>
     requires { AreStatesOf
         (named_of place.now.script.now) place.now.instance.now.item.pages place.now.page.now }

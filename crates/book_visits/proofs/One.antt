@@ -30,7 +30,7 @@ use Rattle.instance_book.proofs.States.{state_found}
 
 -- ---- a form keeps one state
 
--- what is told behind the byte of a form
+-- what is told after the byte of a form
 abbrev behind_first : List ℕ → List ℕ
 behind_first [] = []
 behind_first (b ∷ bytes) = bytes
@@ -42,7 +42,7 @@ one_alone a d e (spelled parts) fits also first second =
     same_Some d e (sym (states_are_exact.back a d fits) ∙ (ap (λ (bytes : List ℕ). read_state a bytes) same ∙ states_are_exact.back a e also))
 one_alone a d e (whole x) fits also first second = sym first.1 ∙ second.1
 
--- and so does one that keeps them behind the same
+-- and so does one that keeps them after the same
 one_behind : (a : Arena) (p d e : Suspended) (f : Form) → IsStored a p → IsStored a d → IsStored a e → IsBehind p d f → IsBehind p e f → d ≡ e
 one_behind a p d e (spelled parts) before fits also first second =
     let x = first.1.0 in

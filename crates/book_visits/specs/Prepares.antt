@@ -262,7 +262,7 @@ IsPrepared book t s instances pages life result =
 abbrev pub IsPreparedBy : Book → Ticket → stored.Segment → (instances pages life : ℕ) → Result Prepared Reply → Type 0
 IsPreparedBy book t r instances pages life result = IsPrepared book t (segment_of r) instances pages life result
 
--- this is kept of the state of a ticket's page: as many links from one kept by itself as the ticket says, behind that from which it goes on
+-- this is kept of the state of a ticket's page: as many links from one kept by itself as the ticket says, after that from which it goes on
 abbrev pub IsKeptOfTicket : Ticket → Suspended → Numbered KeptPage → Type 0
 IsKeptOfTicket t d p = IsKeptFrom (origin_of t.from) t.links d (kept_at p)
 

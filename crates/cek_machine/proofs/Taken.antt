@@ -26,7 +26,7 @@ pub page_takes : (old : State) (e : End Val) (env : List Val) (fs : List Frame) 
 page_takes old (got v new) env fs h = tt
 page_takes old (stop o entered new) env fs h = paged_takes old new o entered h
 
--- a charge behind a further effect
+-- a charge after a further effect
 charge_takes : (inside : List TxName) (over : Bool) (cost : ℕ) (v : Val) (s t : State) (env : List Val) (fs : List Frame) → NotesMore s t
     → TakesMemory s (after (after (charged inside over cost t) (λ _ state. got v state)) (λ w. gives w env fs))
 charge_takes inside true cost v s t env fs h = h

@@ -29,7 +29,7 @@ pub fn row_of(node: &Node) -> &[u32]
     }
 }
 
-/// The parts behind one that is there.
+/// The parts after one that is there.
 pub fn behind(parts: &[u32], part: usize) -> &[u32]
     requires { part < length parts.now }
     ensures left { result.now ≡ drop (suc part) parts.now }
@@ -38,7 +38,7 @@ pub fn behind(parts: &[u32], part: usize) -> &[u32]
     &parts[part + 1..]
 }
 
-/// The number of the turn behind those that are done.
+/// The number of the turn after those that are done.
 pub fn turn_behind(done: &Items) -> i64
     ensures { result ≡ pos (length done.now) }
 {

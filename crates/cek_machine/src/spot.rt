@@ -77,7 +77,7 @@ impl<'t> Spot<'t> {
         Ok(Control::Visit(part))
     }
 
-    /// The first of the parts that are left is worked on in this frame; behind them the value of the last is given.
+    /// The first of the parts that are left is worked on in this frame; after them the value of the last is given.
     pub fn next_part(&mut self, frame: Frame, left: &[u32], value: Value) -> Result<Control, Halt>
         requires sound { Sound self.old }
         requires flat { IsFlat frame }
@@ -90,7 +90,7 @@ impl<'t> Spot<'t> {
         }
     }
 
-    /// The first of the operands that are left is worked on; behind them the value of the operation is given.
+    /// The first of the operands that are left is worked on; after them the value of the operation is given.
     pub fn next_operand(
         &mut self,
         alloc: Global,
@@ -113,7 +113,7 @@ impl<'t> Spot<'t> {
         }
     }
 
-    /// The first of the operands that are left is worked on; behind them the task's body, whose only variables are their
+    /// The first of the operands that are left is worked on; after them the task's body, whose only variables are their
     /// values.
     pub fn next_argument(
         &mut self,
@@ -136,7 +136,7 @@ impl<'t> Spot<'t> {
         }
     }
 
-    /// The first of the bindings that are left is worked on; behind them the body, under their values.
+    /// The first of the bindings that are left is worked on; after them the body, under their values.
     pub fn next_binding(
         &mut self,
         node: u32,

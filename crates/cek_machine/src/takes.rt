@@ -221,7 +221,7 @@ impl<'t> Spot<'t> {
         Ok(Control::Give(value))
     }
 
-    // The next of the turns; behind them the list of their values is given.
+    // The next of the turns; after them the list of their values is given.
     #[tactic(auto, using(crate::proofs::Turns::more_turns, crate::proofs::Turns::no_turns))]
     fn next_turn(
         &mut self,

@@ -49,7 +49,7 @@ pub struct Options {
 /// What the options of `serve` say, each in its range.
 #[derive(Drop)]
 pub struct Service {
-    /// Those that it shares with `play`.
+    /// The options that `serve` shares with `play`.
     pub options: Options,
     /// The port to listen at, 0 to 65,535. At 0 the machine chooses one.
     pub port: u16,
@@ -250,7 +250,7 @@ fn connections_arg<'a>(alloc: Global) -> Arg<'a>
     .default_value("10000")
 }
 
-/// `N`, behind the word `load`
+/// `N`, after the word `load`
 fn run_number_arg<'a>(alloc: Global) -> Arg<'a>
     ensures rule { rule_of result ≡ rule_for run_number }
     ensures local { result.global ≡ false }

@@ -56,7 +56,7 @@ bodies_closed d l =
     let cs = cores_of d.tasks in
     subst (λ (w : ℕ). AreBodies w (length d.cells) [] ks cs) (sym l.web) (subst (λ (i : ℕ). AreBodies (length d.names.web) i [] ks cs) (sym l.cells) l.tasks)
 
--- what an expression's nodes are, and those of bodies behind them, where they fitted
+-- what an expression's nodes are, and those of bodies after them, where they fitted
 pub record Made (d : Defined) (v : Val) (number : ℕ) (nodes : List Node) (firsts : List ℕ) : Type 0 where
   pub script : IsScript (record { nodes = nodes; web = d.web; cells = d.cells; tasks = firsts })
   pub table : at_form number (limited d (core_of d.names [] false v)) ≡ Ok (script_of (record { nodes = nodes; web = d.web; cells = d.cells; tasks = firsts }))

@@ -1,4 +1,4 @@
--- Bodies stay closed where cells are defined behind them.
+-- Bodies stay closed where cells are defined after them.
 use Rattle.std.proofs.Common.{◌≡◌, ℕ, ◌+◌, ◌≤◌, Bool, false, List, [], ◌∷◌, ◌++◌, sym, ◌∙◌, arith, append_assoc, append-nil}
 use Rattle.script_nodes.specs.Core.{Core, Cores, lit, var, bind, branch, repeat, prim, call, seq, and_all, or_any, send, finish, back, isolate, cell_ref, cell_shadow, inst_ref, inst_set, inst_add, no_cores, core, cores_of}
 use Rattle.script_nodes.specs.Closed.{IsClosed, AreClosed, AreBodies, cores_length}

@@ -1,4 +1,4 @@
--- Nodes that are put behind each other, a part at a time.
+-- Nodes that are put after each other, a part at a time.
 use Rattle.std.proofs.Common.{◌≡◌, ℕ, zero, suc, ◌+◌, ◌-◌, ◌<◌, ◌≤◌, max, List, [], ◌∷◌, ◌++◌, length, take, get_or, Result, Err, refl, sym, ap, ◌∙◌, arith, append_assoc, append-nil}
 use Rattle.std.specs.Prelude.{slice_set}
 use Rattle.script_value.specs.Views.{meaning}
@@ -38,7 +38,7 @@ pub set_head : {s0 s s' : List Node} {left n m h : ℕ} {x : Node} {xs : List No
 set_head {s0} {s} {s'} {left} {n} {m} {h} {x} {xs} y a w l =
     record { first = a.first; behind = w ∙ (rw (a.behind, a.first) (set_seam s0 x y xs)); grown = l ∙ a.grown; room = a.room; low = a.low }
 
--- the first part behind its node
+-- the first part after its node
 pub first_part : {s0 s1 s2 : List Node} {left n k : ℕ} {x : Node} (c : Core)
     → Stands s0 s1 left n (x ∷ []) 1 1 → Stands s1 s2 (left - 1) k (layout (length s1) c) (count c) (height c)
     → Stands s0 s2 left n (x ∷ layout (length s0 + 1) c) (suc (count c)) (suc (height c))
@@ -51,7 +51,7 @@ first_part {s0} {s1} {s2} {left} {n} {k} {x} c a b =
       low = (let p = a.low in let q = b.low in omega arith);
     }
 
--- one more part behind others
+-- one more part after others
 pub then_part : {s0 s3 s4 : List Node} {left n k m h : ℕ} {y : Node} {xs : List Node} (b : Core)
     → Stands s0 s3 left n (y ∷ xs) (suc m) (suc h) → Stands s3 s4 (left - 1) k (layout (length s3) b) (count b) (height b)
     → Stands s0 s4 left n (y ∷ (xs ++ layout (length s0 + 1 + m) b)) (suc (m + count b)) (suc (max h (height b)))
@@ -69,7 +69,7 @@ room_behind : (old now more : ℕ) → now ≡ old + 1 → old + 1 ≤ 16384 →
 room_behind old now zero e l h = omega arith
 room_behind old now (suc more) e l h = let r = h (omega arith) in omega arith
 
--- parts in a list, behind their node
+-- parts in a list, after their node
 parts_behind : {s0 s1 s2 : List Node} {left n : ℕ} {ns : List ℕ} {x : Node} {cs : Cores}
     → Stands s0 s1 left n (x ∷ []) 1 1 → StandAll s1 s2 (left - 1) ns cs
     → Stands s0 s2 left n (x ∷ layout_all (length s0 + 1) cs) (suc (count_all cs)) (suc (height_all cs))
@@ -211,7 +211,7 @@ pub all_none : (s : List Node) (left : ℕ) → StandAll s s left [] no_cores
 all_none s left =
     record { first = refl; behind = sym (append-nil s); grown = omega arith; room = λ h. absurd (omega arith); low = omega arith }
 
--- one more tree behind others
+-- one more tree after others
 pub all_more : {s0 s1 s2 : List Node} {left k : ℕ} {ns : List ℕ} (xs : List Core) (c : Core)
     → StandAll s0 s1 left ns (cores_of xs) → Stands s1 s2 left k (layout (length s1) c) (count c) (height c)
     → StandAll s0 s2 left (ns ++ k ∷ []) (cores_of (xs ++ c ∷ []))
@@ -255,7 +255,7 @@ no_room : (old mid more : ℕ) → (0 < more → mid + more ≤ 16384) → mid �
 no_room old mid zero h l = omega arith
 no_room old mid (suc more) h l = let r = h (omega arith) in omega arith
 
--- the bodies of tasks behind an expression
+-- the bodies of tasks after an expression
 pub script_stands : {old mid new : List Node} {n : ℕ} {numbers : List ℕ} (c : Core) (cs : Cores)
     → Stands old mid 1024 n (layout (length old) c) (count c) (height c) → StandAll mid new 1024 numbers cs → StandScript old new numbers c cs
 script_stands {old} {mid} {new} {n} {numbers} c cs a b =

@@ -57,14 +57,14 @@ tells form others d = definition_seen (meaning form) (map meaning others) (cells
 abbrev pub ChecksTask : Result TaskFormOf SyntaxKind → Value → (later : List Value) → DefinedOf → Type 0
 ChecksTask result form later d = seen task_form result ≡ task_definable (task_of (meaning form)) (names_in later) (cells_of d)
 
--- the task that a form defines stands behind the others; these forms define names too
+-- the task that a form defines stands after the others; these forms define names too
 abbrev pub DefinesTask : {A : Type 0} → (old new : DefinedOf) → Result A ReadFault → Value → (later : List Value) → Type 0
 DefinesTask old new result form later = Defines new result (task_defined (task_of (meaning form)) (names_in later) (cells_of old))
 
--- a task with these parameters stands behind the others; these forms define names too
+-- a task with these parameters stands after the others; these forms define names too
 abbrev pub DefinesWithin : {A : Type 0} → (old new : DefinedOf) → Result A ReadFault → (later : List Value) → List (List ℕ) → TaskFormOf → Type 0
 DefinesWithin old new result later parameters task = Defines new result (task_within (names_in later) parameters (cells_of old) (task_form task))
 
--- what a definition in front of these forms defines stands behind the rest
+-- what a definition in front of these forms defines stands after the rest
 abbrev pub DefinesForm : {A : Type 0} → (old new : DefinedOf) → Result A ReadFault → Value → (others : List Value) → Type 0
 DefinesForm old new result form others = Defines new result (form_defined (meaning form) (map meaning others) (cells_of old))

@@ -1,4 +1,4 @@
--- Nodes that were put behind others.
+-- Nodes that were put after others.
 use Rattle.std.specs.Prelude.{◌≡◌, ℕ, suc, ◌+◌, ◌<◌, ◌≤◌, List, ◌∷◌, ◌++◌, length, Result, Ok, Err, ⊤}
 use Rattle.script_nodes.specs.declared.script.Node.{Node}
 use Rattle.script_nodes.specs.declared.script.Node.TheVariants as node
@@ -12,11 +12,11 @@ use Rattle.core_syntax.specs.Limits.{most_nodes, most_levels}
 use Rattle.script_nodes.specs.Core.{Core, Cores, core, count, count_all, height, height_all}
 use Rattle.script_nodes.specs.Layout.{layout, layout_all, starts}
 
--- so many more nodes are too many behind these, or they nest deeper than `left`
+-- nodes that would come after these are too many, or nest deeper than `left`
 abbrev pub Lacks : (before left more high : ℕ) → Type 0
 Lacks before left more high = before + more ≤ most_nodes → left < high
 
--- these nodes were put behind the old ones; the first has this number
+-- these nodes were put after the old ones; the first has this number
 pub record Stands (old new : List Node) (left number : ℕ) (nodes : List Node) (more high : ℕ) : Type 0 where
   pub first : number ≡ length old
   pub behind : new ≡ old ++ nodes
@@ -30,11 +30,11 @@ Puts (Ok number) old new left nodes more high = Stands old new left number nodes
 Puts (Err Memory) old new left nodes more high = ⊤
 Puts (Err TooMany) old new left nodes more high = Lacks (length old) left more high
 
--- the nodes of a tree were put behind the old ones, or the fault is answered
+-- the nodes of a tree were put after the old ones, or the fault is answered
 abbrev pub Lays : Result ℕ LayFault → (old new : List Node) → (left : ℕ) → Core → Type 0
 Lays result old new left c = Puts result old new left (layout (length old) c) (count c) (height c)
 
--- the nodes of trees were put behind the old ones; these are the numbers of the trees
+-- the nodes of trees were put after the old ones; these are the numbers of the trees
 pub record StandAll (old new : List Node) (left : ℕ) (numbers : List ℕ) (cs : Cores) : Type 0 where
   pub first : numbers ≡ starts (length old) cs
   pub behind : new ≡ old ++ layout_all (length old) cs
@@ -48,19 +48,19 @@ LaysAll (Ok numbers) old new left cs = StandAll old new left numbers cs
 LaysAll (Err Memory) old new left cs = ⊤
 LaysAll (Err TooMany) old new left cs = Lacks (length old) left (count_all cs) (height_all cs)
 
--- a node over these trees, which this function makes of their numbers, and their nodes were put behind the old ones
+-- a node over these trees, which this function makes of their numbers, and their nodes were put after the old ones
 abbrev pub LaysGroup : Result ℕ LayFault → (old new : List Node) → (left : ℕ) → (List ℕ → Node) → Cores → Type 0
 LaysGroup result old new left f cs =
     Puts result old new left (f (starts (length old + 1) cs) ∷ layout_all (length old + 1) cs) (suc (count_all cs)) (suc (height_all cs))
 
--- the nodes of an expression, and then those of bodies, were put behind the old ones; these are the numbers of the bodies
+-- the nodes of an expression, and then those of bodies, were put after the old ones; these are the numbers of the bodies
 pub record StandScript (old new : List Node) (numbers : List ℕ) (c : Core) (cs : Cores) : Type 0 where
   pub first : numbers ≡ starts (length old + count c) cs
   pub behind : new ≡ old ++ layout_all (length old) (core c cs)
   pub room : length old + count_all (core c cs) ≤ most_nodes
   pub low : height_all (core c cs) ≤ most_levels
 
--- the nodes of an expression and of bodies were put behind the old ones, or there are too many of them
+-- the nodes of an expression and of bodies were put after the old ones, or there are too many of them
 abbrev pub LaysScript : Result (List ℕ) LayFault → (old new : List Node) → Core → Cores → Type 0
 LaysScript (Ok numbers) old new c cs = StandScript old new numbers c cs
 LaysScript (Err Memory) old new c cs = ⊤

@@ -51,12 +51,12 @@ abbrev pub of_kind : CellKind → CellNames → List (List ℕ)
 of_kind Web cells = cells.web
 of_kind Instance cells = cells.instance
 
--- the names of cells with one more, behind those of its kind
+-- the names of cells with one more, after those of its kind
 abbrev pub with_name : CellKind → List ℕ → CellNames → CellNames
 with_name Web x cells = record cells { web = cells.web ++ x ∷ [] }
 with_name Instance x cells = record cells { instance = cells.instance ++ x ∷ [] }
 
--- the names of tasks with one more, of so many parameters, behind the others
+-- the names of tasks with one more, of so many parameters, after the others
 abbrev pub with_task_name : List ℕ → ℕ → CellNames → CellNames
 with_task_name x n cells = record cells { tasks = cells.tasks ++ record { name = x; parameters = n } ∷ [] }
 

@@ -66,7 +66,7 @@ abbrev pub bind_taken : CellNames → Vals → Bool
 bind_taken cells no_vals = false
 bind_taken cells (val v vs) = is_taken_name cells (bound_name v) || bind_taken cells vs
 
--- bindings of names that may be bound, and the body behind them, or the fault
+-- bindings of names that may be bound, and the body after them, or the fault
 abbrev pub bind_with : CellNames → Vals → Vals → Result (Vals × Vals) SyntaxKind
 bind_with cells bs body =
     if is_empty body || not (are_bindings bs) then Err Shape else

@@ -12,7 +12,7 @@ abbrev pub has_splice : Vals → Bool
 has_splice no_vals = false
 has_splice (val v vs) = is_splice v || has_splice vs
 
--- whether a list has one expression behind its head, as `(unquote-splicing e)` has
+-- whether a list has one expression after its head, as `(unquote-splicing e)` has
 abbrev pub is_mark_of_one : Val → Bool
 is_mark_of_one (list vs) = count_of vs == 2
 is_mark_of_one _ = false

@@ -21,7 +21,7 @@ fault_in (Err k) = Some k
 abbrev fault : List Val → Option (SyntaxKind × ℕ)
 fault vs = fault_in (expanded vs)
 
--- no expression behind the definitions: the fault has the number of forms
+-- no expression after the definitions: the fault has the number of forms
 --     Shape 0
 --   (define c (make-web-cell 1))  Shape 1
 --   (define c (make-web-cell 1)) (define d (make-instance-cell 2))  Shape 2

@@ -95,7 +95,7 @@ impl<'a> CellNames<'a> {
         self.is_taken_ahead(self.later, name)
     }
 
-    /// The same, where these forms define names too.
+    /// Whether a name is that of a form, an operation, a cell or a task, or one that these forms define.
     pub fn is_taken_ahead(&self, later: &[Value], name: &Str) -> bool
         ensures { result ≡ is_taken (with_forms later.now self.now) name.now }
     {
@@ -122,7 +122,7 @@ impl<'a> CellNames<'a> {
         self.tasks.len()
     }
 
-    /// Puts one more name behind those of its kind.
+    /// Puts one more name after those of its kind.
     pub fn push(&mut self, kind: CellKind, name: &'a Str) -> Result<(), AllocError>
         requires { length self.old.web + length self.old.instance < most_cells }
         ensures { OnOk result (self.new ≡ with_name kind name.now self.old) }
@@ -134,7 +134,7 @@ impl<'a> CellNames<'a> {
         Ok(())
     }
 
-    /// Puts one more task behind the others.
+    /// Puts one more task after the others.
     pub fn push_task(&mut self, name: &'a Str, parameters: usize) -> Result<(), AllocError>
         requires { length self.old.tasks < most_tasks }
         ensures { OnOk result (self.new ≡ with_task_name name.now parameters self.old) }

@@ -82,7 +82,7 @@ impl<'a> Defined<'a> {
         Ok(())
     }
 
-    /// The cell that a form defines, where it may stand behind the others.
+    /// The cell that a form defines, where it may stand after the others.
     pub fn checked(&self, form: &'a Value) -> Result<Definition<'a>, SyntaxKind>
         ensures { seen definition result ≡ definable (definition_of (meaning form.now)) (cells_of self.now) }
     {
@@ -121,7 +121,7 @@ impl<'a> Defined<'a> {
         }
     }
 
-    /// Puts the cell that a form defines behind the others. Why there is none is told whatever memory there is.
+    /// Puts the cell that a form defines after the others. Why there is none is told whatever memory there is.
     pub fn define(&mut self, alloc: Global, form: &'a Value) -> Result<(), ReadFault>
         ensures cells { Defines self.new result (defined (definition_of (meaning form.now)) (cells_of self.old)) }
         ensures memory { LacksMemoryAlone self.old result form.now }
@@ -133,7 +133,7 @@ impl<'a> Defined<'a> {
         Ok(())
     }
 
-    /// Puts what one more cell begins with behind those of its kind.
+    /// Puts what one more cell begins with after those of its kind.
     fn put(&mut self, kind: CellKind, value: Value) -> Result<(), AllocError>
         ensures { OnOk result (cells_of self.new ≡ with_value kind (meaning value) (cells_of self.old)) }
     {
@@ -144,7 +144,7 @@ impl<'a> Defined<'a> {
         Ok(())
     }
 
-    /// Puts the task that a form defines behind the others; these forms define names too.
+    /// Puts the task that a form defines after the others; these forms define names too.
     pub fn define_task(
         &mut self,
         alloc: Global,
@@ -183,7 +183,7 @@ impl<'a> Defined<'a> {
         Ok(())
     }
 
-    /// Puts what a definition defines behind the rest.
+    /// Puts what a definition defines after the rest.
     pub fn define_form(
         &mut self,
         alloc: Global,

@@ -6,7 +6,7 @@ use thiserror::Error;
 /// Why data are no script.
 #[derive(Clone, Copy, Debug, PartialEq, Eq, Error)]
 pub enum SyntaxKind {
-    /// The parts of a form are not as the table of forms says, or there is no expression behind the definitions.
+    /// The parts of a form are not as the table of forms says, or there is no expression after the definitions.
     #[error("the parts of a form are not as they have to be")]
     Shape,
     /// A variable has no binding, or there is no cell of this kind and name, or no earlier task of this name.

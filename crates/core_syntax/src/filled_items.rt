@@ -9,7 +9,7 @@ use crate::tree::{Form, Tree, put};
 use script_value::Value;
 use std::alloc::{AllocError, Global};
 
-/// Items of a template's list: the trees of the first, and behind them plain ones. Those get trees only if one that is
+/// Items of a template's list: the trees of the first, and after them plain ones. Those get trees only if one that is
 /// not plain follows, since a list of plain items is one literal.
 #[derive(Drop)]
 pub struct FilledItems<'a> {
@@ -29,7 +29,7 @@ impl<'a> FilledItems<'a> {
         }
     }
 
-    /// Puts one more item behind these, with its tree unless it is plain.
+    /// Puts one more item after these, with its tree unless it is plain.
     pub fn add(
         &mut self,
         alloc: Global,
@@ -46,7 +46,7 @@ impl<'a> FilledItems<'a> {
         Ok(())
     }
 
-    /// Puts the tree of one more item behind these.
+    /// Puts the tree of one more item after these.
     fn add_tree(&mut self, alloc: Global, tree: Tree) -> Result<(), AllocError>
         ensures trees { OnOk result (trees_of self.new ≡ trees_of self.old ++ tree ∷ []) }
         ensures plain { OnOk result (has_no_tree self.new ≡ false) }

@@ -65,7 +65,7 @@ fn first_seen<'a>(
     seen_behind(&nothing, &scope, first, others, forms)
 }
 
-// The same, behind no definition and within no variable.
+// What the first form tells where nothing is defined yet and no variable is bound.
 fn seen_behind<'a>(
     nothing: &Defined<'a>,
     scope: &Names<'a>,
@@ -112,7 +112,7 @@ struct Last<'a> {
     form: &'a Value,
 }
 
-/// Puts what is defined in front of the expression behind the rest, and gives the expression.
+/// Puts what is defined in front of the expression after the rest, and gives the expression.
 fn define_all<'a>(
     alloc: Global,
     defined: &mut Defined<'a>,
@@ -203,7 +203,7 @@ fn expression_tree<'a>(
     reader.read(false, form)
 }
 
-/// Puts the nodes of an expression and behind them those of tasks' bodies, and gives the numbers of the first nodes of
+/// Puts the nodes of an expression and after them those of tasks' bodies, and gives the numbers of the first nodes of
 /// these.
 #[tactic(auto, using(crate::proofs::Lays::script_stands, crate::proofs::Lays::expression_lacks, crate::proofs::Lays::bodies_lack))]
 fn lay_script(

@@ -17,7 +17,7 @@ use script_nodes::{Node, Numbers};
 use script_value::Value;
 use std::alloc::{AllocError, Global};
 
-/// Puts the nodes of a tree behind the others, where `left` levels may still nest, and gives the number of the first.
+/// Puts the nodes of a tree after the others, where `left` levels may still nest, and gives the number of the first.
 #[cycle(lay)]
 pub fn lay(alloc: Global, nodes: &mut Nodes, left: u32, tree: &Tree) -> Result<u32, LayFault>
     ensures { Lays result nodes.old nodes.new left tree.now }
@@ -56,7 +56,7 @@ fn lay_ref(nodes: &mut Nodes, left: u32, kind: CellKind, cell: u8) -> Result<u32
     }
 }
 
-/// Puts the nodes of trees behind the others, and gives the numbers of their first.
+/// Puts the nodes of trees after the others, and gives the numbers of their first.
 #[cycle(lay)]
 pub fn lay_all(
     alloc: Global,

@@ -1,4 +1,4 @@
-//! Nodes that are put behind each other.
+//! Nodes that are put after each other.
 
 ghost use Rattle.std.specs.Prelude.{◌≡◌, ◌≤◌, ◌∷◌, [], length, slice_set};
 ghost use Rattle.core_syntax.specs.Laid.{Puts};
@@ -81,7 +81,7 @@ impl Nodes {
         self.nodes.len() as u32
     }
 
-    /// Puts a node behind the others, where `left` levels may still nest, and gives its number.
+    /// Puts a node after the others, where `left` levels may still nest, and gives its number.
     pub fn push(&mut self, left: u32, node: Node) -> Result<u32, LayFault>
         ensures { Puts result self.old self.new left (node ∷ []) 1 1 }
     {

@@ -44,7 +44,7 @@ pub enum Row<'a> {
     Call(u8, &'a [Value]),
 }
 
-/// Bindings, and the body behind them.
+/// Bindings, and the body after them.
 #[derive(Clone, Copy)]
 pub struct Bound<'a> {
     pub bindings: &'a [Value],

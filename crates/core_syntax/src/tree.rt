@@ -105,7 +105,7 @@ impl Tree {
     }
 }
 
-/// Puts a tree behind others.
+/// Puts a tree after others.
 pub fn put(trees: &mut Vec<Tree>, tree: Tree) -> Result<(), AllocError>
     ensures { OnOk result (trees.new.items ≡ trees.old.items ++ tree ∷ []) }
 {

@@ -29,7 +29,7 @@ impl<D: Disk> Disks<D> {
         }
     }
 
-    /// The same three disks, of which nothing is known.
+    /// Gives the three disks back as disks of which nothing is known.
     pub fn renew(self) -> Disks<D>
         ensures three { three_of result ≡ three_of self }
         ensures before { before result ≡ [] }
@@ -83,7 +83,7 @@ impl<D: Disk> Disks<D> {
         self.known = true;
     }
 
-    /// Makes room for a fill with so many bytes, and for a switch behind it, where it is known which file is the current one. No
+    /// Makes room for a fill with so many bytes, and for a switch after it, where it is known which file is the current one. No
     /// call of a disk is made that could fail.
     pub fn room_to_fill(&mut self, len: u64) -> Result<(), AllocError>
         ensures fill { OnOk result (HasRoomToFill self.new len) }

@@ -164,7 +164,7 @@ pub record AreCopied (old new : Copier) (bodies : List (List ℕ)) : Type 0 wher
   pub short : (most : ℕ) → new.sound ≡ true → old.head ≤ most + 14 → length old.number.now ≤ most → TellsShort most old old.next
       → AreShort most (outs old.drawn old.number.now old.stage (drop old.next old.plan.now) bodies)
 
--- one record, and others behind it
+-- one record, and others after it
 module _ (old mid new : Copier) (body : List ℕ) (bodies : List (List ℕ)) (many : length old.plan.now ≡ length old.notes.now) (first : IsCopied old body mid) (more : AreCopied mid new bodies) where
   abbrev put : List (List ℕ)
   put = puts old body old.stage
@@ -230,7 +230,7 @@ module _ (notes : FileNotes) (plan : List Bool) (number : List ℕ) (old new : C
       ∙ (ap (λ (k : ℕ). outs notes.drawn number First (drop k old.plan.now) bodies) begun.next
       ∙ (ap (λ (ts : List Bool). outs notes.drawn number First ts bodies) begun.plan_is ∙ whole_copy notes.drawn number plan bodies))))
 
-  -- of a copier that begins, behind all records of a file, with a closed gate
+  -- of a copier that begins, after all records of a file, with a closed gate
   pub copy_is : (file : List ℕ) → file ≡ new.file.items ++ 0 ∷ [] → file ≡ at_rest (copied plan notes.drawn number (behind_front bodies))
   copy_is file is =
       is

@@ -63,7 +63,7 @@ module _ (plan : List Bool) (number first : List ℕ) (others bodies : List (Lis
   pub others_fit : All (λ b. length b < 2 ^ 32) (picked plan others)
   others_fit = All-tail (λ (b : List ℕ). length b < 2 ^ 32) number (picked plan others) behind
 
--- one record more behind others
+-- one record more after others
 pub put_more : (start old new : List ℕ) (done : List (List ℕ)) (x y : List ℕ) → old ≡ start ++ frames done → new ≡ old ++ frames (y ∷ []) → y ≡ x → new ≡ start ++ frames (done ++ x ∷ [])
 put_more start old new done x y so is same =
     is

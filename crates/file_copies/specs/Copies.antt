@@ -11,7 +11,7 @@ use Rattle.file_copies.specs.declared.copier.Copier.{Copier}
 use Rattle.file_copies.specs.declared.copier.Stage.{Stage}
 use Rattle.file_copies.specs.declared.copier.Stage.TheVariants.{First, Number, Others}
 
--- the records behind the first one, and the number of an earlier compaction
+-- the records after the first one, and the number of an earlier compaction
 abbrev pub others_of : (drawn : Bool) → List (List ℕ) → List (List ℕ)
 others_of false bodies = bodies
 others_of true [] = []
@@ -38,7 +38,7 @@ HasMore old bodies new = new.items ≡ old.items ++ frames bodies
 abbrev pub NoneFailed : (old new : View) → Type 0
 NoneFailed old new = new.faults ≡ old.faults
 
--- the plan tells of each body behind the first one; of none where there is none
+-- the plan tells of each body after the first one; of none where there is none
 abbrev pub IsForBodies : (plan : List Bool) → List (List ℕ) → Type 0
 IsForBodies plan [] = ⊤
 IsForBodies plan (first ∷ bodies) = length plan ≡ length bodies
@@ -49,18 +49,18 @@ puts c body First = if is_role body then [] else body ∷ (c.number.now ∷ [])
 puts c body Number = []
 puts c body Others = if get_or c.plan.now c.next false then body ∷ [] else []
 
--- which record comes next behind the first one
+-- which record comes next after the first one
 abbrev pub behind_first : (drawn : Bool) → Stage
 behind_first true = Number
 behind_first false = Others
 
--- which record comes next behind this one of this stage
+-- which record comes next after this one of this stage
 abbrev pub stage_then : (drawn : Bool) → (body : List ℕ) → Stage → Stage
 stage_then d body First = if is_role body then First else behind_first d
 stage_then d body Number = Others
 stage_then d body Others = Others
 
--- the place of the note that comes next behind a record of this stage
+-- the place of the note that comes next after a record of this stage
 abbrev pub place_then : ℕ → Stage → ℕ
 place_then n Others = suc n
 place_then n _ = n
@@ -96,7 +96,7 @@ pub record IsCopied (old : Copier) (body : List ℕ) (new : Copier) : Type 0 whe
   pub next : new.sound ≡ true → new.next ≡ place_then old.next old.stage
   pub same : IsSameCopier old new
 
--- a copier was sound to the end, and its file is so long with a closed gate behind it
+-- a copier was sound to the end, and its file is so long with a closed gate after it
 pub record IsFinished (c : Copier) (len : ℕ) (file : Vec ℕ) : Type 0 where
   pub sound : c.sound ≡ true
   pub closed : file.items ≡ c.file.items ++ 0 ∷ []

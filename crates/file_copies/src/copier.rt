@@ -18,7 +18,7 @@ pub enum Stage {
     Others,
 }
 
-// Which record comes behind the first one.
+// Which record comes after the first one.
 fn behind_first(drawn: bool) -> Stage
     ensures { result ≡ behind_first drawn }
 {
@@ -33,7 +33,7 @@ pub struct Copier<'n> {
     pub head: u64,
     /// Which of those that have a note stay.
     pub plan: &'n [bool],
-    /// Whether the file tells a number behind its first record.
+    /// Whether the file tells a number after its first record.
     pub drawn: bool,
     /// The body of the record of the number that the new file tells.
     pub number: &'n [u8],
@@ -71,7 +71,7 @@ impl<'n> Copier<'n> {
         })
     }
 
-    /// The new file, with a closed gate behind its records. Where the file is not as its notes tell, or the new one not so long, that is
+    /// The new file, with a closed gate after its records. Where the file is not as its notes tell, or the new one not so long, that is
     /// told as want of memory.
     pub fn finish(self, len: u64) -> Result<Vec<u8>, AllocError>
         ensures { IfOk result (IsFinished self.entry len) }
@@ -131,7 +131,7 @@ impl<'n> Copier<'n> {
         Some((note.length(), *stays))
     }
 
-    // The first record, behind which the new file tells its number.
+    // The first record, after which the new file tells its number.
     fn first(&mut self, body: &[u8])
         requires short { length body.now < 2 ^ 30 }
         requires ready { IsReady self.old }

@@ -4,7 +4,7 @@ ghost use Rattle.file_copies.specs.Copies.{HasMore};
 use std::alloc::AllocError;
 use wire_bytes::u32_to_wire;
 
-/// Puts a record behind an open gate, at the end of a file.
+/// Puts a record after an open gate, at the end of a file.
 pub fn put_record(file: &mut Vec<u8>, body: &[u8]) -> Result<(), AllocError>
     requires { length body.now < 2 ^ 32 }
     ensures { OnOk result (HasMore file.old (body.now ∷ []) file.new) }

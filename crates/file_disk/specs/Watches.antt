@@ -12,7 +12,7 @@ is_byte n (Some m) = m == n
 abbrev pub is_page : List ℕ → Bool
 is_page body = is_byte 2 (slice_get body 0)
 
--- Behind the kind of a page stand two numbers of eight bytes, and then a byte that is 0 where the page was a start's.
+-- After the kind of a page stand two numbers of eight bytes, and then a byte that is 0 where the page was a start's.
 abbrev pub is_start : List ℕ → Bool
 is_start body = is_page body && is_byte 0 (slice_get body 17)
 

@@ -9,7 +9,7 @@ use thiserror::Error;
 // A file that is made may be read and written by its owner, and by nobody else.
 const OWNER_ALONE: u32 = 0o600;
 
-// Nor may anybody else look into a folder that is made.
+// A folder that is made may be looked into by its owner, and by nobody else.
 const OWNERS_FOLDER: u32 = 0o700;
 
 // What others than its owner may do with a file.

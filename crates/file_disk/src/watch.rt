@@ -12,7 +12,7 @@ const MOST_FRAME: usize = 8;
 // A gate that is open holds this.
 const OPEN: u8 = 1;
 
-// The first record of a journal is written here, behind the header and a gate.
+// The first record of a journal is written here, after the header and a gate.
 const FIRST_RECORD: u64 = 9;
 
 /// How many records were read, and of how many pages and starts they tell.
@@ -40,7 +40,7 @@ fn is_page(body: &[u8]) -> bool
     holds(body, 0, 2)
 }
 
-// Whether it tells besides that the page was a start's: so does a byte behind two numbers of eight bytes.
+// Whether it tells besides that the page was a start's: so does a byte after two numbers of eight bytes.
 fn is_start(body: &[u8]) -> bool
     ensures { result ≡ is_start body.now }
 {
@@ -77,7 +77,7 @@ pub enum Stage {
     Audit,
     /// Its records were audited.
     Audited,
-    /// What stands behind its records was cut, and these are read: its journal is opened.
+    /// What stands after its records was cut, and these are read: its journal is opened.
     Opening,
     /// The journal is open, and nothing more is told.
     Open,
@@ -86,7 +86,7 @@ pub enum Stage {
 }
 
 impl Stage {
-    // Behind a cut that leaves so many bytes. An opening cuts a file before it reads its records, and an audit never does.
+    // After a cut that leaves so many bytes. An opening cuts a file before it reads its records, and an audit never does.
     fn behind_cut(self, len: u64) -> Stage
         ensures { result ≡ behind_cut len self }
     {
@@ -102,7 +102,7 @@ impl Stage {
         }
     }
 
-    // Behind a question for the length, with which all reading begins: a file that was audited is as it was found.
+    // After a question for the length, with which all reading begins: a file that was audited is as it was found.
     fn behind_length(self) -> Stage
         ensures { result ≡ behind_length self }
     {
@@ -135,7 +135,7 @@ pub struct Watch<'r, R> {
     rt: &'r R,
     // The path of the file.
     path: String,
-    // When it was taken, cut to nothing, or looked at again behind an audit; none where the clock could not be read, and then no
+    // When it was taken, cut to nothing, or looked at again after an audit; none where the clock could not be read, and then no
     // time is told.
     since: Option<Instant>,
     // How many bytes it has.
@@ -245,7 +245,7 @@ impl<'r, R: Clock + Eprint> Watch<'r, R> {
         };
     }
 
-    /// These bytes were read at this place. The records end at the first gate behind one that is not open.
+    /// These bytes were read at this place. The records end at the first gate after one that is not open.
     pub fn saw(&mut self, place: u64, bytes: &[u8]) {
         let is_body = self.is_short;
         self.is_short = matches!(bytes, [1, 0, 0, 0]);

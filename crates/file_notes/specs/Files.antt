@@ -18,7 +18,7 @@ use Rattle.file_notes.specs.declared.notes.FileNotes.{FileNotes}
 use Rattle.file_notes.specs.declared.past.FilePast.{FilePast, Nothing, Begun, Drawn', Read', Visited', Swept', Renewed', Compacted'}
 use Rattle.file_notes.specs.Notes.{note_of, length_in, all_lengths, is_told, stays_note, plan_in, picked}
 
--- the file that tells this number behind its first record
+-- the file that tells this number after its first record
 abbrev pub with_drawn : (number : ℕ) → File → File
 with_drawn n f = record f { drawn = Some n }
 
@@ -59,7 +59,7 @@ file_in s = file_of s.past
 abbrev pub IsCompactedFrom : Library → Book → (old new : FileNotes) → Type 0
 IsCompactedFrom library b old new = file_in new ≡ compacted_of library b (file_in old)
 
--- which of the records behind the first one, and the number, recovery takes
+-- which of the records after the first one, and the number, recovery takes
 abbrev pub marks_in : FileNotes → List Bool
 marks_in s = map is_told s.notes.items
 

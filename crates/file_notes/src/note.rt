@@ -7,7 +7,7 @@ ghost use Rattle.file_notes.specs.Files.{StaysIn};
 use instance_book::{Book, Change};
 use journal_records::{Logged, Origin, PageRecord};
 
-/// What is known of a record behind the first one of a file, and how long its body is.
+/// What is known of a record after the first one of a file, and how long its body is.
 #[derive(Clone, Copy, Debug, PartialEq, Eq)]
 pub enum Note {
     /// A page of the instance of this number was shown, or answered with a page or with a last one.

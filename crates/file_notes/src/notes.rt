@@ -26,14 +26,14 @@ const DRAWN: u128 = 14;
 pub struct FileNotes {
     // How long the file is with its first record alone.
     pub(crate) head: u64,
-    // Whether the number of a compaction stands behind that.
+    // Whether the number of a compaction stands after that.
     pub(crate) drawn: bool,
     // The other records, in their order.
     pub(crate) notes: Vec<Note>,
     pub(crate) past: FilePast,
 }
 
-// A note of a record behind the others, for which there is room.
+// A note of a record after the others, for which there is room.
 fn put(notes: &mut Vec<Note>, note: Note)
     requires { HasRoom notes.old }
     ensures { notes.new.items ≡ notes.old.items ++ note ∷ [] }
@@ -95,7 +95,7 @@ impl FileNotes {
         self.drawn
     }
 
-    /// Which record behind the first one, and the number, is of what.
+    /// Which record after the first one, and the number, is of what.
     pub fn notes(&self) -> &[Note]
         ensures { result.now ≡ self.now.notes.items }
     {
@@ -109,7 +109,7 @@ impl FileNotes {
         self.head
     }
 
-    /// How long the longest body is, 9 bytes at least. Each stands behind a gate and its length, and the first one behind a header too.
+    /// How long the longest body is, 9 bytes at least. Each stands after a gate and its length, and the first one after a header too.
     pub fn longest(&self) -> u64
         ensures longest { IsLonger self.now.notes.items result }
         ensures first { self.now.head ≤ result + 14 }
@@ -141,7 +141,7 @@ impl FileNotes {
         self.past = FilePast::Drawn { before, number };
     }
 
-    /// A record behind the others that was read and lands, whose note is this and whose body is so long. There is room for its note.
+    /// A record after the others that was read and lands, whose note is this and whose body is so long. There is room for its note.
     pub fn read(&mut self, logged: Snapshot<Logged>, note: Note, length: u32)
         requires noted { IsNoted self.old }
         requires room { HasRoom self.old.notes }
@@ -162,7 +162,7 @@ impl FileNotes {
         };
     }
 
-    /// A record behind the others that recovery passes over, whose body is so long. There is room for its note.
+    /// A record after the others that recovery passes over, whose body is so long. There is room for its note.
     pub fn pass(&mut self, length: u32)
         requires noted { IsNoted self.old }
         requires room { HasRoom self.old.notes }
@@ -174,7 +174,7 @@ impl FileNotes {
         put(&mut self.notes, Note::Passed { length });
     }
 
-    /// The record of a visit's change behind the others. There is room for its note.
+    /// The record of a visit's change after the others. There is room for its note.
     pub fn visit(&mut self, change: &Change, length: u32)
         requires noted { IsNoted self.old }
         requires room { HasRoom self.old.notes }
@@ -193,7 +193,7 @@ impl FileNotes {
         };
     }
 
-    /// The record of a tick behind the others. There is room for its note.
+    /// The record of a tick after the others. There is room for its note.
     pub fn sweep(&mut self, tick: u64, length: u32)
         requires noted { IsNoted self.old }
         requires room { HasRoom self.old.notes }
@@ -211,7 +211,7 @@ impl FileNotes {
         };
     }
 
-    /// The record of another setup behind the others. There is room for its note.
+    /// The record of another setup after the others. There is room for its note.
     pub fn renew(&mut self, setup: Snapshot<Setup>, length: u32)
         requires noted { IsNoted self.old }
         requires room { HasRoom self.old.notes }

@@ -13,30 +13,30 @@ pub enum FilePast {
         setup: Snapshot<Setup>,
         head: u64,
     },
-    /// Behind it the number that a compaction tells.
+    /// After it the number that a compaction tells.
     Drawn {
         before: Snapshot<FilePast>,
         number: u64,
     },
-    /// Behind others one that was read, whose body is so long.
+    /// After others one that was read, whose body is so long.
     Read {
         before: Snapshot<FilePast>,
         logged: Snapshot<Logged>,
         length: u64,
     },
-    /// Behind others that of a visit's change, whose body is so long.
+    /// After others that of a visit's change, whose body is so long.
     Visited {
         before: Snapshot<FilePast>,
         change: Snapshot<Change>,
         length: u64,
     },
-    /// Behind others one by which time went on to this tick, whose body is so long.
+    /// After others one by which time went on to this tick, whose body is so long.
     Swept {
         before: Snapshot<FilePast>,
         tick: u64,
         length: u64,
     },
-    /// Behind others that of another setup, whose body is so long.
+    /// After others that of another setup, whose body is so long.
     Renewed {
         before: Snapshot<FilePast>,
         setup: Snapshot<Setup>,

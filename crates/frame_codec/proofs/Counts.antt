@@ -1,4 +1,4 @@
--- Lists whose count no fewer bytes stand behind are none.
+-- Lists whose count no fewer bytes stand after are none.
 use Rattle.std.proofs.Common.{◌≡◌, ℕ, List, None, arith}
 use Rattle.script_nodes.specs.Arena.{Arena}
 use Rattle.wire_bytes.specs.Reading.{AreBytes, read_count}

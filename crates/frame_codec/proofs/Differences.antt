@@ -148,7 +148,7 @@ delta_spelled a bytes d small e =
       };
     }
 
--- what is behind one parent's state is no front of what else is
+-- what is after one parent's state is no front of what else is
 delta_of_parts : DeltaParts → Delta
 delta_of_parts x = record { env_shared = x.0; env = x.1.0; frames_shared = x.1.1.0; frames = x.1.1.1.0; shadows = x.1.1.1.1 }
 

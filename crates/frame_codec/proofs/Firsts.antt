@@ -45,7 +45,7 @@ module _ {A : Type 0} (spelled : A → List ℕ) (fits : A → Type 0) (read : R
       ∙ ap (λ o. o >>= λ y. (read_several read k y.1 >>= λ ys. Some (y.0 ∷ ys.0, ys.1))) (law.back x (flat_map spelled xs ++ rest) fit.0)
       ∙ ap (λ o. o >>= λ ys. Some (x ∷ ys.0, ys.1)) (several_first k xs rest fit.1 (omega (arith, few)))
 
-  -- what is left of a list behind its first
+  -- what is left of a list after its first
   left_of : (most : ℕ) → List A → List ℕ
   left_of most xs = flat_map spelled (drop (min most (length xs)) xs) ++ []
 

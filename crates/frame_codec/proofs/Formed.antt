@@ -23,7 +23,7 @@ use Rattle.frame_codec.proofs.Leaving.{are_exact}
 same_first : (x y : ℕ) (xs ys : List ℕ) → x ∷ xs ≡ y ∷ ys → (x ≡ y) × (xs ≡ ys)
 same_first x y xs ys e = (cc, cc)
 
--- the first byte, and what is read behind it
+-- the first byte, and what is read after it
 record IsForm (form due : ℕ) (o : Option Suspended) (d : Suspended) : Type 0 where
   is : form ≡ due
   read : o ≡ Some d
@@ -51,7 +51,7 @@ alone a = record {
   prefix = λ d e rest sd se bd be same. states_are_exact.prefix a d e rest sd se (same_first 0 0 (state_bytes d ++ rest) (state_bytes e) same).1;
 }
 
--- ---- behind another one
+-- ---- after another one
 
 record IsJoined (p : Suspended) (o : Option Delta) (d : Suspended) : Type 0 where
   x : Delta

@@ -22,7 +22,7 @@ use Rattle.frame_codec.specs.Spelling.{frame_bytes, let_bytes, shadow_bytes, IsS
 use Rattle.frame_codec.specs.Walk.{operands_in}
 use Rattle.frame_codec.specs.Reading.{read_both, bindings_of, operands_of, body_frame, let_frame, call_frame, read_let, read_call, read_part, read_for_kind, read_for, name_of, read_kind, read_frame, read_shadow}
 
--- ---- one behind the other
+-- ---- one after the other
 
 abbrev pub both_bytes : {A B : Type 0} → (A → List ℕ) → (B → List ℕ) → A × B → List ℕ
 both_bytes s t x = s x.0 ++ t x.1
@@ -190,7 +190,7 @@ frame_back a (in_back n) rest fit = absurd fit.0
 abbrev SpellsFrame : Arena → (kind : ℕ) → List ℕ → Frame → List ℕ → Type 0
 SpellsFrame a kind bytes f rest = Spells frame_bytes (IsRead a) (kind ∷ bytes) f rest
 
--- what is behind a kind is seen as a frame
+-- what is after a kind is seen as a frame
 seen_frame : {A : Type 0} (s : A → List ℕ) (fits : A → Type 0) (r : Reader A) → IsExact s fits r
     → (view : A → Frame) (a : Arena) (tag : ℕ) → ((x : A) → frame_bytes (view x) ≡ tag ∷ s x) → ((x : A) → fits x → IsRead a (view x))
     → (kind : ℕ) (bytes : List ℕ) (f : Frame) (rest : List ℕ) → AreBytes bytes → kind ≡ tag → seen_as view (r bytes) ≡ Some (f, rest)

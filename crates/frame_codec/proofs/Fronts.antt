@@ -45,7 +45,7 @@ one_more : {A : Type 0} (parent values xs ys : List A) (x y : A) (i : ℕ) → x
 one_more parent values xs ys x y i same h m rest s =
     subst (λ (n : ℕ). Shares parent values n rest) (omega arith) (h (suc m) rest (same, s))
 
--- what is left behind the i-th, as it is seen
+-- what is left after the i-th, as it is seen
 left_behind : {X A : Type 0} (view : X → A) (items : List X) (i : ℕ) (x : X) → i < length items → x ≡ get_or items i x
     → map view (drop i items) ≡ view x ∷ map view (drop (i + 1) items)
 left_behind view items i x lt is = ap (λ (l : List _). map view l) (drop_more items i x lt ∙ ap (λ (y : _). y ∷ drop (i + 1) items) (sym is))

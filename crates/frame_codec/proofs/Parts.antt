@@ -9,7 +9,7 @@ use Rattle.frame_codec.specs.Deltas.{Delta, delta_bytes}
 use Rattle.frame_codec.specs.Parted.{Parted, whole_of, delta_parts}
 use Rattle.frame_codec.specs.PartedViews.{cut}
 
--- the parts of a difference one behind the other are the byte of its form and its spelling
+-- the parts of a difference one after the other are the byte of its form and its spelling
 pub delta_whole : (x : Parted) (d : Delta) → x ≡ delta_parts d → whole_of x ≡ 1 ∷ delta_bytes d
 delta_whole x d e =
     let frames = list_bytes frame_bytes d.frames in
@@ -17,7 +17,7 @@ delta_whole x d e =
     ap whole_of e ∙ ap (λ (l : List ℕ). 1 ∷ l) (append_assoc (u32_bytes d.env_shared) (values_bytes d.env) ((u32_bytes d.frames_shared ++ frames) ++ shadows)
     ∙ ap (λ (l : List ℕ). u32_bytes d.env_shared ++ (values_bytes d.env ++ l)) (append_assoc (u32_bytes d.frames_shared) frames shadows))
 
--- one behind the other they are all bytes
+-- one after the other they are all bytes
 pub whole_again : (bytes : List ℕ) (i j : ℕ) → bytes ≡ whole_of (cut bytes i j)
 whole_again bytes i j =
     sym (

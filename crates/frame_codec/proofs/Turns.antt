@@ -1,4 +1,4 @@
--- Reading one behind the other, as a loop does.
+-- Reading one after the other, as a loop does.
 use Rattle.std.proofs.Common.{◌≡◌, ℕ, ◌+◌, ◌-◌, ◌<◌, List, [], ◌∷◌, ◌++◌, Some, map, ap, ◌∙◌}
 use Rattle.std.proofs.lemmas.List.{map-append}
 use Rattle.value_bytes.specs.Reading.{Reader, read_several}

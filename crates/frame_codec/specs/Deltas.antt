@@ -63,7 +63,7 @@ joined p d = record {
   shadows = all_bound d.shadows p.shadows;
 }
 
--- A difference: each shared count with what stands behind it, and the bindings of web cells.
+-- A difference: each shared count with what stands after it, and the bindings of web cells.
 abbrev pub delta_bytes : Delta → List ℕ
 delta_bytes d =
     u32_bytes d.env_shared ++ (values_bytes d.env
@@ -90,7 +90,7 @@ abbrev pub read_delta_parts : Arena → Reader DeltaParts
 read_delta_parts a bytes =
     read_both read_u32 (read_both read_values (read_both read_u32 (read_both (read_list (read_frame a)) (read_list read_shadow)))) bytes
 
--- the difference of these parts, where no bytes stand behind them
+-- the difference of these parts, where no bytes stand after them
 abbrev pub as_delta : Option (DeltaParts × List ℕ) → Option Delta
 as_delta None = None
 as_delta (Some (x, [])) =

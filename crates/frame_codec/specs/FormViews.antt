@@ -1,4 +1,4 @@
--- What the program reads and writes of states and differences that are written behind another state.
+-- What the program reads and writes of states and differences that are written after another state.
 use Rattle.std.specs.Prelude.{◌≡◌, ℕ, List, Option, option_map}
 use Rattle.std.specs.Borrow.{Bor}
 use Rattle.script_nodes.specs.Arena.{Arena}
@@ -12,7 +12,7 @@ use Rattle.frame_codec.specs.Difference.{read_difference}
 use Rattle.frame_codec.specs.Forms.{read_form}
 use Rattle.frame_codec.specs.declared.difference.Delta.{Delta}
 
--- the state that another one is written behind, if there is one
+-- the state that another one is written after, if there is one
 abbrev pub before_of : Option (Bor stored.Suspended) → Option Suspended
 before_of before = option_map (λ p. suspended_of p.now) before
 
@@ -20,12 +20,12 @@ before_of before = option_map (λ p. suspended_of p.now) before
 abbrev pub ReadsForm : Arena → Option (Bor stored.Suspended) → List ℕ → Option stored.Suspended → Type 0
 ReadsForm a before bytes found = option_map suspended_of found ≡ read_form a (before_of before) bytes
 
--- this is the state that bytes spell behind its parent's
+-- this is the state that bytes spell after its parent's
 abbrev pub ReadsBehind : Arena → (parent : stored.Suspended) → List ℕ → Option stored.Suspended → Type 0
 ReadsBehind a p bytes found =
     option_map suspended_of found ≡ option_map (joined (suspended_of p)) (read_difference a (suspended_of p) bytes)
 
--- this is the difference that bytes spell, where the state that they are written behind fits the script
+-- this is the difference that bytes spell, where the state that they are written after fits the script
 abbrev pub ReadsDifference : Arena → (parent : stored.Suspended) → List ℕ → Option Delta → Type 0
 ReadsDifference a p bytes found =
     IsStored a (suspended_of p) → option_map delta_of found ≡ read_difference a (suspended_of p) bytes

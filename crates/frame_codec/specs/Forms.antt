@@ -11,7 +11,7 @@ use Rattle.frame_codec.specs.Reading.{read_state}
 use Rattle.frame_codec.specs.Deltas.{joined, delta_bytes}
 use Rattle.frame_codec.specs.Difference.{difference, read_difference}
 
--- how a state is written: 0 and its bytes; or 1 and those of what differs from the state that it is written behind
+-- how a state is written: 0 and its bytes; or 1 and those of what differs from the state that it is written after
 abbrev pub form_bytes : (before : Option Suspended) → Suspended → List ℕ
 form_bytes None d = 0 ∷ state_bytes d
 form_bytes (Some p) d = 1 ∷ delta_bytes (difference p d)
@@ -22,12 +22,12 @@ read_form a before [] = None
 read_form a None (form ∷ bytes) = if form == 0 then read_state a bytes else None
 read_form a (Some p) (form ∷ bytes) = if form == 1 then option_map (joined p) (read_difference a p bytes) else None
 
--- the state that another is written behind, if there is one, fits the script and has a spelling
+-- the state that another is written after, if there is one, fits the script and has a spelling
 abbrev pub IsStoredBefore : Arena → (before : Option Suspended) → Type 0
 IsStoredBefore a None = ⊤
 IsStoredBefore a (Some p) = IsStored a p
 
--- the web cells of the state that another is written behind, if there is one, rise
+-- the web cells of the state that another is written after, if there is one, rise
 abbrev pub RisesBefore : (before : Option Suspended) → Type 0
 RisesBefore None = ⊤
 RisesBefore (Some p) = Rise p.shadows
@@ -43,7 +43,7 @@ pub record SpellsForm (a : Arena) (before : Option Suspended) (bytes : List ℕ)
   pub stored : IsStored a d
   pub binds : BindsBefore before d
 
--- Behind a state that fits the script: what is read is spelled so, and fits; where nothing is read no state has these bytes; and no
+-- After a state that fits the script: what is read is spelled so, and fits; where nothing is read no state has these bytes; and no
 -- spelling is the front of another one.
 pub record AreFormsExact (a : Arena) (before : Option Suspended) : Type 0 where
   pub exact : (bytes : List ℕ) (d : Suspended) → AreBytes bytes → read_form a before bytes ≡ Some d → SpellsForm a before bytes d

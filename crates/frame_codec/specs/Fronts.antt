@@ -54,14 +54,14 @@ read_first read most bytes = do
 abbrev pub read_first_frames : Arena → (most : ℕ) → Reader (List Frame)
 read_first_frames a most bytes = read_first (read_frame a) most bytes
 
--- reads a shared count, and of the list behind it what of the first so many is not shared
+-- reads a shared count, and of the list after it what of the first so many is not shared
 abbrev pub read_behind : {A : Type 0} → Reader A → (most : ℕ) → Reader (ℕ × List A)
 read_behind read most bytes = do
   shared ← read_u32 bytes
   own ← read_first read (most - shared.0) shared.1
   Some ((min most shared.0, own.0), own.1)
 
--- what bytes say of the first so many of a list behind a shared count
+-- what bytes say of the first so many of a list after a shared count
 abbrev pub told_behind : {A : Type 0} → Reader A → (most : ℕ) → List ℕ → Option (ℕ × List A)
 told_behind read most bytes = value_of (read_behind read most bytes)
 

@@ -12,7 +12,7 @@ pub record Parted : Type 0 where
   pub frames : List ℕ
   pub shadows : List ℕ
 
--- the bytes of the three parts, one behind the other
+-- the bytes of the three parts, one after the other
 abbrev pub whole_of : Parted → List ℕ
 whole_of x = x.env ++ (x.frames ++ x.shadows)
 
@@ -24,7 +24,7 @@ state_parts d = record {
   shadows = list_bytes shadow_bytes d.shadows;
 }
 
--- the parts of a difference: each shared count with what stands behind it, and the bindings
+-- the parts of a difference: each shared count with what stands after it, and the bindings
 abbrev pub delta_parts : Delta → Parted
 delta_parts d = record {
   env = 1 ∷ (u32_bytes d.env_shared ++ values_bytes d.env);

@@ -9,7 +9,7 @@ use Rattle.value_bytes.specs.Reading.{Reader, seen_as, read_several, read_list, 
 use Rattle.machine_states.specs.Machine.{Frame, in_binding, in_operand, in_body, in_seq, in_and, in_or, in_if, in_count, in_store, in_turn, in_isolate, in_call, in_task, bindings_in, node_at, Suspended}
 use Rattle.frame_codec.specs.Walk.{operands_in, frames_fit, shadows_fit}
 
--- reads two things, one behind the other
+-- reads two things, one after the other
 abbrev pub read_both : {A B : Type 0} → Reader A → Reader B → Reader (A × B)
 read_both first second bytes = do
   x ← first bytes
@@ -96,7 +96,7 @@ abbrev pub read_frame : Arena → Reader Frame
 read_frame a [] = None
 read_frame a (kind ∷ rest) = read_kind a kind rest
 
--- so many frames
+-- reads so many frames, one after the other
 abbrev pub read_frames_of : Arena → (count : ℕ) → Reader (List Frame)
 read_frames_of a count bytes = read_several (read_frame a) count bytes
 
@@ -116,7 +116,7 @@ read_shadows bytes = read_list read_shadow bytes
 abbrev pub read_parts : Arena → Reader (List Val × (List Frame × List (ℕ × Val)))
 read_parts a bytes = read_both read_values (read_both (read_list (read_frame a)) (read_list read_shadow)) bytes
 
--- the state of these parts, where it fits the script and no bytes stand behind them
+-- the state of these parts, where it fits the script and no bytes stand after them
 abbrev pub fitting : Arena → Option ((List Val × (List Frame × List (ℕ × Val))) × List ℕ) → Option Suspended
 fitting a None = None
 fitting a (Some (x, [])) =

@@ -23,8 +23,8 @@ turn_bytes n turns done = u32_bytes n ++ 1 ∷ (u64_bytes turns ++ values_bytes 
 abbrev pub name_bytes : TxName → List ℕ
 name_bytes name = u64_bytes name.ticket ++ u32_bytes name.entry
 
--- A frame: a byte for its kind, its node, and which part of the node is worked on; the body of a Let is the part behind its
--- bindings, with none of them done, and that of a task the part behind the operands of the call. The body of a page has no spelling.
+-- A frame: a byte for its kind, its node, and which part of the node is worked on; the body of a Let is the part after its
+-- bindings, with none of them done, and that of a task the part after the operands of the call. The body of a page has no spelling.
 abbrev pub frame_bytes : Frame → List ℕ
 frame_bytes (in_binding n done) = 1 ∷ let_bytes n (length done) done
 frame_bytes (in_body n bound) = 1 ∷ let_bytes n bound []

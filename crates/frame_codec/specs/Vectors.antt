@@ -51,7 +51,7 @@ they_are_read : read_state asks first_page_bytes ≡ Some first_page
 unfolding read_within is_utf8 chars encode
 they_are_read = refl
 
--- nothing stands behind a state
+-- nothing stands after a state
 one_byte_more : read_state asks (first_page_bytes ++ 0 ∷ []) ≡ None
 unfolding read_within is_utf8 chars encode
 one_byte_more = refl
@@ -70,7 +70,7 @@ a_turn_is_read = refl
 a_count : read_frame asks (7 ∷ 3 ∷ 0 ∷ 0 ∷ 0 ∷ 0 ∷ []) ≡ Some (in_count 3, [])
 a_count = refl
 
--- a part of a Let that is neither its body nor behind as many values
+-- a part of a Let that is neither its body nor after as many values
 a_part_that_is_none : read_frame asks (1 ∷ 0 ∷ 0 ∷ 0 ∷ 0 ∷ 2 ∷ 0 ∷ 0 ∷ 0 ∷ 0 ∷ 0 ∷ 0 ∷ 0 ∷ []) ≡ None
 unfolding read_within
 a_part_that_is_none = refl

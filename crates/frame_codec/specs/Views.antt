@@ -46,7 +46,7 @@ let_with n k done = 1 ∷ let_bytes n k (map meaning done)
 abbrev pub call_with : (node part : ℕ) → List Value → List ℕ
 call_with n k values = 10 ∷ let_bytes n k (map meaning values)
 
--- the bytes of frames, one behind the other
+-- the bytes of frames, one after the other
 abbrev pub each_frame : List Frame → List ℕ
 each_frame fs = flat_map frame_bytes (map frame_of fs)
 
@@ -54,7 +54,7 @@ each_frame fs = flat_map frame_bytes (map frame_of fs)
 abbrev pub frames_bytes : List Frame → List ℕ
 frames_bytes fs = list_bytes frame_bytes (map frame_of fs)
 
--- the bytes of bindings of web cells, one behind the other
+-- the bytes of bindings of web cells, one after the other
 abbrev pub each_shadow : List Shadow → List ℕ
 each_shadow ss = flat_map shadow_bytes (map pair_of ss)
 
@@ -72,7 +72,7 @@ IsAround env fs around = map meaning around ≡ spec.env_of (map meaning env) (m
 abbrev pub Enters : Arena → (env : List Value) → Place → Frame → Option Place → Type 0
 Enters a env p f next = option_map place_of next ≡ spec.enters a (map meaning env) (place_of p) (frame_of f)
 
--- the place behind frames from the outermost on, if there is one
+-- the place after frames from the outermost on, if there is one
 abbrev pub WalksTo : Arena → (env : List Value) → List Frame → Option Place → Type 0
 WalksTo a env fs last = option_map place_of last ≡ spec.walk a (map meaning env) spec.outermost (map frame_of fs)
 

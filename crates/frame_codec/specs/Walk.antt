@@ -68,7 +68,7 @@ enters a env p f =
       Some (record { node = part; scope = scope })
     ) else None
 
--- the node and the scope behind frames, the outermost first
+-- the node and the scope after frames, the outermost first
 abbrev pub walk : Arena → List Val → Place → List Frame → Option Place
 walk a env p [] = Some p
 walk a env p (f ∷ fs) = do

@@ -228,7 +228,7 @@ fn env_of<'a>(env: &'a [Value], frames: &'a [Frame]) -> &'a [Value]
     env
 }
 
-// The variables of what the frames behind this one stand in, where those of this one and the others are given. Only behind a
+// The variables of what the frames after this one stand in, where those of this one and the others are given. Only after a
 // task are they looked for again, so a walk looks at each frame once.
 fn env_behind<'a>(
     env: &'a [Value],
@@ -245,7 +245,7 @@ fn env_behind<'a>(
     }
 }
 
-// The node and the scope behind frames, the outermost first.
+// The node and the scope after frames, the outermost first.
 fn walk(script: &Script, env: &[Value], frames: &[Frame]) -> Option<Place>
     ensures { WalksTo script.now env.now frames.now result }
 {

@@ -13,7 +13,7 @@ use script_nodes::Script;
 use script_value::Bytes;
 use std::alloc::{AllocError, Global};
 
-// The state that these bytes spell behind another one.
+// The state that these bytes spell after another one.
 fn decode_behind(
     alloc: Global,
     script: &Script,
@@ -30,7 +30,7 @@ fn decode_behind(
 }
 
 /// The state that these bytes spell in the form that is due, and that fits the script; none where no such state has them: by itself,
-/// or behind the state of the page before.
+/// or after the state of the page before.
 ///
 /// No count in the bytes is trusted.
 pub fn decode_form(

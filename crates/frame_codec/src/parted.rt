@@ -9,7 +9,7 @@ use std::alloc::{AllocError, Global};
 /// The byte before a state that is written by itself.
 pub const ALONE: u8 = 0;
 
-/// The byte before what differs from the state that a state is written behind.
+/// The byte before what differs from the state that a state is written after.
 pub const BEHIND: u8 = 1;
 
 /// A state or a difference as a record has it: the byte of its form, and its spelling, each part of which can be read without the

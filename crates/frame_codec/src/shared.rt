@@ -131,7 +131,7 @@ pub fn front<T>(items: &[T], count: usize) -> &[T]
     }
 }
 
-/// What stands behind the first so many.
+/// What stands after the first so many.
 pub fn behind<T>(items: &[T], count: usize) -> &[T]
     ensures { result.now ≡ drop count items.now }
 {
@@ -142,7 +142,7 @@ pub fn behind<T>(items: &[T], count: usize) -> &[T]
     }
 }
 
-/// Copies of values behind those that are there. Where memory runs out, some of them may stand there.
+/// Copies of values after those that are there. Where memory runs out, some of them may stand there.
 pub fn add_values(alloc: Global, values: &mut Items, more: &[Value]) -> Result<(), AllocError>
     ensures { OnOk result (values.new ≡ values.old ++ map meaning more.now) }
 {
@@ -152,7 +152,7 @@ pub fn add_values(alloc: Global, values: &mut Items, more: &[Value]) -> Result<(
     Ok(())
 }
 
-/// Copies of frames behind those that are there. Where memory runs out, some of them may stand there.
+/// Copies of frames after those that are there. Where memory runs out, some of them may stand there.
 pub fn add_frames(alloc: Global, frames: &mut Vec<Frame>, more: &[Frame]) -> Result<(), AllocError>
     ensures { OnOk result (frames.new.items ≡ frames.old.items ++ more.now) }
 {

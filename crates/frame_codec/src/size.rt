@@ -11,7 +11,7 @@ use value_bytes::values_length;
 // The length that stands for each above it.
 const MOST: u64 = 1 << 63;
 
-// So many bytes, and behind them the values that are done.
+// So many bytes, and after them the values that are done.
 fn with_done(front: u64, done: &Items) -> u64
     ensures { result ≡ min (front + length (values_bytes done.now)) (2 ^ 63) }
 {
@@ -43,7 +43,7 @@ fn frame_length(frame: &Frame) -> u64
     }
 }
 
-/// How long the spellings of frames are, one behind the other; one above 2^63 as 2^63. It takes no memory.
+/// How long the spellings of frames are, one after the other; one above 2^63 as 2^63. It takes no memory.
 #[tactic(auto, using(crate::proofs::Order::frames_more))]
 pub fn frames_length(frames: &[Frame]) -> u64
     ensures { result ≡ min (length (flat_map frame_bytes (map frame_of frames.now))) (2 ^ 63) }

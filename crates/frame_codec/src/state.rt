@@ -13,7 +13,7 @@ use value_bytes::Unread;
 use web_cells::{Shades, Shadow};
 use wire_bytes::Cursor;
 
-/// Cells bound one behind the other.
+/// Cells bound one after the other.
 #[tactic(auto, using(crate::proofs::Shades::one_more))]
 pub fn shades_of(alloc: Global, shadows: Vec<Shadow>) -> Result<Shades, AllocError>
     ensures { IfOk result (λ shades. shades ≡ all_bound (map pair_of shadows.items) []) }

@@ -36,7 +36,7 @@ fn write_part(writer: &mut Writer, kind: u8, node: u32, part: usize) -> Result<(
     writer.u32(part as u32)
 }
 
-// A part of a Let, behind the values of the bindings that are done.
+// A part of a Let, after the values of the bindings that are done.
 fn write_let(writer: &mut Writer, node: u32, part: usize, done: &[Value]) -> Result<(), AllocError>
     requires part { part < 2 ^ 32 }
     requires done { HaveBytes (map meaning done.now) }

@@ -42,7 +42,7 @@ impl<E: Drop> History<E> {
         self.len
     }
 
-    /// Puts an entry behind the others. It takes no memory, and keeps none of the entry.
+    /// Puts an entry after the others. It takes no memory, and keeps none of the entry.
     pub fn push(&mut self, entry: E)
         requires room { length self.old + 1 < 2 ^ 64 }
         ensures behind { self.new ≡ self.old ++ entry ∷ [] }

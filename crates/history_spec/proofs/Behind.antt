@@ -1,4 +1,4 @@
--- What holds of the books behind a history.
+-- What holds of the books after a history.
 use Rattle.std.proofs.Common.{◌≡◌, ◌≤◌, ℕ, Bool, true, false, List, [], ◌∷◌, ◌++◌, Contains, refl, sym, ◌∙◌, ap, subst, inl, inr, arith, append_assoc, nat_le, if◌then◌else◌}
 use Rattle.std.proofs.lemmas.Bool.Decides.{nat_tests}
 use Rattle.std.proofs.lemmas.List.Elements.{Contains-push_cases}
@@ -28,7 +28,7 @@ pub are_sound : BooksBehindAreSound
 are_sound source opened now s es opening good legal =
     let l = led s.book (book_behind source s es) good (leads source opened now s [] es opening legal) in (l.sound, l.later.shelf)
 
--- behind a sweep that was answered
+-- after a sweep that was answered
 settled_clock : (rules : Rules) (b : Book) (tick freed : ℕ) (fate : Fate) → (settle rules b fate (sweep_comes rules b tick)).0 ≡ swept freed → (settle rules b fate (sweep_comes rules b tick)).1.clock ≡ tick
 settled_clock rules b tick freed fate h = grind arith
 

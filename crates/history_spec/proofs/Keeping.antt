@@ -54,7 +54,7 @@ kept_sound source opened now start s coming es opening held =
           held.nonces k ∙ ap (λ (n : ℕ). source (n + k)) given,
     )
 
--- a crash of a book leads to the one behind it
+-- a crash of a book leads to the one after it
 crash_leads : (rules : Rules) (b : Book) (nonce : ℕ) (scripts : List Named) (fate : Fate) → Leads b (step rules b nonce (crash scripts) fate).1
 crash_leads rules b nonce scripts fate =
     let m : Moment = record { rules = rules; nonce = nonce; event = crash scripts; fate = fate } in record { moments = m ∷ []; lawful = (tt, tt); there = refl }

@@ -18,7 +18,7 @@ use Rattle.history_spec.proofs.Members.{contains_mapped}
 use Rattle.history_spec.proofs.Going.{along, is_step, answers_push, lawful_push, leads_more}
 use Rattle.history_spec.proofs.Owing.{IsGiven, left_push, Held, held_none, held_then, IsFresh}
 
--- What stands behind a history.
+-- What stands after a history.
 pub record Well (source : ℕ → ℕ) (s : Shelf) (es : List Entry) : Type 0 where
   pub orderly : IsOrderly (book_behind source s es)
   pub lawful : IsLawfulRun source (events_of es) s

@@ -27,7 +27,7 @@ is_other n m h = grind (arith, nat_tests)
 other_is : (n m : ℕ) → n ≢ m → not (n == m) ≡ true
 other_is n m h = grind (arith, nat_tests)
 
--- what is left of tickets behind an event
+-- what is left of tickets after an event
 pub left_by : (x : Event) (r : Reply) (ts : List Ticket) (t : Ticket) → Contains (tickets_by x r ts) t → (Contains ts t × Spares x t) ⊎ IsGiven x r t
 left_by (take target answer) (taken number nonce) ts t h =
     elim (Contains-push_cases ts (record { target = target; answer = answer; number = number; nonce = nonce }) t h) [ inl old ↦ inl (old, tt) | inr new ↦ inr new ]
@@ -70,7 +70,7 @@ by_caller : (b : Bool) (n m : ℕ) (xs ys : List Ticket) (t : Ticket) → (n == 
 by_caller true n m xs ys t is h = inl (grind (arith, nat_tests), h)
 by_caller false n m xs ys t is h = inr (grind (arith, nat_tests), h)
 
--- what a caller owes behind one entry more
+-- what a caller owes after one entry more
 pub owes_then : (c : ℕ) (t : Ticket) (es : List Entry) (e : Entry) → Owes c t (es ++ e ∷ [])
     → ((e.caller ≡ c) × Contains (tickets_by e.event e.reply (owed_by (own_of c es))) t) ⊎ ((e.caller ≢ c) × Owes c t es)
 owes_then c t es e h =

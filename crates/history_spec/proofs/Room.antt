@@ -57,7 +57,7 @@ room_spares : (rules : Rules) (b : Book) (r : Reply) (inside : List TxName) (o :
 room_spares rules b r inside None h = tt
 room_spares rules b r inside (Some c) h = unless_spares rules.pages b.instances (or_else (too_long rules.journal b c) (full_journal rules.journal b c)) (records r c inside) h
 
--- the same of pages that go for one that is shown behind this
+-- the same of pages that go for one that is shown after this
 abbrev SparesFrom : (limit : ℕ) → List Instance → (gone : List ℕ) → Origin → Type 0
 SparesFrom limit is gone (starts k) = ⊤
 SparesFrom limit is gone (answers k page) = (i : Instance) → instance_at k is ≡ Some i → length gone ≤ (length i.used + 1) - limit

@@ -65,7 +65,7 @@ taken_more ts t drawn h is = (
 still : (ts : List Ticket) (old new : ℕ) → AreTaken ts old → old ≤ new → AreTaken (ts ++ []) new
 still ts old new h later = subst (λ (l : List Ticket). AreTaken l new) (sym (append-nil ts)) (h.0, λ n there. let low = h.1 n there in omega (arith, low, later))
 
--- behind one event, which may give a ticket
+-- after one event, which may give a ticket
 taken_by : (x : Event) (r : Reply) (ts : List Ticket) (old new : ℕ) → AreTaken ts old → old ≤ new
     → ((t : Ticket) → IsGiven x r t → (t.number ≡ old) × (new ≡ old + 1)) → AreTaken (ts ++ given_by x r []) new
 taken_by (take target answer) (taken number nonce) ts old new h later gives =

@@ -10,8 +10,8 @@ use Rattle.history_spec.specs.Histories.{Entry, book_behind, IsLegal}
 abbrev pub IsFollowers : Book → Reply → Type 0
 IsFollowers b r = (r ≡ follower_reply b.down) ⊎ (r ≡ memory)
 
--- Such a shelf answers a take, a compaction and a sweep above its clock so. A sweep to a tick that is over does nothing, and no ticket is
--- there to be published.
+-- A shelf that follows another one's journal gives a take, a compaction and a sweep above its clock this answer. A sweep to a tick that is
+-- over does nothing, and no ticket is there to be published.
 abbrev pub IsAnsweredSo : Book → Event → Reply → Type 0
 IsAnsweredSo b (sweep tick) r = ((tick ≤ b.clock) × (r ≡ swept 0)) ⊎ IsFollowers b r
 IsAnsweredSo b (publish t) r = ⊥

@@ -13,7 +13,7 @@ pub fn histories_go_on()
     ensures { HistoriesGoOn }
 {}
 
-/// The shelf behind one entry more is that of one step.
+/// The shelf after one entry more is that of one step.
 pub fn one_entry_is_a_step()
     ensures { OneEntryIsAStep }
 {}
@@ -33,7 +33,7 @@ pub fn no_number_taken_twice()
     ensures { NoNumberTakenTwice }
 {}
 
-/// Takes are given the nonces of the source in turn, and what is left of it are those behind them.
+/// Takes are given the nonces of the source in turn, and what is left of it are those after them.
 pub fn nonces_come_in_turn()
     ensures { NoncesComeInTurn }
 {}
@@ -58,12 +58,12 @@ pub fn books_behind_are_sound()
     ensures { BooksBehindAreSound }
 {}
 
-/// A crash behind a legal history leaves a book as it may be when its shelf is opened, and the next history goes on from it.
+/// A crash after a legal history leaves a book as it may be when its shelf is opened, and the next history goes on from it.
 pub fn a_crash_opens()
     ensures { ACrashOpens }
 {}
 
-/// The clock never falls, and behind a sweep that was answered it is at the tick, at least.
+/// The clock never falls, and after a sweep that was answered it is at the tick, at least.
 pub fn the_clock_never_falls()
     ensures { TheClockNeverFalls }
 {}
@@ -74,7 +74,7 @@ pub fn closed_is_closed()
     ensures { ClosedIsClosed }
 {}
 
-/// A turn goes on by one entry of its caller or by none, behind what the pass had seen and what others did since.
+/// A turn goes on by one entry of its caller or by none, after what the pass had seen and what others did since.
 pub fn a_turn_goes()
     ensures { ATurnGoes }
 {}
@@ -105,7 +105,7 @@ pub fn kept_goes_on()
 {}
 
 /// Of what is kept between turns the book is orderly, each publish that may come is lawful, and the nonces to come are those
-/// behind the takes.
+/// after the takes.
 pub fn what_is_kept_is_sound()
     ensures { WhatIsKeptIsSound }
 {}

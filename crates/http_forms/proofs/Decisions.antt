@@ -56,7 +56,7 @@ long_head head h =
     let e : nat_lt 16384 (length head) ≡ true = grind (arith, nat_tests) in
     subst (λ (b : Bool). JudgesLines (b || nat_lt 64 (field_lines lines)) lines (Err Head)) (sym e) refl
 
--- a head that is over: what stands behind it decides
+-- a head that is over: what stands after it decides
 more_behind : (n : ℕ) (judged : Result Asked Refused) (behind more : List ℕ) (ended : Bool) (o : Outcome) → o ≡ with_head n judged behind false → (o ≡ unfinished → ⊥)
     → o ≡ with_head n judged (behind ++ more) ended
 more_behind n (Err r) behind more ended o is differs = is
@@ -72,7 +72,7 @@ more_behind n (Ok asked) behind more ended o is differs = by_size (nat_le asked.
 longer : (bytes more : List ℕ) → length bytes ≤ length (bytes ++ more)
 longer bytes more = omega (arith, length-append bytes more)
 
--- an end that comes behind 16,384 bytes is that of a head that is too long
+-- an end that comes after 16,384 bytes is that of a head that is too long
 late : (bytes more : List ℕ) (ended : Bool) (e : Option ℕ) → 16384 ≤ length bytes → head_end bytes ≡ None → head_end (bytes ++ more) ≡ e
     → DecidesAt e (bytes ++ more) ended (refused Head)
 late bytes more ended None h none is = (let l = longer bytes more in sym (refused_long (length (bytes ++ more)) ended (omega arith)))

@@ -30,7 +30,7 @@ none_ends phases.Line = refl
 none_ends phases.LineFeed = refl
 none_ends phases.LineReturn = refl
 
--- a number behind a `suc`
+-- a number after a `suc`
 taken : (e : Option ℕ) (n : ℕ) (P : ℕ → Type 0) → ((k : ℕ) → e ≡ Some k → P (suc k)) → option_map suc e ≡ Some n → P n
 taken None n P f h = absurd (cc)
 taken (Some k) n P f h = (let e : suc k ≡ n = cc in subst P e (f k refl))
@@ -90,7 +90,7 @@ head_inside bytes n h = inside phases.Blank bytes n h
 pub head_stays : (bytes more : List ℕ) (n : ℕ) → head_end bytes ≡ Some n → head_end (bytes ++ more) ≡ Some n
 head_stays bytes more n h = stays phases.Blank bytes more n h
 
--- where the end is not there yet, it comes behind these bytes
+-- where the end is not there yet, it comes after these bytes
 pub head_later : (bytes more : List ℕ) (n : ℕ) → head_end bytes ≡ None → head_end (bytes ++ more) ≡ Some n → length bytes < n
 head_later bytes more n none some = later phases.Blank bytes more n none some
 

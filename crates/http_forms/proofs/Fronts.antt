@@ -9,7 +9,7 @@ use Rattle.http_forms.specs.Request.{Visit, unfinished, refused, visits, without
 use Rattle.http_forms.specs.declared.refused.Refused.TheVariants.{Head, BadRequest}
 use Rattle.http_forms.proofs.Ends.{head_inside, head_stays, head_later}
 
--- a head ends where it does if the bytes behind it are left out, all or some
+-- a head ends where it does if the bytes after it are left out, all or some
 ends_within : (bytes : List ℕ) (n k : ℕ) (e : Option ℕ) → head_end bytes ≡ Some n → n ≤ k → k ≤ length bytes → head_end (take k bytes) ≡ e → e ≡ Some n
 ends_within bytes n k None is le inside at =
     let whole = take-append-drop k bytes in

@@ -68,7 +68,7 @@ more_is_due old new mid first bytes got still decided =
 pub enough : (bytes : List ℕ) → IsDecided bytes → IsEnough bytes false
 enough bytes decided more = absurd (decided.finished (outcomes_are_one bytes false decided.outcome unfinished decided.decides more))
 
--- nor do those behind which the link ended, if there are any
+-- nor do those after which the link ended, if there are any
 enough_ended : (bytes : List ℕ) → IsEnough bytes true
 enough_ended bytes more = by_size (nat_lt 0 (length bytes)) refl
   where
@@ -83,7 +83,7 @@ pub record Says (scanner : RequestScanner) (wanted : ℕ) (shown : List ℕ) : T
   pub decided : wanted ≡ 0 → IsDecided shown
   pub short : (more : List ℕ) → length more < wanted → Decides (shown ++ more) false unfinished
 
--- how far the reading has come: bytes were read behind those that were kept, and the scanner has followed them
+-- how far the reading has come: bytes were read after those that were kept, and the scanner has followed them
 pub record Came (old new : Option (List ℕ)) (first bytes : List ℕ) (scanner : RequestScanner) (wanted before now : ℕ) : Type 0 where
   pub got : Gets old new first [] bytes
   pub prompt : ReadsNoFurther old new first
@@ -141,7 +141,7 @@ nearer mid new bytes after count (piece, more, is, size, end) some still =
     let s : 0 < count = grind (arith, some) in
     omega (arith, b, l, s, size)
 
--- a request is the first of the bytes, and those behind it are kept
+-- a request is the first of the bytes, and those after it are kept
 pub gives_visit : (old new : Option (List ℕ)) (before bytes after : List ℕ) (ended : Bool) (v : Visit) → Gets old new before [] bytes
     → Decides bytes ended (visits v) → after ≡ drop v.length bytes → GivesVisit old new before after v.length (visits v)
 gives_visit old new before bytes after ended v got decided is =

@@ -1,11 +1,11 @@
--- Requests behind one another.
+-- Requests after one another.
 use Rattle.std.proofs.Common.{◌≡◌, ◌-◌, ◌++◌, ◌∷◌, ℕ, List, [], Bool, true, false, length, drop, refl, sym, ap, ◌∙◌, subst}
 use Rattle.std.proofs.Math.Seq.{drop-append_seam}
 use Rattle.http_forms.specs.Request.{Visit, visits, Decides}
 use Rattle.http_forms.specs.Stream.{Stop, closed, closes_at, Behind, Streams}
 use Rattle.http_forms.proofs.Decisions.{requests_stand_alone}
 
--- a request, and then those behind it
+-- a request, and then those after it
 pub streams_more : (left : ℕ) (bytes rest : List ℕ) (ended : Bool) (v : Visit) (vs : List Visit) (stop : Stop)
     → Decides bytes false (visits v) → length bytes ≡ v.length → closes_at left v ≡ false
     → Streams (left - 1) rest ended vs stop → Streams left (bytes ++ rest) ended (v ∷ vs) stop
@@ -16,7 +16,7 @@ streams_more left bytes rest ended v vs stop decided size stays streams =
           (subst (λ (xs : List ℕ). Streams (left - 1) xs ended vs stop) (sym behind) streams),
     )
 
--- a request behind which the link closes
+-- a request after which the link closes
 pub streams_last : (left : ℕ) (bytes rest : List ℕ) (ended : Bool) (v : Visit) → Decides bytes false (visits v) → closes_at left v ≡ true
     → Streams left (bytes ++ rest) ended (v ∷ []) closed
 streams_last left bytes rest ended v decided closes = (

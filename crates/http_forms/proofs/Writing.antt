@@ -1,4 +1,4 @@
--- Texts that are written one behind the other.
+-- Texts that are written one after the other.
 use Rattle.std.proofs.Common.{◌≡◌, ◌≤◌, ◌++◌, ℕ, List, Option, Result, Ok, Err, arith, subst, IsErr}
 use Rattle.std.specs.Io.KnownBytes.{Appends}
 use Rattle.web_outside.specs.Causes.{Rose}
@@ -26,7 +26,7 @@ writes_then old mid new before between after text said more (Err e) is first lat
   cause = record { later = omega (arith, second.cause.later); failed = omega (arith, second.cause.failed) };
 })
 
--- a text that was not, and so nothing behind it
+-- a text that was not, and so nothing after it
 pub writes_no_more : (old new : Option (List ℕ)) (before after : ℕ) (text said more : List ℕ) (r : Result (Unit {0}) Failed) → said ≡ text → IsErr r
     → AppendsPart old new said → before ≤ after → Rose before after → WritesText old new before after (text ++ more) r
 writes_no_more old new before after text said more (Ok t) is h part later rose = absurd (cc)

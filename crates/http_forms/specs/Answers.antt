@@ -16,6 +16,6 @@ binding_of p = list (val (symbol (text_of p.0)) (val (text (text_of p.1)) no_val
 abbrev pub answer_of : (query body : List ℕ) → Val
 answer_of query body = list (vals_of (map binding_of (raw_pairs query) ++ map binding_of (raw_pairs body)))
 
--- the path of a target, and its query behind the first `?`
+-- the path of a target, and its query after the first `?`
 abbrev pub path_and_query : List ℕ → List ℕ × List ℕ
 path_and_query target = split_once 63 target

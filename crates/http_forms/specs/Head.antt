@@ -22,13 +22,13 @@ abbrev pub without_blank : List ℕ → List ℕ
 without_blank [] = []
 without_blank (b ∷ bytes) = if is_line_end b bytes then without_blank bytes else b ∷ bytes
 
--- the length up to the end of the first empty line behind a line: LF LF, or LF CR LF
+-- the length up to the end of the first empty line after a line: LF LF, or LF CR LF
 abbrev pub lines_end : List ℕ → Option ℕ
 lines_end [] = None
 lines_end (b ∷ bytes) =
     option_map suc (if is_line_feed b then option_or (empty_line bytes) (lines_end bytes) else lines_end bytes)
 
--- the length of a head, which ends with the first empty line behind its first line; empty lines before that line belong to it
+-- the length of a head, which ends with the first empty line after its first line; empty lines before that line belong to it
 abbrev pub head_end : List ℕ → Option ℕ
 head_end [] = None
 head_end (b ∷ bytes) = if is_line_end b bytes then option_map suc (head_end bytes) else lines_end (b ∷ bytes)

@@ -8,7 +8,7 @@ abbrev pub OutcomesAreOne : Type 0
 OutcomesAreOne = (bytes : List ℕ) (ended : Bool) (o p : Outcome) → Decides bytes ended o → Decides bytes ended p → o ≡ p
 
 -- What bytes come to that are not unfinished, they come to whatever follows them and wherever the link ends. So no request is
--- the front of another one, and no byte behind a request changes it.
+-- the front of another one, and no byte after a request changes it.
 abbrev pub RequestsStandAlone : Type 0
 RequestsStandAlone =
     (bytes more : List ℕ) (ended : Bool) (o : Outcome) → Decides bytes false o → (o ≡ unfinished → ⊥) → Decides (bytes ++ more) ended o

@@ -91,7 +91,7 @@ message code closes media_type body = first_lines code media_type ++ length_and_
 abbrev pub page_message : (closes : Bool) → List ℕ → List ℕ
 page_message closes bytes = message status.Ok closes (codes "text/html") bytes
 
--- a word, behind which stands a newline, is sent as plain text
+-- a word, after which stands a newline, is sent as plain text
 abbrev pub word_message : Status → (closes : Bool) → List ℕ → List ℕ
 word_message code closes bytes = message code closes (codes "text/plain") (bytes ++ codes "\n")
 

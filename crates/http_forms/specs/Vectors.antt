@@ -98,7 +98,7 @@ pub answered_verdict : head_verdict (Some answered) ≡ Ok asked
 unfolding httparse_on_literals
 answered_verdict = refl
 
--- what stands behind the body is not read
+-- what stands after the body is not read
 pub answered_request : with_head 40 (Ok asked) (codes "n=2&n=3") false
     ≡ visits (record {
       destination = Some (page (codes "all") (record { shelf = 0; instance = 0; page = 0; nonce = 0 }));

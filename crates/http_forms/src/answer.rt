@@ -19,7 +19,7 @@ pub(crate) fn split_once(byte: u8, bytes: &[u8]) -> (&[u8], &[u8])
     }
 }
 
-/// The path of a target, and its query behind the first `?`.
+/// The path of a target, and its query after the first `?`.
 pub fn path_and_query(target: &[u8]) -> (&[u8], &[u8])
     ensures path { result.0.now ≡ (spec.path_and_query target.now).0 }
     ensures query { result.1.now ≡ (spec.path_and_query target.now).1 }
@@ -38,7 +38,7 @@ fn binding(alloc: Global, name: &str, value: &str) -> Result<Value, AllocError>
     Ok(Value::List(pair))
 }
 
-// Puts the pairs of a form behind the bindings, in order.
+// Puts the pairs of a form after the bindings, in order.
 fn push_pairs(alloc: Global, bindings: &mut Items, pairs: &[u8]) -> Result<(), AllocError>
     ensures { OnOk result
         (bindings.new ≡ bindings.old ++ map spec.binding_of (form.raw_pairs pairs.now)) }

@@ -20,7 +20,7 @@ enum Phase {
     LineReturn,
 }
 
-// The phase behind one more byte, if the head does not end with it.
+// The phase after one more byte, if the head does not end with it.
 fn step(phase: Phase, byte: u8) -> Option<Phase>
     ensures { (more : List ℕ) → end_from phase (byte ∷ more) ≡ end_behind result more }
 {
@@ -52,8 +52,8 @@ impl HeadScanner {
         }
     }
 
-    /// The length of the head that the bytes begin with, once they hold its end. Only bytes behind those that were passed
-    /// over before are looked at. Without an end all of the bytes are passed over, and the search goes on behind them.
+    /// The length of the head that the bytes begin with, once they hold its end. Only bytes after those that were passed
+    /// over before are looked at. Without an end all of the bytes are passed over, and the search goes on after them.
     pub fn find(&mut self, bytes: &[u8]) -> Option<usize>
         requires { StandsIn self.old bytes.now }
         ensures end { result ≡ spec.head_end bytes.now }
@@ -71,7 +71,7 @@ impl HeadScanner {
     }
 }
 
-/// The length of the head that the bytes begin with, up to and with the first empty line behind its first line; empty
+/// The length of the head that the bytes begin with, up to and with the first empty line after its first line; empty
 /// lines before that line belong to it. `None` where the bytes do not hold the head's end.
 pub fn head_end(bytes: &[u8]) -> Option<usize>
     ensures end { result ≡ spec.head_end bytes.now }
@@ -80,7 +80,7 @@ pub fn head_end(bytes: &[u8]) -> Option<usize>
     HeadScanner::new().find(bytes)
 }
 
-/// The bytes behind the empty lines that stand before the first line.
+/// The bytes after the empty lines that stand before the first line.
 pub(crate) fn without_blank(bytes: &[u8]) -> &[u8]
     ensures { result.now ≡ spec.without_blank bytes.now }
 {

@@ -6,17 +6,17 @@ pub fn outcomes_are_one()
 {}
 
 /// What bytes come to that are not unfinished, they come to whatever follows them and wherever the link ends. So no
-/// request is the front of another one, and no byte behind a request changes it.
+/// request is the front of another one, and no byte after a request changes it.
 pub fn requests_stand_alone()
     ensures { RequestsStandAlone }
 {}
 
-/// A request has no more bytes than were read, and is just the first of them, so the next one of the link may begin behind it.
+/// A request has no more bytes than were read, and is just the first of them, so the next one of the link may begin after it.
 pub fn requests_are_fronts()
     ensures { RequestsAreFronts }
 {}
 
-/// Bytes behind which a link ended are a request or refused.
+/// Bytes after which a link ended are a request or refused.
 pub fn ended_links_are_decided()
     ensures { EndedLinksAreDecided }
 {}

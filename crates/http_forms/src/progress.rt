@@ -96,8 +96,8 @@ impl RequestScanner {
     }
 
     /// How many more bytes may be read without reading past the request, 0 where the bytes are a request or refused.
-    /// Behind the end of a head that is all that the body still wants. The bytes are those of the last call, with others
-    /// behind them.
+    /// After the end of a head that is all that the body still wants. The bytes are those of the last call, with others
+    /// after them.
     pub fn wanted(&mut self, bytes: &[u8]) -> usize
         requires { Follows self.old bytes.now }
         ensures decided { result ≡ 0 → IsDecided bytes.now }

@@ -55,7 +55,7 @@ pub enum Incoming {
     Nothing,
 }
 
-// Reads a piece behind the bytes, none only at the end. Gives how many.
+// Reads a piece after the bytes, none only at the end. Gives how many.
 fn read_more<S: Source>(source: &mut S, bytes: &mut Vec<u8>) -> Result<usize, ReadStop>
     ensures read { ReadsMore (S.view source.old).left
         (S.view source.new).left bytes.old.items bytes.new.items result }
@@ -69,7 +69,7 @@ fn read_more<S: Source>(source: &mut S, bytes: &mut Vec<u8>) -> Result<usize, Re
     Ok(count)
 }
 
-// Reads on until the bytes are a request or refused, or the link ends. Says whether it ended behind them.
+// Reads on until the bytes are a request or refused, or the link ends. Says whether it ended after them.
 fn fill<S: Source>(
     source: &mut S,
     scanner: &mut RequestScanner,
@@ -113,7 +113,7 @@ fn judge(
     }
 }
 
-// Moves the bytes behind the first so many to the front.
+// Moves the bytes after the first so many to the front.
 fn remove_front(bytes: &mut Vec<u8>, count: usize)
     requires { count ≤ length bytes.old.items }
     ensures { bytes.new.items ≡ drop count bytes.old.items }
@@ -123,7 +123,7 @@ fn remove_front(bytes: &mut Vec<u8>, count: usize)
     bytes.truncate(left);
 }
 
-/// Reads the requests of a link, one behind the other. It reads in pieces, and keeps what it read past a request for the next.
+/// Reads the requests of a link, one after the other. It reads in pieces, and keeps what it read past a request for the next.
 #[derive(Drop)]
 pub struct RequestReader {
     pub(crate) bytes: Vec<u8>,
@@ -139,7 +139,7 @@ impl RequestReader {
         }
     }
 
-    /// The next request of the link, behind which the reader stands then; or why the bytes that come next are refused, which
+    /// The next request of the link, after which the reader stands then; or why the bytes that come next are refused, which
     /// it goes on to keep; or nothing, where the link ended. It reads nothing where what it keeps tells already.
     pub fn next<S: Source>(&mut self, alloc: Global, source: &mut S) -> Result<Incoming, ReadStop>
         ensures next { Nexts (S.view source.old).left (S.view source.new).left

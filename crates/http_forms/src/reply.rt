@@ -43,7 +43,7 @@ fn allow(status: Status) -> &'static str
     }
 }
 
-// Writes three pieces, one behind the other.
+// Writes three pieces, one after the other.
 fn write_three<O: Sink>(
     sink: &mut O,
     first: &[u8],
@@ -151,7 +151,7 @@ fn write_answer<O: Sink>(sink: &mut O, closes: bool, answer: &Answer) -> Result<
     }
 }
 
-/// Writes the answer, whole or as far as the sink takes it, and hands it on. It says whether the connection is closed behind
+/// Writes the answer, whole or as far as the sink takes it, and hands it on. It says whether the connection is closed after
 /// it. It takes no memory.
 pub fn write_reply<O: Sink>(answer: &Answer, closes: bool, sink: &mut O) -> Result<(), Failed>
     ensures ok { OnOk result (Appends (O.view sink.old).written (O.view sink.new).written

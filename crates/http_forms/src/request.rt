@@ -24,7 +24,7 @@ pub struct Request {
     pub answer: Value,
     /// How many bytes the request has, its head and its body.
     pub length: usize,
-    /// Whether the connection closes behind it: its version is 1.0, or it says so.
+    /// Whether the connection closes after it: its version is 1.0, or it says so.
     pub closes: bool,
 }
 
@@ -78,7 +78,7 @@ fn request_for(
     })
 }
 
-// What a head and the bytes behind it come to.
+// What a head and the bytes after it come to.
 fn with_head(
     alloc: Global,
     head: ReadHead,
@@ -122,7 +122,7 @@ impl RequestScanner {
 }
 
 /// The request that the bytes read from a link are, `ended` where the link has no more of them. `None` where it is
-/// unfinished, so that more bytes are to be read. No byte behind the request is looked at.
+/// unfinished, so that more bytes are to be read. No byte after the request is looked at.
 ///
 /// Of the causes for a refusal that hold, the answer names the first in this order: the bytes end before the head does;
 /// the head is too long or has too many lines; it is outside the grammar; at version 1.1 it has not exactly one Host; it has

@@ -91,7 +91,7 @@ fn lacks_host(minor: u8, lines: &[u8], headers: &[HeaderSpan]) -> bool
     minor == 1 && !is_one(find(lines, headers, "Host"))
 }
 
-// Whether the connection closes behind the request.
+// Whether the connection closes after the request.
 fn closes_by(minor: u8, lines: &[u8], headers: &[HeaderSpan]) -> bool
     requires { All (IsHeaderWithin (length lines.now)) headers.now }
     ensures { result ≡ spec.closes_by minor (map (header_bytes lines.now) headers.now) }
@@ -166,7 +166,7 @@ pub(crate) fn judge(head: &[u8]) -> Result<Asked, Refused>
     head_verdict(lines)
 }
 
-/// The length of the body behind a whole head, or the first row of the table of refusals that the head decides.
+/// The length of the body after a whole head, or the first row of the table of refusals that the head decides.
 pub fn body_length(head: &[u8]) -> Result<u32, Refused>
     ensures { Measures head.now result }
 {

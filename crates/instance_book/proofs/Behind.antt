@@ -27,7 +27,7 @@ alone_behind s h [] d k none kept = kept.form
 alone_behind s h (q ∷ older) d k none kept =
     subst (λ (n : ℕ). IsKeptBy (Some kept.0) n d k.form) (sym kept.1.1.links_are ∙ none) kept.1.1.form
 
--- at more links it is kept behind that of the page before
+-- at more links it is kept after that of the page before
 record Behind (s : Named) (h : Source Home) (older : List Page) (d : Suspended) (k : Kept) (n : ℕ) : Type 0 where
   parent : Page
   rest : List Page
@@ -99,7 +99,7 @@ module _ (law : EachPageHasOneState) (s : Named) (a : Arena) (script : IsScript 
     pub no_page : AreStatesOf s ps p → (number : ℕ) → p.item.parent ≡ Some number → None ≡ page_at number (pages_of ps) → ⊥
     no_page has number is none = absurd (let found : None ≡ Some (behind_of has).parent = none ∙ parent_at has number is in cc)
 
-    -- the page before has its state, behind which this one's is kept
+    -- the page before has its state, after which this one's is kept
     module _ (x : Numbered KeptPage) (number : ℕ) (is : p.item.parent ≡ Some number) (page : Some (page_of x) ≡ page_at number (pages_of ps))
         (shown : Some (shown_of x) ≡ at_number (λ y. y.0.number) number (shown_in ps)) where
       pub parent_has : AreStatesOf s ps p → AreStatesOf s ps x

@@ -21,7 +21,7 @@ use Rattle.instance_book.specs.Places.{shown_of}
 use Rattle.instance_book.proofs.Orders.{Ascends, rises, ascends}
 use Rattle.instance_book.proofs.Lists.{within}
 
--- what stands behind a reference that may be none
+-- what stands after a reference that may be none
 copied : {A B : Type 0} (f : A → B) (r : Option (Bor A)) → option_map (λ v. f v.now) r ≡ option_map f (option_copied r)
 copied f None = refl
 copied f (Some x) = refl

@@ -2,7 +2,7 @@
 use Rattle.std.specs.Prelude.{◌≡◌, ℕ, ◌<◌, ◌≤◌, List, length, map, slice_index, Result, IfOk, IfErr}
 use Rattle.instance_book.specs.declared.numbered.Numbered.{Numbered}
 
--- each number is below those behind it
+-- each number is below those after it
 abbrev pub Rises : List ℕ → Type 0
 Rises ns = (j k : ℕ) → j < k → k < length ns → slice_index ns j < slice_index ns k
 

@@ -111,13 +111,13 @@ source_in s shelf n = seen_from (λ number. home s number n) shelf
 abbrev pub IsGiven : Named → (ℕ → Option Suspended) → (number : ℕ) → Suspended → Type 0
 IsGiven s states n d = (states n ≡ Some d) × IsStored (arena_of s.script) d
 
--- The state of a page behind these ancestors, the nearest first. That of its chain is kept of the script that shows the page over its
+-- The state of a page after these ancestors, the nearest first. That of its chain is kept of the script that shows the page over its
 -- ancestors' answers and its own, with what was read recorded.
 abbrev pub IsStateAt : Named → Source Home → List spec.Page → spec.Page → Suspended → Type 0
 IsStateAt s (own h) older p d = IsStateOf (arena_of s.script) (page_tape h (reverse older) p) d
 IsStateAt s (given states) older p d = IsGiven s states p.number d
 
--- Of the state of a page behind these ancestors this is kept: that of a root by itself, and each other one as its links say, by
+-- Of the state of a page after these ancestors this is kept: that of a root by itself, and each other one as its links say, by
 -- itself or as what differs from the state of the page before.
 abbrev pub IsKeptBehind : Named → Source Home → List spec.Page → Suspended → Kept → Type 0
 IsKeptBehind s h [] d k = IsKeptFrom None 0 d k

@@ -27,7 +27,7 @@ pub struct Show {
 }
 
 impl KeptInstance {
-    // The cells and the closed transactions behind a segment.
+    // The cells and the closed transactions after a segment.
     fn leave(&mut self, after: After)
         ensures instance { Becomes (left_with after) self.old self.new }
         ensures script { self.new.script ≡ self.old.script }
@@ -39,7 +39,7 @@ impl KeptInstance {
         }
     }
 
-    /// The instance behind a segment of this number that answered this page and ended.
+    /// The instance after a segment of this number that answered this page and ended.
     pub fn end(&mut self, page: u64, number: u64, after: After)
         ensures instance { Becomes (ended_with page number after) self.old self.new }
         ensures script { self.new.script ≡ self.old.script }
@@ -60,7 +60,7 @@ impl KeptInstance {
         }
     }
 
-    /// The instance behind a segment that showed a page, for which these went.
+    /// The instance after a segment that showed a page, for which these went.
     pub fn show(&mut self, show: Show, gone: &[u64])
         requires { CanShow show gone.now self.old }
         ensures instance { Becomes (shown_with show gone.now) self.old self.new }

@@ -14,7 +14,7 @@ pub struct Opening {
     pub page: Numbered<KeptPage>,
     /// The state of the page, for its record.
     pub state: Suspended,
-    /// The instance behind the segment, with room for the page.
+    /// The instance after the segment, with room for the page.
     pub instance: KeptInstance,
 }
 

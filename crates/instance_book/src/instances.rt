@@ -67,7 +67,7 @@ impl InOrder<KeptInstance> {
             .retain(|instance| !instance.item.pages.all_over(tick));
     }
 
-    /// The instances where that of a number is behind a segment of another number that answered this page and ended.
+    /// The instances where that of a number is after a segment of another number that answered this page and ended.
     pub fn end(&mut self, instance: u64, page: u64, number: u64, after: After)
         ensures instances { AllBecome
             (mend instance (ended_with page number after)) self.old self.new }
@@ -80,7 +80,7 @@ impl InOrder<KeptInstance> {
         }
     }
 
-    /// The instances where that of a number is behind a segment that showed a page, for which these went.
+    /// The instances where that of a number is after a segment that showed a page, for which these went.
     pub fn show(&mut self, instance: u64, show: Show, gone: &[u64])
         requires { CanShowAt instance show gone.now self.old }
         ensures instances { AllBecome

@@ -55,7 +55,7 @@ impl Book {
         self.instances.show(instance, show, &record.evicted);
     }
 
-    // An instance behind a segment that ended.
+    // An instance after a segment that ended.
     fn end(&mut self, ending: Ending)
         ensures book { MakesUnder
             (λ library. changed_by library (Some (Ends ending))) self.old self.new }

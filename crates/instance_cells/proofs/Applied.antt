@@ -1,4 +1,4 @@
--- The cells as they are behind one effect more.
+-- The cells as they are after one effect more.
 use Rattle.std.proofs.Common.{◌≡◌, ℕ, List, [], ◌∷◌, ◌++◌, map, Result, Ok, Err, OnOk, OnErr, refl, sym, ap, ◌∙◌}
 use Rattle.std.specs.Prelude.{slice_set, ℤ}
 use Rattle.std.proofs.lemmas.List.{map-append}

@@ -52,7 +52,7 @@ pub fn clone_effects(alloc: Global, effects: &[Effect]) -> Result<Vec<Effect>, A
     Ok(copies)
 }
 
-/// A cell's value behind some effects: one that is kept somewhere, or a sum.
+/// A cell's value after some effects: one that is kept somewhere, or a sum.
 #[derive(Clone, Copy, Drop)]
 pub enum Seen<'v> {
     Here(&'v Value),
@@ -87,7 +87,7 @@ pub fn sum(seen: Seen, n: i64) -> Result<i64, Fault>
     }
 }
 
-// The cell's value behind one more effect, or none where the effect does not stand.
+// The cell's value after one more effect, or none where the effect does not stand.
 fn turn<'v>(cell: usize, effect: &'v Effect, seen: Seen<'v>) -> Option<Seen<'v>>
     ensures { Turns cell (effect_of effect.now) (seen_of seen.entry) result }
 {
@@ -116,7 +116,7 @@ fn turn<'v>(cell: usize, effect: &'v Effect, seen: Seen<'v>) -> Option<Seen<'v>>
     }
 }
 
-/// Whether the effects on this cell stand over its value, one behind the other.
+/// Whether the effects on this cell stand over its value, one after the other.
 pub fn holds_at(cell: usize, start: &Value, effects: &[Effect]) -> bool
     ensures { IsTrue result ↔ HoldsAt cell (map effect_of effects.now) (meaning start.now) }
 {

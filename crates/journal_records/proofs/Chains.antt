@@ -10,7 +10,7 @@ use Rattle.value_bytes.proofs.Turns.{with_front, one_more}
 use Rattle.journal_records.specs.Records.{texts_of}
 use Rattle.journal_records.specs.Reading.{is_nothing}
 
--- ---- pieces, one behind the other
+-- ---- pieces, one after the other
 
 pub onto : (a x b y : List ℕ) → b ≡ a ++ x → b ++ y ≡ a ++ (x ++ y)
 onto a x b y e = ap (λ (l : List ℕ). l ++ y) e ∙ append_assoc a x y
@@ -49,7 +49,7 @@ pushed view read n i old new x bytes rest whole e h r w =
 
 -- ---- a setup
 
--- the script of a place stands before those behind it
+-- the script of a place stands before those after it
 pub text_here : (scripts : List Named) (i : ℕ) (s : Named) → slice_get scripts i ≡ Some s
     → drop i (texts_of scripts) ≡ (s.name, s.text) ∷ drop (suc i) (texts_of scripts)
 text_here [] i s e = absurd cc

@@ -1,4 +1,4 @@
--- Lists whose count no fewer bytes stand behind are none.
+-- Lists whose count no fewer bytes stand after are none.
 use Rattle.std.proofs.Common.{◌≡◌, ℕ, List, length, None, refl, arith}
 use Rattle.std.proofs.lemmas.List.{length-append}
 use Rattle.instance_cells.specs.Cells.{read, set, add}

@@ -69,7 +69,7 @@ effect_back (read c v) rest fits = ap (seen_as (read c)) (value_codec.law.back v
 effect_back (set c v) rest fits = ap (seen_as (set c)) (value_codec.law.back v rest fits.1)
 effect_back (add c n) rest fits = ap (seen_as (add c)) (i64_exact.back n rest fits.1)
 
--- behind the kind and the cell
+-- after the kind and the cell
 effect_spells : (kind c : ℕ) (bytes : List ℕ) (e : Effect) (rest : List ℕ) → AreBytes bytes → c < 256 → read_effect_of kind c bytes ≡ Some (e, rest)
     → Spells effect_bytes EffectFits (kind ∷ c ∷ bytes) e rest
 effect_spells kind c bytes e rest small below h =

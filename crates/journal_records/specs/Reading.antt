@@ -12,7 +12,7 @@ use Rattle.value_bytes.specs.Reading.{Reader, seen_as, read_list, read_i64, read
 use Rattle.journal_records.specs.Fields.{Origin, start, answered, numbers_end, deadlines_end}
 use Rattle.journal_records.specs.Records.{Record, begins, changes, renews, draws, follows, promotes, Page}
 
--- reads one thing, and another behind it
+-- reads one thing, and another after it
 infixr 10 ◌then◌
 abbrev pub ◌then◌ : {A B : Type 0} → Reader A → Reader B → Reader (A × B)
 ◌then◌ first second bytes = do
@@ -234,7 +234,7 @@ read_front bytes = do
   kind ← read_u8 bytes
   read_kind kind.0 kind.1
 
--- what was read, where no bytes stand behind it
+-- what was read, where no bytes stand after it
 abbrev pub alone : {A : Type 0} → Option (A × List ℕ) → Option A
 alone None = None
 alone (Some (x, [])) = Some x

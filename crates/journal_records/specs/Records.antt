@@ -62,11 +62,11 @@ extension_page e state = record {
   state = state;
 }
 
--- effects, one behind the other, behind their count
+-- effects, one after the other, after their count
 abbrev pub effects_bytes : List Effect → List ℕ
 effects_bytes es = list_bytes effect_bytes es
 
--- the names of transactions that were left, one behind the other, behind their count
+-- the names of transactions that were left, one after the other, after their count
 abbrev pub names_bytes : List TxName → List ℕ
 names_bytes ts = list_bytes name_bytes ts
 
@@ -221,11 +221,11 @@ IsTextLength scripts place n = IfSome (slice_get (texts_of scripts) place) (λ t
 abbrev pub FitFrom : (place : ℕ) → List Named → Type 0
 FitFrom place scripts = AllByRecursion ScriptFits (drop place (texts_of scripts))
 
--- the bytes of the names and the texts of scripts, one behind the other
+-- the bytes of the names and the texts of scripts, one after the other
 abbrev pub each_text : List Named → List ℕ
 each_text scripts = flat_map script_bytes (texts_of scripts)
 
--- the bytes of the names and the texts of scripts from a place on, one behind the other
+-- the bytes of the names and the texts of scripts from a place on, one after the other
 abbrev pub each_text_from : (place : ℕ) → List Named → List ℕ
 each_text_from place scripts = flat_map script_bytes (drop place (texts_of scripts))
 

@@ -19,7 +19,7 @@ abbrev pub front_of : List (List ℕ) → List (List ℕ)
 front_of [] = []
 front_of (body ∷ bodies) = if is_role body then body ∷ front_of bodies else []
 
--- the bodies behind those: the one that a journal begins with, and the others
+-- the bodies after those: the one that a journal begins with, and the others
 abbrev pub behind_front : List (List ℕ) → List (List ℕ)
 behind_front [] = []
 behind_front (body ∷ bodies) = if is_role body then behind_front bodies else body ∷ bodies
@@ -36,11 +36,11 @@ drawn = body_of (draws 3)
 in_front : front_of (body_of follows ∷ body_of promotes ∷ drawn ∷ []) ≡ body_of follows ∷ body_of promotes ∷ []
 in_front = refl
 
--- behind the records that a shelf followed, and follows no longer, stands the rest of its journal
+-- after the records that a shelf followed, and follows no longer, stands the rest of its journal
 behind : behind_front (body_of follows ∷ body_of promotes ∷ drawn ∷ []) ≡ drawn ∷ []
 behind = refl
 
--- the record that a shelf follows no longer is in no front where it stands behind others
+-- the record that a shelf follows no longer is in no front where it stands after others
 not_in_front : behind_front (body_of follows ∷ drawn ∷ body_of promotes ∷ drawn ∷ []) ≡ drawn ∷ body_of promotes ∷ drawn ∷ []
 not_in_front = refl
 

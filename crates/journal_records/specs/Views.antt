@@ -38,7 +38,7 @@ texts_in scripts = map script_of scripts.items
 abbrev pub effects_in : Vec Effect → List cells.Effect
 effects_in effects = map effect_of effects.items
 
--- the names and the texts of a setup, one behind the other, behind their count
+-- the names and the texts of a setup, one after the other, after their count
 abbrev pub setup_bytes : List Named → List ℕ
 setup_bytes scripts = list_bytes spec.script_bytes (texts_of scripts)
 

@@ -24,7 +24,7 @@ use wire_bytes::Cursor;
 const NEWEST: u8 = 6;
 
 /// The record whose body this is in a journal of this format; none where it is the body of no record of the format. No count in it
-/// makes anything grow beyond the bytes behind it.
+/// makes anything grow beyond the bytes after it.
 ///
 /// A page of format 1 has no bytes of its state, and the newest format alone tells the pages that went for one, and whether the shelf
 /// follows another one's journal.

@@ -111,7 +111,7 @@ fn write_record(writer: &mut Writer, record: &Recorded<'_>) -> Result<(), AllocE
     }
 }
 
-// The names and the texts of a setup, behind their count.
+// The names and the texts of a setup, after their count.
 fn write_setup(writer: &mut Writer, setup: &Setup) -> Result<(), AllocError>
     requires { FitsList ScriptFits (texts_of (scripts_of setup.now)) }
     ensures { OnOk result (writer.new ≡ writer.old ++ setup_bytes (scripts_of setup.now)) }
@@ -120,7 +120,7 @@ fn write_setup(writer: &mut Writer, setup: &Setup) -> Result<(), AllocError>
     write_scripts(writer, setup)
 }
 
-// The names and the texts of a setup, behind their count.
+// The names and the texts of a setup, after their count.
 #[tactic(auto, using(crate::proofs::Sizes::text_more))]
 fn scripts_length(setup: &Setup) -> u64
     ensures { result ≡ min (length (setup_bytes (scripts_of setup.now))) (2 ^ 63) }
@@ -132,7 +132,7 @@ fn scripts_length(setup: &Setup) -> u64
     sum
 }
 
-// The scripts of a setup, one behind the other.
+// The scripts of a setup, one after the other.
 fn write_scripts(writer: &mut Writer, setup: &Setup) -> Result<(), AllocError>
     requires { AllByRecursion ScriptFits (texts_of (scripts_of setup.now)) }
     ensures { OnOk result (writer.new ≡ writer.old ++ each_text (scripts_of setup.now)) }
@@ -143,7 +143,7 @@ fn write_scripts(writer: &mut Writer, setup: &Setup) -> Result<(), AllocError>
     Ok(())
 }
 
-// The script of a place, in front of those behind it.
+// The script of a place, in front of those after it.
 fn write_place(writer: &mut Writer, setup: &Setup, place: usize) -> Result<(), AllocError>
     requires within { place < length (scripts_of setup.now) }
     requires fit { FitFrom place (scripts_of setup.now) }

@@ -28,7 +28,7 @@ pub fn can_begin(shelf: u32, setup: &Setup) -> bool
     true
 }
 
-// Whether the script of a place can be written, in front of those behind it.
+// Whether the script of a place can be written, in front of those after it.
 fn place_fits(setup: &Setup, place: usize) -> bool
     requires { place < length (scripts_of setup.now) }
     ensures { FitFrom place (scripts_of setup.now)

@@ -52,7 +52,7 @@ alone_unread before (Some s) (Some bytes) e = absurd (some (read_alone (arena_of
     some None f = let no : ⊥ = cc in no
     some (Some d) f = let no : ⊥ = cc in no
 
--- ---- what a state binds that is written behind another
+-- ---- what a state binds that is written after another
 
 all_bind : (ps ss : List (ℕ × Val)) → list_all (λ (s : ℕ × Val). is_some (binding s.0 ss)) ps ≡ true → BindsAllOf ps ss
 all_bind [] ss h c none = refl

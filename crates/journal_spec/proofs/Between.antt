@@ -128,7 +128,7 @@ landed_makes : (texts : Texts) (shelf : ℕ) (bodies : List (List ℕ)) (rules :
 landed_makes texts shelf bodies rules b d c None up makes = (makes, refl)
 landed_makes texts shelf bodies rules b d c (Some doubt) up makes = absurd (let no : ⊥ = cc in no)
 
--- what is in doubt is spelled in the book behind an event that landed nothing, as in the book before it
+-- what is in doubt is spelled in the book after an event that landed nothing, as in the book before it
 told_still : (b d : Book) (c : Change) → IsMoved b d → state_told d c ≡ state_told b c
 told_still b d c moved = ap (λ (y : Book). state_told y c) moved ∙ moved_told b d.drawn d.out d.down c
 

@@ -74,7 +74,7 @@ pub record Walked (P : Made → Option Record → Type 0) (same owned : Type 0) 
   pub small : same → AreAllBytes (map body_in es)
   pub own : owned → HoldEntries P es k
 
--- what holds of an entry that is written behind others
+-- what holds of an entry that is written after others
 record Next (P : Made → Option Record → Type 0) (same owned : Type 0) (sure : List ℕ → Type 0) (texts : Texts) (top : ℕ) (x : Entry) (k j : Made) : Type 0 where
   is : then_entry x k ≡ j
   taken : IsTakenEntry k x
@@ -105,7 +105,7 @@ pub record IsWritten (sure : List ℕ → Type 0) (m : Made) (c : Change) (state
   pub read : sure body → read_record body ≡ Some (changes c state)
   pub told_so : told_in m.earlier m.book c state ≡ x
 
--- What holds of a format's records, behind which what was made has this: a setup is told as in the newest format; a change that lands can be written
+-- What holds of a format's records, after which what was made has this: a setup is told as in the newest format; a change that lands can be written
 -- in that; and its body is then as it was, if this is so.
 pub record Rewrites (f : ℕ) (same : Type 0) (sure : List ℕ → Type 0) (ls : List Instance) (texts : Texts) (e : Made) (Has : Made → Type 0) : Type 0 where
   pub reads : Reads f ls texts Has

@@ -78,8 +78,8 @@ first_is f texts fed shelf place n later bodies m (Some (begins s named)) is =
     by_setup None here = absurd (no_book f texts shelf later bodies place m here)
     by_setup (Some scripts) here = by_test scripts (s == shelf) refl here
 
--- what bodies tell behind what was made of those before them, of which together a book is made of a shelf that does not follow another one's
--- journal: where the record stands that its journal begins with, and what stands behind that
+-- what bodies tell after what was made of those before them, of which together a book is made of a shelf that does not follow another one's
+-- journal: where the record stands that its journal begins with, and what stands after that
 pub record Starting (In : Made → Option Record → Type 0) (f : ℕ) (texts : Texts) (shelf gate : ℕ) (all : List (List ℕ)) (x : Making) : Type 0 where
   pub fed : Bool
   pub place : ℕ
@@ -120,7 +120,7 @@ module _ (In : Made → Option Record → Type 0) (f : ℕ) (texts : Texts) (she
         own = λ held. subst (HoldFrom In f texts shelf later bodies) so held.1;
       }
 
-  -- it stands behind this one, which tells of a role
+  -- it stands after this one, which tells of a role
   begins_later : (gate : ℕ) (body : List ℕ) (bodies : List (List ℕ)) (x y : Making) → ((ls : List Instance) → entry_in f ls texts x body ≡ []) → is_role body ≡ true
       → with_body_at f texts shelf gate body x ≡ y → Starting In f texts shelf (gate + 5 + length body) bodies y → Starting In f texts shelf gate (body ∷ bodies) x
   begins_later gate body bodies x y none role is s =
@@ -191,7 +191,7 @@ module _ (In : Made → Option Record → Type 0) (f : ℕ) (texts : Texts) (she
       by_record (Some (draws number)) read = plainly (Some (draws number)) read refl
       by_record (Some promotes) read = plainly (Some promotes) read refl
 
--- what stands behind the first record, and behind one that tells of a compaction
+-- what stands after the first record, and after one that tells of a compaction
 record Second (In : Made → Option Record → Type 0) (f : ℕ) (ls : List Instance) (texts : Texts) (shelf place : ℕ) (bodies : List (List ℕ)) (first e : Made) : Type 0 where
   from : Made
   later : ℕ
@@ -286,7 +286,7 @@ module _ (P : Made → Option Record → Type 0) (same owned : Type 0) (sure : L
   abbrev is : List Instance
   is = m.book.instances
 
-  -- the book behind the copies is the one that was compacted, but for its length and its file
+  -- the book after the copies is the one that was compacted, but for its length and its file
   made_again : Walked P same owned sure is texts m es start → let k = entries_after (entries_joined es) start in
       (size : ℕ) (file : File) → k.book.length ≡ size → k.book.file ≡ file → k.book ≡ record m.book { length = size; file = file; follows = false }
   made_again w size file size_is file_is =
@@ -390,7 +390,7 @@ pub record Starts (shelf : ℕ) (scripts : List Named) (Has : Made → Type 0) :
   pub begins : (fed : Bool) (place n : ℕ) → Has (began fed shelf place n scripts)
   pub drawn : (fed : Bool) (place n number : ℕ) → Has (with_drawn number (began fed shelf place n scripts))
 
--- it holds of the first records behind which bodies of this format make the book
+-- it holds of the first records after which bodies of this format make the book
 abbrev pub AtStart : (f : ℕ) → Texts → (shelf : ℕ) → (e : Made) → (Has : Made → Type 0) → Type 0
 AtStart f texts shelf e Has =
     (from : Made) (later : ℕ) (rest : List (List ℕ)) → AreAllBytes rest → made_in (with_bodies_at f texts shelf later rest (made from)) ≡ Some e → Starts shelf from.book.scripts Has

@@ -83,7 +83,7 @@ module _ (texts : Texts) (shelf : ℕ) where
   IsAhead waited = ⊥
   IsAhead _ = ⊤
 
-  -- a body with this record, behind what was made
+  -- a body with this record, after what was made
   abbrev Agrees : (place n : ℕ) → (alone led : Making) → Type 0
   Agrees place n alone led = (led ≡ Fed alone) × IsAhead alone
 
@@ -287,7 +287,7 @@ module _ (texts : Texts) (shelf : ℕ) where
   damaged_stays place [] p = refl
   damaged_stays place (body ∷ bodies) p = damaged_stays (place + 5 + length body) bodies p
 
-  -- bodies behind others
+  -- bodies after others
   behind : (place : ℕ) (front bodies : List (List ℕ)) (x : Making) → (later : ℕ) × (with_bodies texts shelf place (front ++ bodies) x ≡ with_bodies texts shelf later bodies (with_bodies texts shelf place front x))
   behind place [] bodies x = (place, refl)
   behind place (f ∷ front) bodies x = behind (place + 5 + length f) front bodies (with_body texts shelf place f x)

@@ -129,7 +129,7 @@ all_made texts shelf place (renewed scripts n ∷ ls) m ss taken written g whole
     subst (λ (x : Making). IsMade (with_bodies texts shelf (place + 5 + length body) (map (λ (y : Line × List ℕ). y.1) (with_spelled ls next)) x) (lines_after ls next))
     (sym same) rest
 
--- behind the first record alone
+-- after the first record alone
 begun_made : (texts : Texts) (shelf place : ℕ) (ls : List Line) (m : recovery.Made) (ss : States) → AreTaken ls m → AreWritten texts ls m → IsOrderlyMade m → HasWholeScripts m.book
     → HasOwnStates (record { seen = m.seen; states = ss }) m.book
     → IsMade (with_bodies texts shelf place (map (λ (x : Line × List ℕ). x.1) (with_spelled ls m)) (begun (with_states ss m))) (lines_after ls m)

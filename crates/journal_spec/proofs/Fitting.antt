@@ -190,7 +190,7 @@ start_fits x format all texts shelf body (Some promotes) e are = tt
 start_fits x format all texts shelf body (Some follows) e are =
     (refl, λ bytes. let long : length body ≡ 1 = ap length (x.alike format body follows (are bytes) e tt).spelled in omega (arith, long))
 
--- the record behind that
+-- the record after that
 fed_fits : (all : Type 0) (texts : Texts) (shelf place : ℕ) (body : List ℕ) (o : Option Record) → FitsMaking all texts shelf (place + 5 + length body) (fed_by texts shelf place (length body) o)
 fed_fits all texts shelf place body None = tt
 fed_fits all texts shelf place body (Some (begins s named)) = first_fits true all texts shelf place body (Some (begins s named))

@@ -72,7 +72,7 @@ stands_first texts rules scripts shelf e given begins = record {
 pub rules_over : (texts : Texts) (shelf : ℕ) (m : Moment) (b : Book) → Standing texts shelf b → IsMet texts shelf m b → m.rules.journal ≡ Some (journal_rules b.shelf)
 rules_over texts shelf m b h met = met.journal ∙ ap (λ (n : ℕ). Some (journal_rules n)) (sym h.is_shelf)
 
--- and of the book behind an event
+-- and of the book after an event
 pub stands_next : (texts : Texts) (shelf : ℕ) (m : Moment) (b : Book) → Standing texts shelf b → IsLawful m.event b → IsMet texts shelf m b → Standing texts shelf (then_book m b)
 stands_next texts shelf m b h lawful met =
     let at = rules_over texts shelf m b h met in

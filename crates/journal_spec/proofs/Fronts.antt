@@ -194,7 +194,7 @@ fronts_are x format texts shelf bodies bytes = (nothing_is (front_is format text
     waited_is (inr (inr (inl (is, at)))) here = is
     waited_is (inr (inr (inr past))) here = absurd (none (book_of_format format texts shelf bodies) waited here past (λ front. front))
 
--- ---- a journal that begins behind them
+-- ---- a journal that begins after them
 
 both_waited : AreRecordsExact → (texts : Texts) (shelf : ℕ) (bodies : List (List ℕ)) → book_of texts shelf (body_of follows ∷ body_of promotes ∷ bodies) ≡ with_bodies texts shelf 20 bodies waited
 both_waited x texts shelf bodies =

@@ -51,7 +51,7 @@ use Rattle.journal_spec.proofs.Appending.{IsAppended, event_appends}
 use Rattle.journal_spec.proofs.Setups.{same_setup, bodies_fed, bodies_unfed, crashed_book, crash_again}
 use Rattle.journal_spec.proofs.Taking.{IsNew, moved_in, there, told_after, used_then, IsMadeOf, follow_by}
 
--- ---- the body of a change that would be taken makes the book behind it
+-- ---- the body of a change that would be taken makes the book after it
 
 abbrev Makes : Texts → (shelf : ℕ) → List (List ℕ) → Book → Earlier → Type 0
 Makes texts shelf bodies b earlier = made_in (book_of texts shelf bodies) ≡ Some (made_of b earlier)
@@ -312,7 +312,7 @@ nothing_more texts shelf bodies b keeps =
 quiet_more : (texts : Texts) (shelf : ℕ) (bodies more : List (List ℕ)) (b : Book) → KeepsWith texts shelf bodies more b → KeepsWith texts shelf bodies (more ++ []) b
 quiet_more texts shelf bodies more b h = subst (λ (bs : List (List ℕ)). KeepsWith texts shelf bodies bs b) (sym (append-nil more)) h
 
--- a crash that gives a setup, behind one by which the setup stays
+-- a crash that gives a setup, after one by which the setup stays
 crash_kept : AreRecordsExact → (texts : Texts) (shelf : ℕ) (bodies more : List (List ℕ)) (rules : Rules) (b : Book) (nonce : ℕ) (scripts : List Named) (fate : Fate) → AreOver rules shelf
     → IsGiven texts scripts → Keeps texts shelf bodies b → KeepsWith texts shelf bodies more (step rules b nonce (crash b.scripts) fate).1
     → (step rules b nonce (crash b.scripts) fate).1.follows ≡ b.follows

@@ -39,7 +39,7 @@ with_push_at format texts shelf place (first ∷ bodies) body m =
     with_push_at format texts shelf (place + 5 + length first) bodies body (with_body_at format texts shelf place first m)
     ∙ ap (λ (n : ℕ). with_body_at format texts shelf n body rest) (behind_first place first bodies)
 
--- behind the book of a shelf that does not follow the record of a change, and that of a setup, does not ask whether the book is the first
+-- after the book of a shelf that does not follow the record of a change, and that of a setup, does not ask whether the book is the first
 -- record's
 next_made : (texts : Texts) (shelf place : ℕ) (body : List ℕ) (x : Making) (m : Made) (r : Record) → made_in x ≡ Some m → m.book.follows ≡ false → read_record body ≡ Some r
     → second_by texts place (length body) m (Some r) ≡ next_by texts place (length body) m (Some r)

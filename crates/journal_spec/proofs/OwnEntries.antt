@@ -131,7 +131,7 @@ landed_entries (e ∷ es) k taken = (landed_entry k e taken.0, landed_entries es
 
 -- ---- bodies of entries
 
--- a fact of the record of each of these bodies, behind what those before it make
+-- a fact of the record of each of these bodies, after what those before it make
 abbrev pub EachFrom : (Made → Option Record → Type 0) → Texts → (shelf place : ℕ) → List (List ℕ) → Making → Type 0
 EachFrom P texts shelf place [] x = ⊤
 EachFrom P texts shelf place (body ∷ bodies) x =

@@ -50,19 +50,19 @@ own_by b d c (told s) same own = same ∙ own
 
 -- ---- entries
 
--- a fact of the record of an entry, behind what was made
+-- a fact of the record of an entry, after what was made
 abbrev pub HoldsEntry : (Made → Option Record → Type 0) → Made → Entry → Type 0
 HoldsEntry P k (tells c state body) = P k (Some (changes c state))
 HoldsEntry P k (settles scripts body) = (named : List (List ℕ × List ℕ)) → P k (Some (renews named))
 
--- a fact of each of these entries, behind those before it
+-- a fact of each of these entries, after those before it
 abbrev pub HoldEntries : (Made → Option Record → Type 0) → List Entry → Made → Type 0
 HoldEntries P [] k = ⊤
 HoldEntries P (e ∷ es) k = HoldsEntry P k e × HoldEntries P es (then_entry e k)
 
 -- ---- bodies of a format
 
--- a fact of the record of a body, behind what was made
+-- a fact of the record of a body, after what was made
 abbrev pub HoldsAt : (Made → Option Record → Type 0) → (format : ℕ) → Making → List ℕ → Type 0
 HoldsAt P format (begun m) body = P m (read_record_in format body)
 HoldsAt P format (made m) body = P m (read_record_in format body)
@@ -90,7 +90,7 @@ module _ (P : Made → Option Record → Type 0) (format : ℕ) (texts : Texts) 
   held_at front rest body (damaged place) is reach = tt
   held_at front rest body (other place) is reach = tt
 
-  -- it holds of those behind a front of a file, where it does of each of the file
+  -- it holds of those after a front of a file, where it does of each of the file
   pub held_from : (front bodies : List (List ℕ)) (place : ℕ) (x : Making) → all ≡ front ++ bodies
       → ((bs : List (List ℕ)) → with_bodies_at format texts shelf 8 (front ++ bs) nothing ≡ with_bodies_at format texts shelf place bs x) → HoldFrom P format texts shelf place bodies x
   held_from front [] place x is reach = tt

@@ -96,7 +96,7 @@ names_cells s w =
     let a = arena_of s.script in
     subst (λ (z : Script). AllOnCells (length s.script.web) (length s.script.cells) (trees_of z)) (sym w.means) (script_on_cells a w.script)
 
--- ---- what a page's state is written behind
+-- ---- what a page's state is written after
 
 -- where each page has the state of its chain, its cells rise
 before_rises : (s : Named) → IsWhole s → (links : ℕ) (h : Home) (qs : List Page) → RisesBefore (behind_at links (chain_tape h qs >>= state_over s.script))
@@ -111,7 +111,7 @@ before_rises s w (suc n) h (q ∷ qs) = by_state (state_over s.script t) refl
     by_state None e = tt
     by_state (Some p) e = (kept_shadows (arena_of s.script) w.script t p (is_state_over s.script t p e)).rise
 
--- and each cell that it binds is bound behind it
+-- and each cell that it binds is bound after it
 pub before_binds : (s : Named) → IsWhole s → (links : ℕ) (h : Home) (qs : List Page) (y : Answer) (d : Suspended) → state_over s.script (tape_of h qs y) ≡ Some d
     → BindsBefore (behind_at links (chain_tape h qs >>= state_over s.script)) d
 before_binds s w zero h qs y d e = tt
@@ -181,7 +181,7 @@ given_extension : (x : Extension) (state : Option (List ℕ)) → ChangeFits (ex
 given_extension x None h = absurd h
 given_extension x (Some bytes) h = tt
 
--- what is told of a change's page is the state that its script leaves, where it is written behind such a state
+-- what is told of a change's page is the state that its script leaves, where it is written after such a state
 own_read : (b : Book) (c : Change) → HasWholeScripts b → CanBeWritten b c → told_by (own_before b c) (script_for b c) (state_told b c) ≡ own_told b c
 own_read b (opens o) whole can =
     read_start (slice_get b.scripts o.script) (λ s. tape_for (opening_visit b o s) (recorded (reads_of o.effects))) (λ s at. whole.setup o.script s at) can.state

@@ -65,7 +65,7 @@ stays_then texts shelf b v0 v1 only_now s no_new time =
 pub stands_then : (texts : Texts) (shelf : ℕ) (b : Book) (v0 v1 : View) → (s : Stands texts shelf v0 b) → NoNewImage v0 v1 → (t : Stands texts shelf v1 b) × (t.0 ≡ s.0)
 stands_then texts shelf b v0 v1 s no_new = ((s.0, (s.1.0, λ image left. s.1.1 image (no_new image left))), refl)
 
--- a run behind a call that leaves no new image, on a file whose records stand closed
+-- a run after a call that leaves no new image, on a file whose records stand closed
 closed_then : {texts : Texts} {shelf : ℕ} {a b : Book} (f : ℕ) (bodies : List (List ℕ)) (v0 v1 v2 : View) → OnlyNow v0 → ((image : List ℕ) → v0.images image → IsClosed f bodies image)
     → NoNewImage v0 v1 → Elapses v0 v1 → (k : Between texts shelf a b) → k.format ≡ f → k.bodies ≡ bodies → LeavesOnly v1 v2 (Held k) → LeavesOnly v0 v2 (Held k)
 closed_then f bodies v0 v1 v2 only_now closed no_new time k format these run =
@@ -170,7 +170,7 @@ opening_stays texts shelf scripts v0 v1 v2 b counts stays found throughout befor
     })
     (found before after k held)
 
--- a record is added, or a file gives place to another, behind what makes room for it
+-- a record is added, or a file gives place to another, after what makes room for it
 pub written : (f : ℕ) (bodies : List (List ℕ)) (texts : Texts) (shelf : ℕ) (before after : Book) (v0 v1 v2 : View) (t : Flight) → OnlyNow v0 → ((image : List ℕ) → v0.images image → IsClosed f bodies image)
     → (k : Between texts shelf before after) → Carries f bodies t k → NoNewImage v0 v1 → Elapses v0 v1 → LeavesOnly v1 v2 (Hold f bodies t) → Throughout texts shelf before after v0 v2
 written f bodies texts shelf before after v0 v1 v2 t only_now closed k carries no_new time run =

@@ -1,4 +1,4 @@
--- The record of an event is none that is passed over, and makes the book behind it, on any orderly book.
+-- The record of an event is none that is passed over, and makes the book after it, on any orderly book.
 use Rattle.std.proofs.Common.{◌≡◌, ℕ, ◌+◌, ◌==◌, ◌<◌, List, [], ◌∷◌, ◌++◌, Option, Some, None, Bool, not, filter, length, false, refl, sym, ap, subst, ◌∙◌, inl, ⊎_elim, slice_get, arith}
 use Rattle.std.specs.Prelude.{nat_lt, if◌then◌else◌, ⊤}
 use Rattle.std.proofs.lemmas.Bool.Decides.{nat_tests}
@@ -226,7 +226,7 @@ pub land_own : (rules : Rules) (shelf : ℕ) (b : Book) (c : Change) (inside : L
     → reopened (land rules c inside b) ≡ reopened (land (of_length (length (own_body b c))) c inside b)
 land_own rules shelf b c inside over h = land_long rules shelf (length (own_body b c)) b c inside over (own_length shelf b c h)
 
--- the record of what was landed would be taken, and makes the book behind the event; it was landed on a shelf that does not follow
+-- the record of what was landed would be taken, and makes the book after the event; it was landed on a shelf that does not follow
 abbrev pub IsMadeOf : Book → (seen : List ℕ) → Option Change → Book → Type 0
 IsMadeOf b seen None d = reopened d ≡ reopened b
 IsMadeOf b seen (Some c) d =

@@ -41,7 +41,7 @@ use Rattle.journal_spec.specs.Laws.{OwnStatesAreTold}
 use Rattle.journal_spec.proofs.Makings.{with_push}
 use Rattle.journal_spec.proofs.Retaken.{held_fits, landing_is, retaken_orderly, filed_orderly}
 
--- ---- what a change's page is written behind
+-- ---- what a change's page is written after
 
 same_by : {A B : Type 0} (o : Option A) (f g : A → Option B) → ((x : A) → o ≡ Some x → f x ≡ g x) → (o >>= f) ≡ (o >>= g)
 same_by None f g h = refl
@@ -479,7 +479,7 @@ own_made (other p) m is h = absurd (let no : ⊥ = cc in no)
 pub own_are_told : OwnStatesAreTold
 own_are_told texts shelf bodies m is own = (own_made (book_of texts shelf bodies) m is (all_making texts shelf bodies [] bodies own refl tt)).1
 
--- what a change's page is written behind is then an own state
+-- what a change's page is written after is then an own state
 pub own_before_of : (earlier : Earlier) (b : Book) (o : Option Change) → HasOwnStates earlier b → IsOwnBefore earlier b o
 own_before_of earlier b None h = tt
 own_before_of earlier b (Some c) h = own_before_is earlier b c h

@@ -210,7 +210,7 @@ onward_self m = record {
   told = λ i used. refl;
 }
 
--- instances stand as they stood behind a record that lands
+-- instances stand as they stood after a record that lands
 landed_since : (m : Made) (c : Change) (inside names : List TxName) → IsOrderlyMade (plain m) → landing m c inside ≡ Some names
     → Since (Unseen m.earlier.seen) m.book.instances (instances_by m.book.scripts c names m.book.instances)
 landed_since m c inside names g f =

@@ -1,4 +1,4 @@
--- What records told earlier, and what the state of a record's page is written behind.
+-- What records told earlier, and what the state of a record's page is written after.
 use Rattle.std.specs.Prelude.{ℕ, ◌==◌, List, [], ◌∷◌, length, Option, Some, None, if◌then◌else◌}
 use Rattle.replay_spec.specs.Book.{Change, extends, Book, chain, reopened}
 use Rattle.replay_spec.specs.Admission.{◌>>=◌, Place}
@@ -42,7 +42,7 @@ plain m = record { book = m.book; seen = m.earlier.seen }
 abbrev pub links_behind : Place → ℕ
 links_behind at = links_at (length (chain at.instance.pages at.page))
 
--- The state that a record's page is written behind, where each page has this one: that of the page that is answered, if the links
+-- The state that a record's page is written after, where each page has this one: that of the page that is answered, if the links
 -- ask for it.
 abbrev pub before_by : (Place → Option Suspended) → Book → Change → Option Suspended
 before_by state b (extends x) = do
@@ -50,6 +50,6 @@ before_by state b (extends x) = do
   behind_at (links_behind at) (state at)
 before_by state b _ = None
 
--- the state that a record's page is written behind, as records told it earlier
+-- the state that a record's page is written after, as records told it earlier
 abbrev pub before_told : Earlier → Book → Change → Option Suspended
 before_told earlier b c = before_by (λ at. state_at at.page.number earlier.states) b c

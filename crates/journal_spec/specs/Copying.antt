@@ -52,7 +52,7 @@ abbrev pub entries_after : List Entry → Made → Made
 entries_after [] m = m
 entries_after (e ∷ es) m = entries_after es (then_entry e m)
 
--- the bytes that the newest format has of a page's state, where this is told of it, behind the state that it is written behind
+-- the bytes that the newest format has of a page's state, where this is told of it, after the state that it is written after
 abbrev pub bytes_now : (before : Option Suspended) → Option (List ℕ) → Told → Option (List ℕ)
 bytes_now before state (told d) = Some (form_bytes before d)
 bytes_now before state _ = state
@@ -71,7 +71,7 @@ abbrev pub settled_by : (body : List ℕ) → Option (List Named) → List Entry
 settled_by body None = []
 settled_by body (Some scripts) = settles scripts body ∷ []
 
--- the entry of a body of this format behind what was made, if it stays in the compacted file of a book with these instances
+-- the entry of a body of this format after what was made, if it stays in the compacted file of a book with these instances
 abbrev pub entry_by : (format : ℕ) → List Instance → Texts → Made → (body : List ℕ) → Option Record → List Entry
 entry_by format is texts m body (Some (changes c state)) =
     if is_some (landing_of format m c (told_of format m c state)) && stays_in is c
@@ -79,13 +79,13 @@ entry_by format is texts m body (Some (changes c state)) =
 entry_by format is texts m body (Some (renews named)) = settled_by body (texts named)
 entry_by format is texts m body _ = []
 
--- the entry of a body behind what records make, if they make a book and it stays
+-- the entry of a body after what records make, if they make a book and it stays
 abbrev pub entry_in : (format : ℕ) → List Instance → Texts → Making → (body : List ℕ) → List Entry
 entry_in format is texts (begun m) body = entry_by format is texts m body (read_record_in format body)
 entry_in format is texts (made m) body = entry_by format is texts m body (read_record_in format body)
 entry_in format is texts _ body = []
 
--- the entries of these bodies that stay, the gate of the first at this place, behind what records make
+-- the entries of these bodies that stay, the gate of the first at this place, after what records make
 abbrev pub entries : (format : ℕ) → List Instance → Texts → (shelf place : ℕ) → List (List ℕ) → Making → List Entry
 entries format is texts shelf place [] x = []
 entries format is texts shelf place (body ∷ bodies) x =
@@ -106,7 +106,7 @@ abbrev pub first_body_of : List (List ℕ) → List ℕ
 first_body_of [] = []
 first_body_of (body ∷ bodies) = body
 
--- the body of the record that a journal begins with, behind those that tell whether the shelf follows another one's journal
+-- the body of the record that a journal begins with, after those that tell whether the shelf follows another one's journal
 abbrev pub begin_in : List (List ℕ) → List ℕ
 begin_in bodies = first_body_of (behind_front bodies)
 

@@ -30,7 +30,7 @@ RecoveriesFindOne {D} view =
     × ((scripts : List Named) → opened_on shelf scripts (book_in_bytes texts shelf (view disk).seen) ≡ Some m
     → IsOneOf texts shelf scripts (view disk) m.book)
 
--- A recovery, and behind it a call that stands between the book that was found and the one with the setup that the shelf is opened with,
+-- A recovery, and after it a call that stands between the book that was found and the one with the setup that the shelf is opened with,
 -- leave the disk between the two books that it stood between, or one of these and it with that setup. A recovery alone does so too.
 abbrev pub OpeningsStay : {D : Type 0} → (D → View) → Type 0
 OpeningsStay {D} view =

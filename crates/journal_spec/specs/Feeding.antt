@@ -35,14 +35,14 @@ FollowersMakeTheBook =
     (texts : Texts) (shelf : ℕ) (bodies : List (List ℕ)) → AreAllBytes bodies
     → book_of texts shelf (body_of follows ∷ feed_of bodies) ≡ fed_with shelf (book_of texts shelf (feed_of bodies))
 
--- What bodies make with one more is what that one makes, whose gate stands behind them.
+-- What bodies make with one more is what that one makes, whose gate stands after them.
 abbrev pub OneBodyMore : Type 0
 OneBodyMore =
     (texts : Texts) (shelf : ℕ) (bodies : List (List ℕ)) (body : List ℕ)
     → book_of texts shelf (bodies ++ body ∷ []) ≡ with_body texts shelf (8 + length (frames bodies)) body (book_of texts shelf bodies)
 
 -- A shelf that follows is promoted by one body more, which makes the same book, but for the length of its file and that it follows no longer;
--- where it knows of no record, its own journal may begin behind that.
+-- where it knows of no record, its own journal may begin after that.
 abbrev pub PromotionsMakeTheBook : Type 0
 PromotionsMakeTheBook =
     (texts : Texts) (shelf : ℕ) (bodies : List (List ℕ))
@@ -83,7 +83,7 @@ FrontsAreThese =
     × ((s : ℕ) → book_of_format format texts shelf bodies ≡ waits s → (bodies ≡ body_of follows ∷ []) × (s ≡ shelf))
     × (book_of_format format texts shelf bodies ≡ waited → bodies ≡ body_of follows ∷ body_of promotes ∷ [])
 
--- Behind these two a journal begins as in a file of its own: with the empty book of its setup, in a file that is 12 bytes longer.
+-- After these two a journal begins as in a file of its own: with the empty book of its setup, in a file that is 12 bytes longer.
 abbrev pub LaterJournalsAreKept : Type 0
 LaterJournalsAreKept =
     (texts : Texts) (shelf : ℕ) (rules : Rules) (scripts : List Named) → AreOver rules shelf → IsGiven texts scripts

@@ -90,7 +90,7 @@ abbrev pub told_bodies : Event → Book → List (List ℕ)
 told_bodies (crash scripts) b = opening_bodies scripts b
 told_bodies _ b = []
 
--- the bodies of the records that an event leaves behind those of a file, with the states that its scripts leave
+-- the bodies of the records that an event leaves after those of a file, with the states that its scripts leave
 abbrev pub left_bodies : Rules → Book → Event → Fate → List (List ℕ)
 left_bodies rules b event fate = landed_bodies b (lands rules b event fate) ++ told_bodies event b
 

@@ -34,7 +34,7 @@ IsNoBegin _ = ⊤
 -- The record that a journal of this shelf begins with, whose names and texts are read as a setup, makes an empty book of that setup; one of
 -- another shelf number makes the journal another shelf's. Where the names and texts are no setup, and where the record is any other, the
 -- journal is damaged there. At the start of a file, and there alone, another record may stand before it, which tells that the shelf follows
--- another one's journal; and directly behind that one, and there alone, one that tells that it follows no longer.
+-- another one's journal; and directly after that one, and there alone, one that tells that it follows no longer.
 abbrev pub OnlyItsBeginBegins : Type 0
 OnlyItsBeginBegins =
     (texts : Texts) (fed : Bool) (shelf place n : ℕ)
@@ -83,7 +83,7 @@ ACrashIsLostOrKept =
     → MakesIn texts shelf image (step rules b nonce (crash b.scripts) lost).1
     ⊎ MakesIn texts shelf image (step rules b nonce (crash b.scripts) kept).1
 
--- Whichever setup a shelf is opened with behind a crash, its book is that of the event crash, what was in doubt lost or kept.
+-- Whichever setup a shelf is opened with after a crash, its book is that of the event crash, what was in doubt lost or kept.
 abbrev pub CrashesOpen : Type 0
 CrashesOpen =
     (shelf : ℕ) (rules : Rules) (b : Book) (nonce n : ℕ) (scripts : List Named) → AreOver rules shelf → MeasuresDoubt rules n b
@@ -179,7 +179,7 @@ LandingsStandBetween =
 -- The bodies of the records that an event leaves, with the states that its scripts leave, make of the journal's book the book after the
 -- event, also where what was in doubt is kept at a crash, and where a crash gives another setup; where it leaves none, the same bodies make
 -- it. The book can go on. Where the states of the journal are own ones, they go on to be; and none of the records is passed over. What a
--- change's page is written behind has to be an own state; a change that answers no page is written behind none.
+-- change's page is written after has to be an own state; a change that answers no page is written after none.
 abbrev pub EventsAreKept : Type 0
 EventsAreKept =
     (texts : Texts) (shelf : ℕ) (bodies : List (List ℕ)) (rules : Rules) (b : Book) (nonce : ℕ) (event : Event) (fate : Fate)
@@ -189,7 +189,7 @@ EventsAreKept =
     → KeepsWith texts shelf bodies (left_bodies rules b event fate) (step rules b nonce event fate).1
 
 -- Where the body of the record that an event leaves is in flight, a disk stands between the book before the event and the book after
--- it with what is in doubt then kept, which the rules measure as its body is long. A setup that a crash gives is told behind it.
+-- it with what is in doubt then kept, which the rules measure as its body is long. A setup that a crash gives is told after it.
 abbrev pub EventsStandBetween : Type 0
 EventsStandBetween =
     (texts : Texts) (shelf : ℕ) (bodies : List (List ℕ)) (rules : Rules) (b : Book) (nonce : ℕ) (event : Event) (fate : Fate)

@@ -54,7 +54,7 @@ own_state shelf at = do
   t ← chain_tape (home at.instance.script shelf at.instance.number) (chain at.instance.pages at.page)
   state_over at.instance.script.script t
 
--- the state that a change's page is written behind, where each page has the one that its script left
+-- the state that a change's page is written after, where each page has the one that its script left
 abbrev pub own_before : Book → Change → Option Suspended
 own_before b c = before_by (own_state b.shelf) b c
 
@@ -72,7 +72,7 @@ abbrev pub is_shallow_state : Suspended → Bool
 is_shallow_state d =
     list_all is_shallow d.env && (list_all is_shallow_frame d.frames && list_all (λ (s : ℕ × Val). is_shallow s.1) d.shadows)
 
--- the bytes of a state behind another one; none where a value nests too deep for a record to tell it
+-- the bytes of a state after another one; none where a value nests too deep for a record to tell it
 abbrev pub told_bytes : (before : Option Suspended) → Suspended → Option (List ℕ)
 told_bytes before d = if is_shallow_state d then Some (form_bytes before d) else None
 

@@ -17,7 +17,7 @@ Texts = List (List ℕ × List ℕ) → Option (List Named)
 
 -- What records make: nothing, where there are none; a shelf of this number that follows another one's journal, and knows of no record of
 -- that; no more than that the shelf followed so, and follows no longer; the book of the record that a journal begins with, where none
--- stands behind it; a book, as after a crash; damage, where at this place stands no record that a shelf writes there; or the journal is of
+-- stands after it; a book, as after a crash; damage, where at this place stands no record that a shelf writes there; or the journal is of
 -- another shelf.
 pub data Making : Type 0 where
   nothing waited : Making
@@ -43,7 +43,7 @@ abbrev pub waiting : (shelf : ℕ) → Made
 waiting shelf = in_file true 15 (beside nothing_told (first_of shelf (first_file 0 [])))
 
 -- The book that a file of this setup alone makes. The gate of the record of the setup, whose body is so long, is at this place: four bytes
--- of length stand behind it, and another gate behind the body. Where it is the first record 8 bytes stand before it.
+-- of length stand after it, and another gate after the body. Where it is the first record 8 bytes stand before it.
 abbrev pub began : (fed : Bool) → (shelf place length : ℕ) → List Named → Made
 began fed shelf place n scripts = in_file fed (place + 6 + n) (beside nothing_told (first_of shelf (first_file (14 + n) scripts)))
 
@@ -62,7 +62,7 @@ abbrev pub start_by : Texts → (shelf place length : ℕ) → Option Record →
 start_by texts shelf place n (Some follows) = waits shelf
 start_by texts shelf place n r = first_by texts false shelf place n r
 
--- what a record makes directly behind that
+-- what a record makes directly after that
 abbrev pub fed_by : Texts → (shelf place length : ℕ) → Option Record → Making
 fed_by texts shelf place n (Some promotes) = waited
 fed_by texts shelf place n r = first_by texts true shelf place n r
@@ -78,7 +78,7 @@ abbrev pub next_setup : (place length : ℕ) → Made → Option (List Named) �
 next_setup place n m None = damaged place
 next_setup place n m (Some scripts) = made (beside m.earlier (resettled n scripts (plain m)))
 
--- the book of a shelf that followed, and follows no longer, behind the record of this length that tells so
+-- the book of a shelf that followed, and follows no longer, after the record of this length that tells so
 abbrev pub promoted : (length : ℕ) → Made → Made
 promoted n m = in_file false (m.book.length + (n + 5)) m
 

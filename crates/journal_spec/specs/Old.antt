@@ -25,20 +25,20 @@ abbrev pub binds_before : (before : Option Suspended) → Suspended → Bool
 binds_before None d = true
 binds_before (Some p) d = list_all (λ (s : ℕ × Val). is_some (binding s.0 d.shadows)) p.shadows
 
--- the state that these bytes spell by itself, if it is one that can be written behind this state
+-- the state that these bytes spell by itself, if it is one that can be written after this state
 abbrev pub read_alone : Arena → (before : Option Suspended) → List ℕ → Option Suspended
 read_alone a before bytes = do
   d ← read_state a bytes
   when (binds_before before d) d
 
--- what the bytes of a state tell of a page of this script, where they are the state's alone, and it is to be written behind that one
+-- what the bytes of a state tell of a page of this script, where they are the state's alone, and it is to be written after that one
 abbrev pub told_alone : (before : Option Suspended) → Option Named → Option (List ℕ) → Told
 told_alone before None state = unread
 told_alone before (Some s) None = misread
 told_alone before (Some s) (Some bytes) = told_as (read_alone (arena_of s.script) before bytes)
 
 -- What is told of the state of a record's page in this format. In format 2 it is the state's bytes alone; later formats tell the form too,
--- and write a state behind that of the page before.
+-- and write a state after that of the page before.
 abbrev pub told_at : (format : ℕ) → Earlier → Book → Change → Option (List ℕ) → Told
 told_at format earlier b c state =
     if format == 2 then told_alone (before_told earlier b c) (script_for b c) state else told_in earlier b c state

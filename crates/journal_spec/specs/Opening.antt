@@ -33,7 +33,7 @@ first_body scripts shelf = body_of (begin_of shelf scripts)
 abbrev pub renewal_body : List Named → List ℕ
 renewal_body scripts = body_of (renewal_of scripts)
 
--- the body that tells this setup behind that one, if it has other names or texts
+-- the body that tells this setup after that one, if it has other names or texts
 abbrev pub renewal_bodies : (scripts before : List Named) → List (List ℕ)
 renewal_bodies scripts before = if are_same scripts before then [] else renewal_body scripts ∷ []
 

@@ -40,7 +40,7 @@ IsLandedRecord m _ = ⊤
 abbrev pub AreLanded : Texts → (shelf : ℕ) → List (List ℕ) → Type 0
 AreLanded texts shelf bodies = OfEach IsLandedRecord texts shelf bodies
 
--- the state that a change's page is written behind, as records told it, is the one that the script left there
+-- the state that a change's page is written after, as records told it, is the one that the script left there
 abbrev pub IsOwnBefore : Earlier → Book → Option Change → Type 0
 IsOwnBefore earlier b None = ⊤
 IsOwnBefore earlier b (Some c) = before_told earlier b c ≡ own_before b c

@@ -16,7 +16,7 @@ abbrev pub IsIf : Option Making → Making → Type 0
 IsIf None m = ⊤
 IsIf (Some l) m = l ≡ m
 
--- A reader of a format takes one body more, behind the gate at this place. Once there was no memory, nothing is told.
+-- A reader of a format takes one body more, after the gate at this place. Once there was no memory, nothing is told.
 abbrev pub IsTakenAs : (format : ℕ) → Texts → (shelf place : ℕ) → List ℕ → Option Making → Option Making → Type 0
 IsTakenAs format texts shelf place body None new = new ≡ None
 IsTakenAs format texts shelf place body (Some m) new = IsIf new (with_body_at format texts shelf place body m)

@@ -31,7 +31,7 @@ abbrev pub told_as : Option Suspended → Told
 told_as None = misread
 told_as (Some d) = told d
 
--- what these bytes tell of the state of a page of this script, which is written behind that state
+-- what these bytes tell of the state of a page of this script, which is written after that state
 abbrev pub told_by : (before : Option Suspended) → Option Named → Option (List ℕ) → Told
 told_by before None state = unread
 told_by before (Some s) None = misread

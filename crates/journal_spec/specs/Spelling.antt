@@ -54,7 +54,7 @@ pub record IsTicket (b : Book) (t : Ticket) : Type 0 where
   pub out : Contains b.out t.number
   pub nonce : t.nonce < 2 ^ 64
 
--- what the program's types say of a state: where its values nest no deeper than one may that is written, and its bytes behind the one
+-- what the program's types say of a state: where its values nest no deeper than one may that is written, and its bytes after the one
 -- before can be counted, it has a spelling
 abbrev pub StateFits : (before : Option Suspended) → Option Suspended → Type 0
 StateFits before None = ⊤

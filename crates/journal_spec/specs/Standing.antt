@@ -44,13 +44,13 @@ abbrev pub flight_of : Option (List ℕ) → Flight
 flight_of None = still
 flight_of (Some body) = adds body
 
--- the bodies behind what is in flight
+-- the bodies after what is in flight
 abbrev pub with_flight : List (List ℕ) → Flight → List (List ℕ)
 with_flight bodies still = bodies
 with_flight bodies (adds body) = bodies ++ body ∷ []
 with_flight bodies (puts other others) = others
 
--- the format of the bodies behind what is in flight
+-- the format of the bodies after what is in flight
 abbrev pub format_with : (format : ℕ) → Flight → ℕ
 format_with f still = f
 format_with f (adds body) = f
@@ -62,7 +62,7 @@ HasRoom bodies still = length (at_rest bodies) ≤ 2 ^ 30
 HasRoom bodies (adds body) = Holdable bodies body
 HasRoom bodies (puts other others) = (length (at_rest bodies) ≤ 2 ^ 30) × (length (at_rest others) ≤ 2 ^ 30) × (is_format other ≡ true)
 
--- bodies of a format that make the one book, and behind what is in flight the other
+-- bodies of a format that make the one book, and after what is in flight the other
 pub record Between (texts : Texts) (shelf : ℕ) (before after : Book) : Type 0 where
   pub format : ℕ
   pub known : is_format format ≡ true

@@ -91,7 +91,7 @@ drawn_twice : book_of texts 0 (begin_ten ∷ body_of (draws 3) ∷ body_of (draw
 unfolding read_record
 drawn_twice = refl
 
--- the book behind a record of another setup
+-- the book after a record of another setup
 abbrev edited : Book
 edited = record begun_ten {
   scripts = eleven ∷ [];
@@ -267,7 +267,7 @@ waits_follows = refl
 waits_opened : opened_on 0 (ten ∷ []) (waits 0) ≡ Some (waiting 0)
 waits_opened = refl
 
--- behind the record that a shelf follows, the record of the first setup makes a book that follows
+-- after the record that a shelf follows, the record of the first setup makes a book that follows
 follow_begin : book_of texts 0 (follow ∷ begin_ten ∷ []) ≡ begun (began true 0 14 32 (ten ∷ []))
 unfolding read_record
 follow_begin = refl
@@ -295,7 +295,7 @@ promoted_tick : book_of texts 0 (follow ∷ begin_ten ∷ sweep_to 50 ∷ promot
 unfolding read_record
 promoted_tick = refl
 
--- the records that a shelf follows, and follows no longer, make no book where no other stands behind them
+-- the records that a shelf follows, and follows no longer, make no book where no other stands after them
 promoted_alone : book_of texts 0 (follow ∷ promoted ∷ []) ≡ waited
 unfolding read_record
 promoted_alone = refl
@@ -304,7 +304,7 @@ promoted_alone = refl
 no_book_yet : made_in waited ≡ None
 no_book_yet = refl
 
--- behind the records that a shelf follows, and follows no longer, its first setup makes a book that does not follow
+-- after the records that a shelf follows, and follows no longer, its first setup makes a book that does not follow
 promoted_begin : book_of texts 0 (follow ∷ promoted ∷ begin_ten ∷ []) ≡ begun (began false 0 20 32 (ten ∷ []))
 unfolding read_record
 promoted_begin = refl
@@ -313,12 +313,12 @@ promoted_begin = refl
 promoted_opened : opened_on 0 (ten ∷ []) waited ≡ Some (began false 0 20 32 (ten ∷ []))
 promoted_opened = refl
 
--- behind the record that a shelf follows, the first setup of another shelf is told from its place
+-- after the record that a shelf follows, the first setup of another shelf is told from its place
 other_behind_follow : book_of texts 1 (follow ∷ begin_ten ∷ []) ≡ other 14
 unfolding read_record
 other_behind_follow = refl
 
--- behind the record that a shelf follows no longer, the first setup of another shelf is told from its place
+-- after the record that a shelf follows no longer, the first setup of another shelf is told from its place
 other_behind_both : book_of texts 1 (follow ∷ promoted ∷ begin_ten ∷ []) ≡ other 20
 unfolding read_record
 other_behind_both = refl
@@ -343,7 +343,7 @@ promoted_first : book_of texts 0 (promoted ∷ begin_ten ∷ []) ≡ damaged 8
 unfolding read_record
 promoted_first = refl
 
--- the record that a shelf follows is damage behind a setup
+-- the record that a shelf follows is damage after a setup
 follow_later : book_of texts 0 (begin_ten ∷ follow ∷ []) ≡ damaged 45
 unfolding read_record
 follow_later = refl

@@ -50,7 +50,7 @@ bare_is_spelled = refl
 abbrev flat : List ℕ
 flat = 0 ∷ bare_bytes
 
--- the bare state, written behind the same state
+-- the bare state, written after the same state
 abbrev as_before : List ℕ
 as_before = 1 ∷ 0 ∷ 0 ∷ 0 ∷ 0 ∷ 0 ∷ 0 ∷ 0 ∷ 0 ∷ 0 ∷ 0 ∷ 0 ∷ 0 ∷ 0 ∷ 0 ∷ 0 ∷ 0 ∷ 0 ∷ 0 ∷ 0 ∷ 0 ∷ []
 
@@ -110,7 +110,7 @@ first_instance n = record {
 abbrev begun_waiting : Book
 begun_waiting = (began false 3 8 56 (waiting ∷ [])).book
 
--- the book behind a start, where the file is this long
+-- the book after a start, where the file is this long
 abbrev started : (length : ℕ) → Book
 started size = record begun_waiting {
   drawn = 1;
@@ -245,7 +245,7 @@ abbrev old_start : (state : List ℕ) → List ℕ
 old_start state =
     2 ∷ (u64_bytes 0 ++ (u64_bytes 5 ++ (origin_bytes (start 0) ++ (effects_bytes [] ++ (names_bytes [] ++ (0 ∷ (u64_bytes 3600 ++ byte_string state)))))))
 
--- the book behind a start whose record's body is this long
+-- the book after a start whose record's body is this long
 abbrev started_by : (length : ℕ) → Book
 started_by n = record (started (75 + n)) { file = record begun_waiting.file { lines = changed (opening 0 0) n ∷ [] } }
 

@@ -120,7 +120,7 @@ pub fn a_crash_is_lost_or_kept()
     ensures { ACrashIsLostOrKept }
 {}
 
-/// A shelf that is opened behind a crash has the book of the event crash, whichever setup it is opened with.
+/// A shelf that is opened after a crash has the book of the event crash, whichever setup it is opened with.
 pub fn crashes_open()
     ensures { CrashesOpen }
 {}
@@ -172,28 +172,28 @@ pub fn renewals_stand_between()
     records_are_exact();
 }
 
-/// The body of a record that would be taken makes the book behind its change, whatever its page's state is.
+/// The body of a record that would be taken makes the book after its change, whatever its page's state is.
 pub fn landings_are_kept()
     ensures { LandingsAreKept }
 {
     records_are_exact();
 }
 
-/// With that body in flight a disk stands between the book before the change and the book behind it.
+/// With that body in flight a disk stands between the book before the change and the book after it.
 pub fn landings_stand_between()
     ensures { LandingsStandBetween }
 {
     records_are_exact();
 }
 
-/// The bodies of the records that an event leaves make of the journal's book the book behind the event.
+/// The bodies of the records that an event leaves make of the journal's book the book after the event.
 pub fn events_are_kept()
     ensures { EventsAreKept }
 {
     records_are_exact();
 }
 
-/// With the body in flight that an event leaves, a disk stands between the book before the event and the book behind it.
+/// With the body in flight that an event leaves, a disk stands between the book before the event and the book after it.
 pub fn events_stand_between()
     ensures { EventsStandBetween }
 {
@@ -220,7 +220,7 @@ pub fn own_states_are_told()
     ensures { OwnStatesAreTold }
 {}
 
-/// The bodies that a run leaves behind those of a journal with own states make the run's last book, over crashes and
+/// The bodies that a run leaves after those of a journal with own states make the run's last book, over crashes and
 /// under rules and setups that change.
 pub fn runs_are_kept()
     ensures { RunsAreKept }
@@ -237,7 +237,7 @@ pub fn followers_make_the_book()
     records_are_exact();
 }
 
-/// What bodies make with one more is what that one makes behind them.
+/// What bodies make with one more is what that one makes after them.
 pub fn one_body_more()
     ensures { OneBodyMore }
 {}
@@ -270,7 +270,7 @@ pub fn fronts_are_these()
     records_are_exact();
 }
 
-/// Behind the records of a shelf that waited, a journal begins as in a file of its own.
+/// After the records of a shelf that waited, a journal begins as in a file of its own.
 pub fn later_journals_are_kept()
     ensures { LaterJournalsAreKept }
 {
@@ -313,7 +313,7 @@ pub fn quiet_calls_stand<D: Disk>()
 {}
 
 /// A settled journal that makes room, and then adds a record or gives place to another file, stands between the book before
-/// and the one behind it, at each moment.
+/// and the one after it, at each moment.
 pub fn writes_stand_between<D: Disk>()
     ensures { WritesStandBetween D.view }
 {}

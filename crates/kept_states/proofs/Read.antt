@@ -44,7 +44,7 @@ said : (a : Arena) (n : Need) (p d : Suspended) (parts : Parted) (x : Delta) →
 said a n p d parts x of can is whole =
     ap (λ (y : Parted). read_delta_front a n y) whole ∙ delta_front_back a n p d x (stored a d of can.0) is (each_has_bytes p d x can.0 is)
 
--- behind its parent's
+-- after its parent's
 pub behind_back : (a : Arena) (n : Need) (p d : Suspended) (parts : Parted) (x e : Delta) → Rise p.shadows → FitsScript a d → CanDiffer p d → IsDelta p d x
     → parts ≡ delta_parts x → Some e ≡ read_delta_front a n parts → joined (front (shared_need e) p) e ≡ front n d
 behind_back a n p d parts x e rise of can is whole read =

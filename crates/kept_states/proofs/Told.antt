@@ -25,7 +25,7 @@ whole_spelled exact a bytes small (Err e) read = tt
 whole_spelled exact a bytes small (Ok None) read = tt
 whole_spelled exact a bytes small (Ok (Some d)) read = (exact.exact a None tt).exact bytes (suspended_of d) small (sym read)
 
--- what bytes tell behind a state
+-- what bytes tell after a state
 delta_read : (a : Arena) (p : stored.Suspended) (bytes spelling : List ℕ) (found : Option Delta) → bytes ≡ 1 ∷ spelling
     → option_map delta_of found ≡ read_difference a (suspended_of p) spelling → TellsDelta a p bytes found
 delta_read a p bytes spelling None e read =

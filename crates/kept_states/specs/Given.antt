@@ -30,6 +30,6 @@ Makes n p d None = ⊥
 Makes n p d (Some (found.Front e)) = suspended_of e ≡ front n d
 Makes n p d (Some (found.Difference x)) = joined (front (shared_need (delta_of x)) p) (delta_of x) ≡ front n d
 
--- each state that fits the script, of which this is kept behind its parent's, has the front that is found
+-- each state that fits the script, of which this is kept after its parent's, has the front that is found
 abbrev pub GivesBehind : Arena → Need → Form → Option Found → Type 0
 GivesBehind a n f o = (p d : Suspended) → Rise p.shadows → FitsScript a d → IsBehind p d f → Makes n p d o

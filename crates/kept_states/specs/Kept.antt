@@ -76,7 +76,7 @@ IsFormAlone d form = IsAlone (suspended_of d) (form_of form)
 abbrev pub IsFormBehind : (parent d : stored.Suspended) → declared.Form → Type 0
 IsFormBehind p d form = IsBehind (suspended_of p) (suspended_of d) (form_of form)
 
--- a state is kept in the form in which it is written behind this one: by itself behind none
+-- a state is kept in the form in which it is written after this one: by itself after none
 abbrev pub IsFormed : (before : Option Suspended) → Suspended → Form → Type 0
 IsFormed None d f = IsAlone d f
 IsFormed (Some p) d f = IsBehind p d f

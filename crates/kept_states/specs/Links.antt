@@ -11,7 +11,7 @@ abbrev pub links_at : ℕ → ℕ
 links_at zero = 0
 links_at (suc n) = next_links (links_at n)
 
--- the state that a page of so many links is written behind: none, or that of the page before
+-- the state that a page of so many links is written after: none, or that of the page before
 abbrev pub behind_at : (links : ℕ) → (before : Option Suspended) → Option Suspended
 behind_at zero before = None
 behind_at (suc n) before = before

@@ -16,13 +16,13 @@ use Rattle.kept_states.specs.Kept.{Form, bytes_of, IsFormed, form_of, kept_of}
 use Rattle.kept_states.specs.declared.form.ToldForm.{ToldForm}
 use Rattle.kept_states.specs.declared.state.ToldState.{ToldState}
 
--- a state of this script that is written behind that one has these bytes, and is kept as they are
+-- a state of this script that is written after that one has these bytes, and is kept as they are
 pub record IsKeptAsTold (a : Arena) (before : Option Suspended) (bytes : List ℕ) (d : Suspended) (f : Form) : Type 0 where
   pub stored : IsStored a d
   pub formed : IsFormed before d f
   pub bytes_are : bytes_of f ≡ Some bytes
 
--- what is found makes of the parent's state what these bytes tell behind it
+-- what is found makes of the parent's state what these bytes tell after it
 abbrev pub TellsDelta : Arena → (parent : stored.Suspended) → (bytes : List ℕ) → Option Delta → Type 0
 TellsDelta a p bytes found =
     let before = suspended_of p in option_map (λ x. joined before (delta_of x)) found ≡ read_form a (Some before) bytes
@@ -34,7 +34,7 @@ pub record IsDeltaTold (a : Arena) (p : stored.Suspended) (bytes : List ℕ) (x 
   pub stored : IsStored a (joined (suspended_of p) (delta_of x))
   pub binds : BindsAllOf (suspended_of p).shadows (joined (suspended_of p) (delta_of x)).shadows
 
--- what is found is the state that these bytes tell behind that one
+-- what is found is the state that these bytes tell after that one
 abbrev pub TellsForm : Arena → (before : Option Suspended) → (bytes : List ℕ) → Option ToldForm → Type 0
 TellsForm a before bytes found = option_map (λ x. suspended_of x.state) found ≡ read_form a before bytes
 
@@ -42,7 +42,7 @@ TellsForm a before bytes found = option_map (λ x. suspended_of x.state) found �
 abbrev pub KeepsForm : Arena → (before : Option Suspended) → (bytes : List ℕ) → Option ToldForm → Type 0
 KeepsForm a before bytes found = IfSome found (λ x. IsKeptAsTold a before bytes (suspended_of x.state) (form_of x.form))
 
--- what is found is the state that these bytes tell behind that one
+-- what is found is the state that these bytes tell after that one
 abbrev pub TellsState : Arena → Option (Bor stored.Suspended) → (bytes : List ℕ) → Option ToldState → Type 0
 TellsState a before bytes found = option_map (λ x. suspended_of x.state) found ≡ read_form a (before_of before) bytes
 

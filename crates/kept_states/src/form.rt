@@ -30,12 +30,12 @@ pub struct ToldForm {
     pub form: Form,
 }
 
-/// What is found of a front of a state that is kept behind its parent's.
+/// What is found of a front of a state that is kept after its parent's.
 #[derive(Drop)]
 pub enum Found {
     /// The front.
     Front(Suspended),
-    /// What the front has behind that front of the parent's state that it shares.
+    /// What the front has after that front of the parent's state that it shares.
     Difference(Delta),
 }
 
@@ -90,7 +90,7 @@ impl Form {
         }
     }
 
-    /// What is kept of a state behind its parent's.
+    /// What is kept of a state after its parent's.
     pub fn behind(alloc: Global, parent: &Suspended, state: &Suspended) -> Result<Form, AllocError>
         ensures { IfOk result (IsFormBehind parent.now state.now) }
     {
@@ -120,7 +120,7 @@ impl Form {
         Ok(Some(ToldForm { state, form }))
     }
 
-    /// The state that these bytes tell behind its parent's, and what is kept of it: the bytes as they are. None where no state of
+    /// The state that these bytes tell after its parent's, and what is kept of it: the bytes as they are. None where no state of
     /// the script has them.
     pub fn told_behind(
         alloc: Global,
@@ -165,7 +165,7 @@ impl Form {
         }
     }
 
-    /// What is found of a front of the state that is kept behind its parent's.
+    /// What is found of a front of the state that is kept after its parent's.
     pub fn read_behind(
         &self,
         alloc: Global,

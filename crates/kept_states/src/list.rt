@@ -9,7 +9,7 @@ use std::marker::Model;
 use value_bytes::{have_bytes, read_values, write_values};
 use wire_bytes::{Cursor, Writer};
 
-/// Values as they are kept, one behind the other: in the spelling of their list, where it has one.
+/// Values as they are kept, one after the other: in the spelling of their list, where it has one.
 ///
 /// It has none where one of them has none, and where there are 2^32 or more.
 #[derive(Drop)]

@@ -2,7 +2,7 @@ ghost use Rattle.std.specs.Prelude.{◌≡◌};
 
 use script_value::Bytes;
 
-/// The same bytes, in no more memory than they take.
+/// Bytes in no more memory than they take.
 pub fn trimmed(bytes: Bytes) -> Bytes
     ensures { result ≡ bytes }
 {

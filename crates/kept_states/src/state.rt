@@ -52,7 +52,7 @@ impl KeptState {
         Ok(KeptState { links, form })
     }
 
-    /// The state that the bytes of a record tell, behind that of the page before where it is given, and what is kept of it, so many
+    /// The state that the bytes of a record tell, after that of the page before where it is given, and what is kept of it, so many
     /// links from one that is kept by itself: the bytes as they are. None where no state of the script has them.
     pub fn told(
         alloc: Global,

@@ -22,7 +22,7 @@ pub struct LockRow<V: Kept> {
     pub(crate) room: Vec<V>,
     // The passes that no caller has yet; the last is the next caller's.
     pub(crate) spare: Vec<RowPass<V>>,
-    // That of a caller behind them, who has none.
+    // That of a caller after them, who has none.
     pub(crate) own: RowPass<V>,
     // How many callers have theirs.
     pub(crate) dealt: u32,

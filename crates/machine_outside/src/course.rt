@@ -16,7 +16,7 @@ pub enum Stage {
     Body,
 }
 
-// How many bytes the body has behind a head of so many bytes; none where the head is refused.
+// How many bytes the body has after a head of so many bytes; none where the head is refused.
 fn body_behind(bytes: &[u8], end: usize) -> usize {
     let length = match bytes.get(..end) {
         Some(head) => body_length(head),
@@ -57,7 +57,7 @@ impl Course {
         }
     }
 
-    /// Goes on over bytes that came. Behind a head that is refused the link is read no further.
+    /// Goes on over bytes that came. After a head that is refused the link is read no further.
     pub fn pass(&mut self, bytes: &[u8]) -> Result<(), AllocError> {
         let mut rest = bytes;
         for _ in 0..bytes.len() {

@@ -112,7 +112,7 @@ law fuel h = record {
 
 -- ## What is owed
 
--- each point that is next owes one more than the frames behind it
+-- each point that is next owes one more than the frames after it
 abbrev Owes : List Frame → End Point → Type 0
 Owes fs (got p s) = owed p ≡ suc (length fs)
 Owes fs (stop o names s) = Unit {0}

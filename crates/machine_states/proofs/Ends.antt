@@ -312,7 +312,7 @@ most_least : (nodes j : ℕ) → nodes ≤ most nodes j
 most_least nodes zero = omega arith
 most_least nodes (suc j) = omega (arith, most_least nodes j)
 
--- so many nodes are enough behind this one
+-- so many nodes are enough after this one
 within : (a : Arena) → IsScript a → (k j n : ℕ) → j ≤ length a.tasks → n < length a.nodes → Below a j n → most (length a.nodes) j ≤ k + n → is_within k a n ≡ true
 within a i zero j n few there below h = absurd (let l = most_least (length a.nodes) j in omega arith)
 within a i (suc k) j n few there below h = within_node a i k j n (within a i k) few there below h (slice_get a.nodes n) refl
@@ -323,7 +323,7 @@ script_within a i = within a i (most (length a.nodes) (length a.tasks)) (length 
 pub script_stops : (a : Arena) → IsScript a → (t : Tape) → Stops a (started a t)
 script_stops a i t = nodes_stop a (script_within a i) t
 
--- the parts of a node stand behind it
+-- the parts of a node stand after it
 pub behind : (a : Arena) → IsScript a → (n : ℕ) (x : Option Node) → slice_get a.nodes n ≡ x → AllByRecursion (IsBehind n (length a.nodes)) (parts (unwrap_or x (node.Lit (Truth false))))
 behind a i n None e = tt
 behind a i n (Some x) e = parts_behind a i n x e

@@ -254,7 +254,7 @@ node_stands a i n (node.InstSet c b) on env fs s e =
 node_stands a i n (node.InstAdd c b) on env fs s e =
     acts a env fs (charge (inside_of fs) 1 s) (λ _. eval (calls_in a) (tree a b) env (inside_of fs) >>= store_by (node.InstAdd c b) (inside_of fs)) (λ _. visits b env (in_store n ∷ fs)) (λ _ u. by_node a env fs (eval (calls_in a) (tree a b) env (inside_of fs) u) (λ z. store_by z (inside_of fs)) _ _ e)
 
--- a part behind one more value
+-- a part after one more value
 more_behind : (xs : List ℕ) (done : List Val) (v : Val) → drop (length (done ++ v ∷ [])) xs ≡ drop (suc (length done)) xs
 more_behind xs done v = ap (λ (k : ℕ). drop k xs) (length_more done v)
 

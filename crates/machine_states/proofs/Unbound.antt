@@ -1,4 +1,4 @@
--- No web cell that a page binds is unbound behind it.
+-- No web cell that a page binds is unbound after it.
 use Rattle.std.proofs.Common.{◌≡◌, ℕ, zero, suc, ◌+◌, ◌==◌, ◌^◌, min, Bool, true, false, List, [], ◌∷◌, Some, None, sym, ap, subst, ◌∙◌, arith, cond}
 use Rattle.script_value.specs.Val.{Val}
 use Rattle.script_value.specs.declared.outcome.TxName.{TxName}

@@ -10,12 +10,12 @@ use web_cells::Shades;
 /// Which part of a node is worked on.
 #[derive(Drop)]
 pub enum Frame {
-    /// A binding, behind the values of those that are done.
+    /// A binding, after the values of those that are done.
     Binding {
         node: u32,
         done: Items,
     },
-    /// An operand, behind the values of those that are done.
+    /// An operand, after the values of those that are done.
     Operand {
         node: u32,
         done: Items,
@@ -53,7 +53,7 @@ pub enum Frame {
     Store {
         node: u32,
     },
-    /// A turn of so many, behind the values of those that are done.
+    /// A turn of so many, after the values of those that are done.
     Turn {
         node: u32,
         turns: u64,
@@ -64,7 +64,7 @@ pub enum Frame {
         node: u32,
         name: TxName,
     },
-    /// An operand of a call, behind the values of those that are done.
+    /// An operand of a call, after the values of those that are done.
     Call {
         node: u32,
         done: Items,

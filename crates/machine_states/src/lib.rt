@@ -48,7 +48,7 @@ pub fn the_first_stop_is_the_stop()
     ensures { TheFirstStopIsTheStop }
 {}
 
-/// No web cell that a page binds is unbound behind it.
+/// No web cell that a page binds is unbound after it.
 pub fn no_cell_is_unbound()
     ensures { NoCellIsUnbound }
 {}

@@ -53,7 +53,7 @@ begun r start source course from none blank = record {
   risen = stays_risen r start.faults;
 }
 
--- one step is drawn, and then the others behind it
+-- one step is drawn, and then the others after it
 drawn_first : (r : StageRules) (s t : Spot r) (source : Source) (n : ℕ) (told : List Report) (g : Goes r (step_over r source s.state) told s t)
     (later : List r.Fate)
     → steps_drawn r (suc n) source s.state (g.came.fates ++ later)
@@ -128,7 +128,7 @@ module _ (r : StageRules) (start here there : Spot r) (source : Source) (k : ℕ
     risen = rises_then r reached.fates g.came.fates start.faults here.faults there.faults reached.risen g.came.risen;
   }
 
--- no step behind these
+-- no step after these
 none_drawn : (r : StageRules) (source : Source) (s : r.State) (fates : List r.Fate) → steps_drawn r 0 source s fates ≡ []
 unfolding steps_drawn
 none_drawn r source s fates = refl
@@ -176,7 +176,7 @@ pub some : (r : StageRules) (start here : Spot r) (source : Source) (k count : �
 some r start here source k count course few reached =
     record { done = k; few = few; told = reached.told; loads = ended r start here source k course reached }
 
--- and another one, behind which memory ran out
+-- and another one, after which memory ran out
 pub one_past : (r : StageRules) (start here there : Spot r) (source : Source) (k count : ℕ) (course : Course) (told : List Report) → k < count
     → Goes r (step_over r course.generator here.state) told here there → Reached r start source k here course → LoadsSome r count source start there
 one_past r start here there source k count course told few goes reached =

@@ -146,7 +146,7 @@ impl Generator {
     }
 }
 
-// The number that is drawn behind a number.
+// The number that is drawn after a number.
 #[tactic(auto, unfolding(crate::specs::Generator::drawn))]
 fn drawn(number: u64) -> u64
     ensures { result ≡ spec.drawn number }

@@ -141,7 +141,7 @@ fn note(alloc: Global, told: &[Report], course: &mut Course) -> Result<(), Alloc
 /// For some fates of their events the answer is that of the transcript of these steps over the stage's
 /// rules, and the stage is left in its last state; this is said of a stage whose disks tell, and that
 /// holds what its own events left. A shelf that crashed and was not opened again ends the run there. So
-/// does want of memory, behind some of the steps.
+/// does want of memory, after some of the steps.
 pub fn load<T: Stage>(
     alloc: Global,
     stage: &mut T,

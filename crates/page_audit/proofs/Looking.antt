@@ -141,14 +141,14 @@ finds_next format place shelf n fed alone seen f body finding.Nothing finding.Me
 finds_next format place shelf n fed alone seen f body (finding.First p word) new m had knows h is whole = ap found_by h
 finds_next format place shelf n fed alone seen f body finding.Memory new m had knows h is whole = absurd (knows h)
 
--- where there is memory behind a record, there was before it
+-- where there is memory after a record, there was before it
 pub knows_before : (format place : ℕ) (seen : InOrder (Unit {0})) (f : Found) (body : List ℕ) (old new : Finding) → FindsNext format place seen f body old new
     → (new ≡ finding.Memory → ⊥) → old ≡ finding.Memory → ⊥
 knows_before format place seen f body finding.Nothing new h knows e = let no : ⊥ = cc in no
 knows_before format place seen f body (finding.First p word) new h knows e = let no : ⊥ = cc in no
 knows_before format place seen f body finding.Memory new h knows e = knows h
 
--- where nothing is found behind a record, nothing was before it
+-- where nothing is found after a record, nothing was before it
 pub nothing_before : (format place : ℕ) (seen : InOrder (Unit {0})) (f : Found) (body : List ℕ) (old new : Finding) → FindsNext format place seen f body old new
     → new ≡ finding.Nothing → old ≡ finding.Nothing
 nothing_before format place seen f body finding.Nothing new h e = refl

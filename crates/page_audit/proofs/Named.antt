@@ -219,7 +219,7 @@ module _ (format place n : ℕ) (behind : List (List ℕ)) (reads shelf : ℕ) w
 module _ (format shelf place : ℕ) (body : List ℕ) (behind : List (List ℕ)) (old new : Reader) (m : Making) (its : old.format ≡ format)
     (taken : IsTaken (reader_for (read_record_in format body) old.found old) place body new) (memory : old.found ≡ found.Memory → ⊥)
     (of_shelf : IsShelfOf m format (body ∷ behind) old.shelf shelf) (gives : Gives shelf (place + 1) old.follows old.alone old.found old.seen m) where
-  -- what is known behind one record more
+  -- what is known after one record more
   pub record Next : Type 0 where
     pub shelf_is : IsShelfOf (with_body_at format setup_of_texts shelf place body m) format behind new.shelf shelf
     pub goes : Gives shelf (place + 5 + length body + 1) new.follows new.alone new.found new.seen (with_body_at format setup_of_texts shelf place body m)
@@ -242,7 +242,7 @@ module _ (format shelf place : ℕ) (body : List ℕ) (behind : List (List ℕ))
       gives_apart format place body old.shelf shelf old new m can
       (subst (λ (k : ℕ). GivesWith k old.shelf place body old.follows old.alone old.found new.follows new.alone new.found old.seen new.seen) its t.gives) gives
 
-  -- behind a book
+  -- after a book
   behind_made : (alone : Bool) (w : Made) → m ≡ making_of alone w → IsTaken old place body new → Next
   behind_made true w e t =
       let is : old.shelf ≡ shelf = subst (λ (x : Making). IsShelfOf x format (body ∷ behind) old.shelf shelf) e of_shelf in
@@ -261,7 +261,7 @@ module _ (format shelf place : ℕ) (body : List ℕ) (behind : List (List ℕ))
         goes = same_gives old is refl t gives;
       }
 
-  -- behind damage
+  -- after damage
   behind_damage : (x : Making) → m ≡ x → CanMove x (read_record_in format body) → ((reads : ℕ) → IsShelfOf (with_body_at format setup_of_texts shelf place body x) format behind reads shelf) → IsTaken old place body new → Next
   behind_damage x e can there t = record {
     shelf_is = subst (λ (y : Making). IsShelfOf (with_body_at format setup_of_texts shelf place body y) format behind new.shelf shelf) (sym e) (there new.shelf);

@@ -21,7 +21,7 @@ unwritten_then v0 v1 v2 a b = record {
   faults = omega (arith, a.faults, b.faults);
 }
 
--- nor does a call behind which a crash leaves nothing else
+-- nor does a call after which a crash leaves nothing else
 pub elapsed_unwritten : (v0 v1 : View) → ((image : List ℕ) → v0.since v0.moment image → v0.images image) → NoNewImage v0 v1 → Elapses v0 v1 → IsUnwritten v0 v1
 elapsed_unwritten v0 v1 only_now images time = record { images = images; moments = goes_on v0 v0 v1 v0.images (started v0 v0.images only_now) time images; faults = time.faults }
 

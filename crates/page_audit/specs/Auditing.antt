@@ -25,12 +25,12 @@ use Rattle.page_audit.specs.Audits.{IsAnswer}
 
 -- ---- one record
 
--- the word for a record of this format behind those that made this; none where there is no record, or where they made no book
+-- the word for a record of this format after those that made this; none where there is no record, or where they made no book
 abbrev pub IsFaultOf : (format : ℕ) → InOrder (Unit {0}) → Found → Option Record → Option Word → Type 0
 IsFaultOf format seen (found.Made b library) (Some r) word = IsFaultIn format (library_of library) seen b r word
 IsFaultOf format seen _ _ word = word ≡ None
 
--- the word for the record of this body, behind those that made this; none where it is no record, or where they made no book
+-- the word for the record of this body, after those that made this; none where it is no record, or where they made no book
 abbrev pub IsWordFor : (format : ℕ) → InOrder (Unit {0}) → Found → (body : List ℕ) → Option Word → Type 0
 IsWordFor format seen f body word = IsFaultOf format seen f (read_record_in format body) word
 
@@ -92,7 +92,7 @@ found_by finding.Nothing = None
 found_by (finding.First place word) = Some (record { place = place; word = word })
 found_by finding.Memory = None
 
--- The shelf whose book the records make: the one that these bodies behind them name, while no record of a setup was read; then that of the
+-- The shelf whose book the records make: the one that these bodies after them name, while no record of a setup was read; then that of the
 -- reader.
 abbrev pub IsShelfOf : Making → (format : ℕ) → (behind : List (List ℕ)) → (reads shelf : ℕ) → Type 0
 IsShelfOf nothing format behind reads shelf = shelf ≡ shelf_in format behind
@@ -109,7 +109,7 @@ IsUndamaged (damaged place) = ⊥
 IsUndamaged (other place) = ⊥
 IsUndamaged _ = ⊤
 
--- An auditor has what the records before the gate at this place make of the shelf, where these bodies stand behind them; and what was found in
+-- An auditor has what the records before the gate at this place make of the shelf, where these bodies stand after them; and what was found in
 -- them, unless they are damaged.
 pub record IsUpTo (a : Auditor) (shelf place : ℕ) (behind : List (List ℕ)) (m : Making) (f : Option spec.Finding) : Type 0 where
   pub shelf_is : IsShelfOf m a.format behind a.reader.shelf shelf

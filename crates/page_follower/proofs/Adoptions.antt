@@ -1,4 +1,4 @@
--- Records that a shelf is fed, one behind the other.
+-- Records that a shelf is fed, one after the other.
 use Rattle.std.proofs.Common.{◌≡◌, ◌≤◌, ◌<◌, ◌+◌, ◌-◌, ◌++◌, ◌∷◌, ◌∙◌, ◌^◌, ℕ, zero, suc, Bool, true, false, IsTrue, List, [], Option, Some, None, Err, length, arith, sym, ap, refl, subst, append_assoc, append-nil, length-append}
 use Rattle.std.specs.Io.KnownBytes.{Appends}
 use Rattle.shelf.proofs.WebOutside.Writes.{appends_then}
@@ -34,7 +34,7 @@ use Rattle.page_follower.proofs.Told.{adopted_by_less}
 
 -- ---- one record more
 
--- the record came that was adopted, wherever the source and the place of the feed are told behind it
+-- the record came that was adopted, wherever the source and the place of the feed are told after it
 came_to : (old mid new : Progress) (body : List ℕ) → Came old.source mid.source old.place mid.place body → new.source ≡ mid.source → new.place ≡ mid.place
     → Came old.source new.source old.place new.place body
 came_to old mid new body came source place =
@@ -146,7 +146,7 @@ acks_more done (suc n) =
     ap (λ l. ack_line (done + 1) ++ l) (acks_more (done + 1) n) ∙ sym (append_assoc (ack_line (done + 1)) (acks_behind (done + 1) n) (ack_line (done + 1 + n + 1)))
     ∙ ap (λ k. (ack_line (done + 1) ++ acks_behind (done + 1) n) ++ ack_line k) (let e : done + 1 + n + 1 ≡ done + suc n + 1 = omega arith in e)
 
--- records one behind the other, and then another
+-- records one after the other, and then another
 fed_more : (bodies : List (List ℕ)) (body : List ℕ) → fed (bodies ++ body ∷ []) ≡ fed bodies ++ framed body
 fed_more [] body = append-nil (framed body)
 fed_more (b ∷ bodies) body = ap (λ l. framed b ++ l) (fed_more bodies body) ∙ sym (append_assoc (framed b) (fed bodies) (framed body))

@@ -15,11 +15,11 @@ use Rattle.page_follower.specs.declared.fault.FollowEnd.{FollowEnd}
 use Rattle.page_follower.specs.declared.fault.FollowEnd.TheVariants as end
 use Rattle.page_follower.proofs.Taken.{still}
 
--- a count rose behind some calls that did not lower it
+-- a count rose after some calls that did not lower it
 rose_later : (old mid new : ℕ) → old ≤ mid → Rose mid new → Rose old new
 rose_later old mid new later rose = omega arith
 
--- what failed behind some calls failed since those before them
+-- what failed after some calls failed since those before them
 caused_later : (old mid new : Faults) (o : Option FollowEnd) → CountOn old mid → IsCausedBy mid new o → IsCausedBy old new o
 caused_later old mid new None later c = tt
 caused_later old mid new (Some end.Held) later c = tt
@@ -136,7 +136,7 @@ each_causes at takes v w step risen bodies place old new is taken =
 
 -- ---- the whole feed
 
--- following went on behind some calls, or it had ended with them
+-- following went on after some calls, or it had ended with them
 pub all_causes : (old mid new : Faults) (o : Option FollowEnd) (e : FollowEnd) → HasCauses old mid o → (o ≡ None → HasCauses mid new (Some e))
     → ((o ≡ None → ⊥) → (o ≡ Some e) × (new ≡ mid)) → HasCauses old new (Some e)
 all_causes old mid new None e first later ended = causes_then old mid new (Some e) first.later (later refl)
@@ -179,7 +179,7 @@ begun_causes source sink begun v new e b later =
     causes_then (faults_of source sink v) (faults_at begun v) new (Some e)
     (record { source = b.0.later; sink = let x = ap (λ (s : SinkView). s.faults) b.1.0 in omega arith; disk = omega arith }) later
 
--- the same, by what the source and the output are behind it
+-- the same, by what the source and the output are after it
 pub causes_to : {S O : Type 0} (source : S → SourceView) (sink : O → SinkView) (old : Faults) (s r : S) (o p : O) (v : View) (e : Option FollowEnd)
     → HasCauses old (faults_of (source s) (sink o) v) e → s ≡ r → o ≡ p → HasCauses old (faults_of (source r) (sink p) v) e
 causes_to source sink old s r o p v e causes from to =

@@ -66,7 +66,7 @@ by_compare bytes held same rest h mid new end.DiskFault o fits all s c is = absu
 by_compare bytes held same rest h mid new end.Unwritten o fits all s c is = absurd (cc is)
 by_compare bytes held same rest h mid new end.Memory o fits all s c is = absurd c
 
--- ---- ends behind them
+-- ---- ends after them
 
 -- what is told where following ended behind the records that are held
 abbrev Adopted : (bytes : List ℕ) → (held fed_before more holds : List (List ℕ)) → (offer : Offer) → (mid new : Progress) → Outcome → Type 0
@@ -151,7 +151,7 @@ module _ (source : SourceView) (sink : SinkView) (held holds : List (List ℕ)) 
             is = λ admits each refuses. told.1 admits;
           }
 
-  -- following ended behind them
+  -- following ended after them
   by_adopted : (begun between new : Progress) → Begins source sink begun None → StandsAt bytes begun [] → HasCompared begun between (feed_of held)
       → between.ending ≡ None → HasAdopted nothing_told between new held holds e → IsComputed bytes held holds sink.written new.sink.written o
   by_adopted begun between new begins s c goes a =

@@ -28,7 +28,7 @@ front_by_role body done rest more false role later =
     ap fed (feed_with_it body (done ++ rest) role) ∙ ap (λ l. framed body ++ l) later ∙ sym (append_assoc (framed body) (fed (feed_of done)) more)
     ∙ ap (λ l. fed l ++ more) (sym (feed_with_it body done role))
 
--- what stands in the feed of records behind the first of them
+-- what stands in the feed of records after the first of them
 feed_behind : (done rest : List (List ℕ)) → List ℕ
 feed_behind [] rest = fed (feed_of rest)
 feed_behind (body ∷ done) rest = feed_behind done rest
@@ -75,7 +75,7 @@ pub same_sink : {O : Type 0} (view : O → SinkView) (bodies : List (List ℕ)) 
 same_sink view bodies old new taken =
     kept_by_all (λ s. s.sink.ghost_name) (SenderTakes view) (λ a b place body t. t.0) bodies 8 old new taken
 
--- a head that could not be written whole, and nothing behind it
+-- a head that could not be written whole, and nothing after it
 pub no_head : (old new : SinkView) (bodies : List (List ℕ)) → AppendsPart old.written new.written feed_head → old.faults ≤ new.faults
     → Rose old.faults new.faults → WritesPart old new (feed_with (feed_of bodies))
 no_head old new bodies part later rose = record {
@@ -84,7 +84,7 @@ no_head old new bodies part later rose = record {
   rose = rose;
 }
 
--- a head, and records behind it of which some were not sent
+-- a head, and records after it of which some were not sent
 pub not_all : (old mid new : SinkView) (bodies : List (List ℕ)) (f : ExportFault) → Appends old.written mid.written feed_head → old.faults ≤ mid.faults
     → SendsAll mid new bodies (Err f) → Exports old new bodies (Err f)
 not_all old mid new bodies fault.DiskFault p later q = record {
@@ -97,7 +97,7 @@ not_all old mid new bodies fault.Unwritten p later q = record {
   rose = let a = q.rose in omega arith;
 }
 
--- a head, and all records behind it
+-- a head, and all records after it
 whole_feed : (old mid end : SinkView) (bodies : List (List ℕ)) → Appends old.written mid.written feed_head → Writes mid end (fed (feed_of bodies))
     → Appends old.written end.written (feed_with (feed_of bodies))
 whole_feed old mid end bodies p q = appends_then old.written mid.written end.written feed_head (fed (feed_of bodies)) p q.written

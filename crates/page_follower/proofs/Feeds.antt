@@ -14,7 +14,7 @@ use Rattle.page_follower.specs.Reading.{IsShort}
 pub length_framed : (body : List ℕ) → length (framed body) ≡ 4 + length body
 length_framed body = omega (arith, length-append (u32_bytes (length body)) body)
 
--- one record is read, and then what stands behind it
+-- one record is read, and then what stands after it
 pub one_record : (fuel place : ℕ) (body tail : List ℕ) → length body < 2 ^ 32
     → records_at (suc fuel) place (u32_bytes (length body) ++ (body ++ tail)) ≡ with_record body (records_at fuel (place + 4 + length body) tail)
 one_record fuel place body tail fits =
@@ -31,7 +31,7 @@ one_record fuel place body tail fits =
     ∙ ap (λ (t : Bool). if t then with_record (take (length body) (body ++ tail)) (records_at fuel (place + 4 + length body) (drop (length body) (body ++ tail))) else ends_so (cut place)) enough
     ∙ (λ i. with_record (take_at body tail (length body) refl i) (records_at fuel (place + 4 + length body) (drop_at body tail (length body) refl i)))
 
--- records are read, and then what stands behind them
+-- records are read, and then what stands after them
 all_records : (bodies : List (List ℕ)) (fuel place : ℕ) (tail : List ℕ) (end : FeedEnd) → CanBeFed bodies → length (fed bodies ++ tail) < fuel
     → ((left : ℕ) → length tail < left → records_at left (place + length (fed bodies)) tail ≡ ends_so end)
     → records_at fuel place (fed bodies ++ tail) ≡ record { bodies = bodies; ends = end }
@@ -65,7 +65,7 @@ cut_record (suc left) place (b ∷ bs) h some short =
     let few : nat_le (4 + size_in (b ∷ bs)) (length (b ∷ bs)) ≡ false = grind (arith, nat_tests, short) in
     ap (λ (t : Bool). if t then with_record (take (size_in (b ∷ bs)) (drop 4 (b ∷ bs))) (records_at left (place + 4 + size_in (b ∷ bs)) (drop (size_in (b ∷ bs)) (drop 4 (b ∷ bs)))) else ends_so (cut place)) few
 
--- a feed that is not too long holds what stands behind its head
+-- a feed that is not too long holds what stands after its head
 pub behind_head : (rest : List ℕ) (feed : Feed) → length (feed_head ++ rest) ≤ most_of_feed → records_at (suc (length rest)) 8 rest ≡ feed
     → feed_in (feed_head ++ rest) ≡ feed
 behind_head rest feed fits is =

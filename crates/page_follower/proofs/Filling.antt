@@ -8,14 +8,14 @@ use Rattle.page_follower.specs.Reading.{Got, Fails, Gives}
 use Rattle.page_follower.specs.declared.fault.FeedFault.{FeedFault}
 use Rattle.page_follower.proofs.Readings.{got_then, got_as, fails_then}
 
--- the front of a list, and then a front of what was put behind it
+-- the front of a list, and then a front of what was put after it
 take_more : (xs ys : List ℕ) (a k n : ℕ) → a ≤ length xs → n ≤ length ys → take (a + n) (put_mid a k xs ys) ≡ take a xs ++ take n ys
 take_more xs ys a k n in_range few =
     let front : length (take a xs) ≡ a = length-take-le a xs in_range in
     ap (λ m. take (m + n) (put_mid a k xs ys)) (sym front) ∙ take-append-add (take a xs) (ys ++ post_of a k xs) n
     ∙ ap (λ l. take a xs ++ l) (take-append-le n ys (post_of a k xs) few)
 
--- a buffer whose front was filled, and then a piece behind it
+-- a buffer whose front was filled, and then a piece after it
 pub filled_more : (old mid new : SourceView) (before between after done count : ℕ) (buffer piece : List ℕ) → Got old mid before between (take done buffer)
     → done ≤ length buffer → length piece ≡ length (mid_of done (length buffer - done) buffer) → Gives mid new between after piece count
     → Gives old new before after (put_mid done (length buffer - done) buffer piece) (done + count)

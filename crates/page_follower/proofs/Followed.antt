@@ -12,14 +12,14 @@ use Rattle.page_follower.proofs.Parsed.{in_front}
 
 -- ---- bodies
 
--- what stands behind a front of a text
+-- what stands after a front of a text
 pub behind_own : (front rest : List ℕ) → behind front (front ++ rest) ≡ Some rest
 behind_own [] rest = refl
 behind_own (b ∷ front) rest =
     let same : (b == b) ≡ true = grind (arith, nat_tests) in
     ap (λ (t : Bool). if t then behind front (front ++ rest) else None) same ∙ behind_own front rest
 
--- nothing stands behind a text in its own front
+-- nothing stands after a text in its own front
 pub behind_longer : (front : List ℕ) (b : ℕ) (rest : List ℕ) → behind (front ++ b ∷ rest) front ≡ None
 behind_longer [] b rest = refl
 behind_longer (x ∷ front) b rest =
@@ -83,7 +83,7 @@ adopted_first admits so_far (b ∷ more) place feed acks adopted o each later =
     ∙ ap (adopts b) (adopted_first admits (so_far ++ b ∷ []) more (place + 4 + length b) feed acks adopted o each.1 rest)
     ∙ ap (λ n. does n (b ∷ (more ++ adopted)) o) (let e : 1 + (length more + acks) ≡ suc (length more) + acks = omega arith in e)
 
--- following ends at a record that is held, or behind all of the feed
+-- following ends at a record that is held, or after all of the feed
 pub compared_so : (admits : List (List ℕ) → List ℕ → Bool) (held same rest : List (List ℕ)) (bytes : List ℕ) (feed : Feed) (o : Outcome)
     → held ≡ same ++ rest → feed_in bytes ≡ in_front same feed
     → follows admits same rest (8 + length (fed same)) feed.bodies feed.ends ≡ does 0 [] o → followed admits held (feed_in bytes) ≡ does (length same) [] o
@@ -91,7 +91,7 @@ compared_so admits held same rest bytes feed o all is ends =
     ap (λ h. followed admits h (feed_in bytes)) all ∙ ap (followed admits (same ++ rest)) is ∙ same_first admits [] same rest 8 feed 0 [] o ends
     ∙ ap (λ n. does n [] o) (let e : length same + 0 ≡ length same = omega arith in e)
 
--- following ends behind all that are held, and behind records that were adopted
+-- following ends after all that are held, and after records that were adopted
 pub adopted_so : (admits : List (List ℕ) → List ℕ → Bool) (held more : List (List ℕ)) (bytes : List ℕ) (feed : Feed) (o : Outcome)
     → feed_in bytes ≡ in_front held (in_front more feed) → AdmitsEach admits held more
     → follows admits (held ++ more) [] (8 + length (fed held) + length (fed more)) feed.bodies feed.ends ≡ does 0 [] o
@@ -125,7 +125,7 @@ refused_here admits so_far body place feed refuses =
 
 -- ---- without a head
 
--- bytes that are no front of each other stay so with others behind the one
+-- bytes that are no front of each other stay so with others after the one
 apart : (a b more : List ℕ) → behind a b ≡ None → behind b a ≡ None → (behind a (b ++ more) ≡ None) × (behind (b ++ more) a ≡ None)
 apart [] b more p q = absurd (cc p)
 apart (x ∷ a) [] more p q = absurd (cc q)
@@ -143,7 +143,7 @@ apart (x ∷ a) (y ∷ b) more p q = elim (cases_eq x y) [
       (ap (λ (t : Bool). if t then behind a (b ++ more) else None) fore, ap (λ (t : Bool). if t then behind (b ++ more) a else None) back))
 ]
 
--- bytes that are not too many hold what stands behind their head, or what is missing of it
+-- bytes that are not too many hold what stands after their head, or what is missing of it
 within : (bytes : List ℕ) → length bytes ≤ most_of_feed → feed_in bytes ≡ feed_within bytes
 within bytes fits =
     let short : nat_le (length bytes) most_of_feed ≡ true = grind (arith, nat_tests, fits) in

@@ -10,7 +10,7 @@ use Rattle.shelf.specs.PageJournal.Records.{behind}
 use Rattle.page_follower.specs.Feed.{feed_head}
 use Rattle.page_follower.specs.Reading.{Got, IsHeadCut, IsNoHead, Gives}
 
--- bytes that begin with a front are that front and what stands behind it
+-- bytes that begin with a front are that front and what stands after it
 pub behind_is : (front bytes rest : List ℕ) → behind front bytes ≡ Some rest → bytes ≡ front ++ rest
 behind_is [] bytes rest is = cc
 behind_is (b ∷ front) [] rest is = absurd (cc is)

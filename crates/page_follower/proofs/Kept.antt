@@ -29,7 +29,7 @@ kept_read old new same can = record {
   can = λ h. can_still old new same can;
 }
 
--- following went on behind some calls, or it had ended with them
+-- following went on after some calls, or it had ended with them
 pub all_kept : {D N : Type 0} (old mid new : Shelf D N) (o : Option FollowEnd) (e : FollowEnd) → IsKept old mid None
     → (o ≡ None → IsKept mid new (Some e)) → ((o ≡ None → ⊥) → new ≡ mid) → IsKept old new (Some e)
 all_kept old mid new None e first later ended = kept_then old mid new None (Some e) first (later refl)

@@ -19,7 +19,7 @@ OnlyNow {D} view = (disk : D) (image : List ℕ) → (view disk).since (view dis
 abbrev pub CountsNow : {D : Type 0} → (D → View) → Type 0
 CountsNow {D} view = (disk : D) (t : ℕ) (image : List ℕ) → t ≤ (view disk).moment → (view disk).images image → (view disk).since t image
 
--- a record in front of others, behind those that are held
+-- a record in front of others, after those that are held
 one_behind : (held : List (List ℕ)) (body : List ℕ) (more : List (List ℕ)) → (held ++ body ∷ []) ++ more ≡ held ++ body ∷ more
 one_behind held body more = append_assoc held (body ∷ []) more
 
@@ -69,7 +69,7 @@ fed_cut view held old new sink told acks (b ∷ first) rest fed =
           (subst (λ l. AreFed view l later.0 later.1 (acks + 1 + length first) rest told new) (one_behind held b first) later.3),
     )
 
--- a crash behind them leaves all
+-- a crash after them leaves all
 pub fed_left : {D : Type 0} (view : D → View) (held : List (List ℕ)) (old new : D) (sink told : SinkView) (acks : ℕ) (more : List (List ℕ))
     → HoldsOnly (view old) held → AreFed view held old sink acks more told new → HoldsOnly (view new) (held ++ more)
 fed_left view held old new sink told acks [] left fed =
@@ -188,7 +188,7 @@ acknowledged_records_are_held view only_now counts_now held first rest offer old
       ),
     )
 
--- the frames of records one behind the other are as long as those of both together
+-- the frames of records one after the other are as long as those of both together
 length-frames : (bodies others : List (List ℕ)) → length (frames (bodies ++ others)) ≡ length (frames bodies) + length (frames others)
 length-frames [] others = let e : length (frames []) ≡ 0 = refl in omega arith
 length-frames (b ∷ bodies) others =

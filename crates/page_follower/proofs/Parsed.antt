@@ -1,4 +1,4 @@
--- What a feed holds whose first records are known, and what else stands behind them.
+-- What a feed holds whose first records are known, and what else stands after them.
 use Rattle.std.proofs.Common.{◌≡◌, ◌≤◌, ◌<◌, ◌+◌, ◌++◌, ◌∷◌, ◌∙◌, ◌^◌, ℕ, zero, suc, List, [], Option, Some, None, length, arith, sym, ap, refl, subst, append_assoc, append-nil, length-append}
 use Rattle.std.specs.Io.KnownBytes.{Consumes, IsAtEnd}
 use Rattle.shelf.specs.WireBytes.Spelling.{u32_bytes}
@@ -25,7 +25,7 @@ pub at_end : (o : Option (List ℕ)) (ys : List ℕ) → o ≡ Some ys → IsAtE
 at_end None ys is e = absurd (cc is)
 at_end (Some y) ys is e = let same : y ≡ ys = cc in sym same ∙ e
 
--- records one behind the other
+-- records one after the other
 pub fed_append : (xs ys : List (List ℕ)) → fed (xs ++ ys) ≡ fed xs ++ fed ys
 fed_append [] ys = refl
 fed_append (x ∷ xs) ys = ap (λ l. framed x ++ l) (fed_append xs ys) ∙ sym (append_assoc (framed x) (fed xs) (fed ys))

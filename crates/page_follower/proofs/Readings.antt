@@ -1,4 +1,4 @@
--- Bytes that come one behind the other.
+-- Bytes that come one after the other.
 use Rattle.std.proofs.Common.{◌≡◌, ◌≤◌, ◌+◌, ◌++◌, ℕ, List, [], length, arith, subst, length-append}
 use Rattle.std.proofs.KnownBytes.{Consumes-nil}
 use Rattle.shelf.specs.WebOutside.View.{SourceView}

@@ -24,7 +24,7 @@ no_body old mid new before between size start most first fault.Long p fits q = p
 no_body old mid new before between size start most first fault.Failed p fits q = unread_then old mid new before between first p q
 no_body old mid new before between size start most first fault.Memory p fits q = absurd q
 
--- the bytes of a length tell it, whatever stands behind them
+-- the bytes of a length tell it, whatever stands after them
 size_told : (size : ℕ) (rest : List ℕ) → size < 4294967296 → size_in (u32_bytes size ++ rest) ≡ size
 size_told size rest fits = from_le_bytes-to_le_bytes_4 size fits
 

@@ -1,4 +1,4 @@
--- Records that are compared with a feed, or sent as one, one behind the other.
+-- Records that are compared with a feed, or sent as one, one after the other.
 use Rattle.std.proofs.Common.{◌≡◌, ◌++◌, ◌∷◌, ◌∙◌, ℕ, Bool, true, false, not, cond, List, [], Option, Some, None, length, arith, sym, ap, refl, subst}
 use Rattle.std.specs.Io.KnownBytes.{Appends}
 use Rattle.std.proofs.KnownBytes.{Appends-nil}
@@ -136,7 +136,7 @@ sent_first old mid new first rest true p q = record {
   rose = let a = p.later in let b = q.rose in omega arith;
 }
 
--- behind a write that failed nothing is sent
+-- after a write that failed nothing is sent
 pub sent_no_more : {C : Type 0} (at : C → SinkView) (failed : C → Bool) (takes : C → ℕ → List ℕ → C → Type 0)
     → ((old new : C) (place : ℕ) (body : List ℕ) → takes old place body new → Sends (failed old) (is_role body) (at old) (at new) body (failed new))
     → (bodies : List (List ℕ)) (place : ℕ) (old new : C) → failed old ≡ true → TakesAll takes old place bodies new

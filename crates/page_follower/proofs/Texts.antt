@@ -1,4 +1,4 @@
--- Texts that are written one behind the other.
+-- Texts that are written one after the other.
 use Rattle.std.proofs.Common.{◌≡◌, ◌++◌, ℕ, List, Option, Result, Ok, Err, OnOk, subst}
 use Rattle.std.specs.Io.KnownBytes.{Appends, Keeps}
 use Rattle.shelf.specs.WebOutside.Pieces.{AppendsPart}
@@ -16,7 +16,7 @@ pub part_then : (old mid new : Option (List ℕ)) (said text more : List ℕ) �
     → AppendsPart old new (text ++ more)
 part_then old mid new said text more is p q = then_part old mid new text more (subst (Appends old mid) is p) q
 
--- a part of a text, and nothing behind it
+-- a part of a text, and nothing after it
 pub part_alone : (old new : Option (List ℕ)) (said text more : List ℕ) → said ≡ text → AppendsPart old new said → AppendsPart old new (text ++ more)
 part_alone old new said text more is p = longer_part old new text more (subst (AppendsPart old new) is p)
 

@@ -29,7 +29,7 @@ module _ (Told Less : Moments) (less : TellsLess Told Less) where
     told = less _ _ _ _ _ p.told;
   }
 
-  -- behind the head
+  -- after the head
   pub fed_by_less : (begun new : Progress) (held holds : List (List ℕ)) (e : FollowEnd) → Feeds Told begun new held holds e → Feeds Less begun new held holds e
   fed_by_less begun new held holds e (unread done rest all compares is none) = unread done rest all compares is (none_by_less new held holds none)
   fed_by_less begun new held holds e (compared compares ends none) = compared compares ends (none_by_less new held holds none)

@@ -10,7 +10,7 @@ use Rattle.shelf.specs.WebOutside.Pieces.{AppendsPart, HandsOn}
 abbrev pub ack_line : ℕ → List ℕ
 ack_line number = codes "ack " ++ (decimal number ++ codes "\n")
 
--- the lines for so many records behind so many others
+-- the lines for so many records after so many others
 abbrev pub acks_behind : (done more : ℕ) → List ℕ
 acks_behind done zero = []
 acks_behind done (suc more) = ack_line (done + 1) ++ acks_behind (done + 1) more
@@ -27,6 +27,6 @@ pub record IsUnacked (old new : SinkView) (number : ℕ) : Type 0 where
   pub later : old.faults ≤ new.faults
   pub rose : Rose old.faults new.faults
 
--- two records behind nine
+-- two records after nine
 two : acks_behind 9 2 ≡ ack_line 10 ++ (ack_line 11 ++ [])
 two = refl

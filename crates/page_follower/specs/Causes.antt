@@ -16,15 +16,15 @@ pub record Faults : Type 0 where
   pub sink : ℕ
   pub disk : ℕ
 
--- how often they had failed, by what contracts see of the three
+-- how often calls of source, output and disk had failed, by what contracts see of the three
 abbrev pub faults_of : SourceView → SinkView → View → Faults
 faults_of source sink disk = record { source = source.faults; sink = sink.faults; disk = disk.faults }
 
--- how often they had failed where a follower stood so in its feed
+-- how often calls of source, output and disk had failed where a follower stood so in its feed
 abbrev pub faults_at : Progress → View → Faults
 faults_at p disk = faults_of p.source p.sink disk
 
--- Which of them failed where following ended so. It did not end since the shelf does not follow.
+-- Which of source, output and disk failed where following ended so. It did not end since the shelf does not follow.
 abbrev pub IsCausedBy : (old new : Faults) → Option FollowEnd → Type 0
 IsCausedBy old new None = ⊤
 IsCausedBy old new (Some end.Held) = ⊤
@@ -41,13 +41,13 @@ IsCausedBy old new (Some end.DiskFault) = Rose old.disk new.disk
 IsCausedBy old new (Some end.Unwritten) = Rose old.sink new.sink
 IsCausedBy old new (Some end.Memory) = ⊤
 
--- no count of them fell
+-- no count of faults fell
 pub record CountOn (old new : Faults) : Type 0 where
   pub source : old.source ≤ new.source
   pub sink : old.sink ≤ new.sink
   pub disk : old.disk ≤ new.disk
 
--- no count of them fell, and that rose of what ended following, if it ended
+-- no count of faults fell, and that rose of what ended following, if it ended
 pub record HasCauses (old new : Faults) (o : Option FollowEnd) : Type 0 where
   pub later : CountOn old new
   pub caused : IsCausedBy old new o

@@ -109,7 +109,7 @@ Compares old new body (Some end.DiskFault) = ⊥
 Compares old new body (Some end.Unwritten) = FailsToAcknowledge old new body
 Compares old new body (Some end.Memory) = ⊥
 
--- One record more that is held, where following had ended or not: behind its end nothing is done, and a record that tells whether the shelf
+-- One record more that is held, where following had ended or not: after its end nothing is done, and a record that tells whether the shelf
 -- follows is in no feed.
 abbrev pub GoesOn : Option FollowEnd → (role : Bool) → (old new : Progress) → (body : List ℕ) → Type 0
 GoesOn (Some e) role old new body = new ≡ old

@@ -32,7 +32,7 @@ outcome_for end.Memory = None
 abbrev pub does : (acks : ℕ) → (adopted : List (List ℕ)) → Outcome → Followed
 does acks adopted o = record { acks = acks; adopted = adopted; outcome = o }
 
--- each of these records can stand behind those before it
+-- each of these records can stand after those before it
 abbrev pub AdmitsEach : (admits : List (List ℕ) → List ℕ → Bool) → (so_far more : List (List ℕ)) → Type 0
 AdmitsEach admits so_far [] = ⊤
 AdmitsEach admits so_far (body ∷ more) = (admits so_far body ≡ true) × AdmitsEach admits (so_far ++ body ∷ []) more
@@ -42,7 +42,7 @@ abbrev pub RefusesNext : (admits : List (List ℕ) → List ℕ → Bool) → (s
 RefusesNext admits so_far offer o =
     (place : ℕ) (body : List ℕ) → o ≡ refused_at place → offer ≡ refused_record body → admits so_far body ≡ false
 
--- A follower adopted these records behind those that it held, and wrote so many acknowledgments. It is what following computes from the feed's
+-- A follower adopted these records after those that it held, and wrote so many acknowledgments. It is what following computes from the feed's
 -- bytes, whatever tells which records can stand where, if that says yes to those that were adopted and no to one that was refused.
 pub record IsComputed (bytes : List ℕ) (held holds : List (List ℕ)) (written now : Option (List ℕ)) (o : Outcome) : Type 0 where
   pub adopted : List (List ℕ)

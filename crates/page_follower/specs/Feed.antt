@@ -11,7 +11,7 @@ feed_head = 75 ∷ 83 ∷ 70 ∷ 69 ∷ 69 ∷ 68 ∷ 0 ∷ 6 ∷ []
 abbrev pub most_of_feed : ℕ
 most_of_feed = 1073741824
 
--- records one behind the other, each of them its body's length and its body
+-- records one after the other, each of them its body's length and its body
 abbrev pub fed : List (List ℕ) → List ℕ
 fed [] = []
 fed (body ∷ bodies) = framed body ++ fed bodies
@@ -20,7 +20,7 @@ fed (body ∷ bodies) = framed body ++ fed bodies
 abbrev pub feed_with : List (List ℕ) → List ℕ
 feed_with bodies = feed_head ++ fed bodies
 
--- How a feed ends: behind a record, or behind its head; with other first bytes than a feed has; inside its head or inside the record at this place;
+-- How a feed ends: after a record, or after its head; with other first bytes than a feed has; inside its head or inside the record at this place;
 -- or with more bytes than a feed may have.
 pub data FeedEnd : Type 0 where
   complete : FeedEnd
@@ -28,7 +28,7 @@ pub data FeedEnd : Type 0 where
   cut : (place : ℕ) → FeedEnd
   too_long : FeedEnd
 
--- what the bytes of a feed hold: the bodies of the records that are whole, and how it ends behind them
+-- what the bytes of a feed hold: the bodies of the records that are whole, and how it ends after them
 pub record Feed : Type 0 where
   pub bodies : List (List ℕ)
   pub ends : FeedEnd
@@ -37,7 +37,7 @@ pub record Feed : Type 0 where
 abbrev pub ends_so : FeedEnd → Feed
 ends_so end = record { bodies = []; ends = end }
 
--- a record, and then what a feed holds behind it
+-- a record, and then what a feed holds after it
 abbrev pub with_record : List ℕ → Feed → Feed
 with_record body feed = record { bodies = body ∷ feed.bodies; ends = feed.ends }
 
@@ -55,7 +55,7 @@ records_at (suc fuel) place (b ∷ bs) =
     (records_at fuel (place + 4 + size_in (b ∷ bs)) (drop (size_in (b ∷ bs)) (drop 4 (b ∷ bs))))
     else ends_so (cut place)
 
--- what stands behind the head, if there is one; else what is missing of it, if the bytes are its front
+-- what stands after the head, if there is one; else what is missing of it, if the bytes are its front
 abbrev pub by_head : (rest missing : Option (List ℕ)) → Feed
 by_head (Some rest) missing = records_at (suc (length rest)) 8 rest
 by_head None (Some missing) = ends_so (cut 0)

@@ -49,7 +49,7 @@ abbrev pub is_same : List ℕ → List ℕ → Bool
 is_same held body = is_spent (behind held body)
 
 -- Records of a feed, the first of them at this place, come to a follower that holds these records from there on. `admits` tells whether a body can
--- stand behind others.
+-- stand after others.
 abbrev pub follows : (admits : List (List ℕ) → List ℕ → Bool) → (so_far held : List (List ℕ)) → (place : ℕ) → (bodies : List (List ℕ)) → FeedEnd
     → Followed
 follows admits so_far held place [] end = stops (outcome_of end)

@@ -1,4 +1,4 @@
--- What a follower holds behind a feed, and how much of it was acknowledged.
+-- What a follower holds after a feed, and how much of it was acknowledged.
 use Rattle.std.specs.Prelude.{◌≡◌, ◌≤◌, ◌<◌, ◌++◌, ◌∷◌, ℕ, ◌+◌, List, [], length, Option, Some, None}
 use Rattle.std.specs.Io.KnownBytes.{Appends}
 use Rattle.shelf.specs.WebOutside.View.{SourceView, SinkView}
@@ -76,7 +76,7 @@ pub record IsUnfed (mid new : Progress) (f : FeedFault) (offer : Offer) (held ho
   pub finds : FindsNone mid new f
   pub stays : holds ≡ held
 
--- how following came to its end behind the records that are held, by the record that was offered, if one was, and by those that are held before
+-- how following came to its end after the records that are held, by the record that was offered, if one was, and by those that are held before
 -- and now
 abbrev pub StopsAdopting : (mid new : Progress) → (offer : Offer) → (held holds : List (List ℕ)) → FollowEnd → Type 0
 StopsAdopting mid new offer held holds end.Held = IsEnded mid new offer held holds
@@ -89,7 +89,7 @@ StopsAdopting mid new offer held holds end.DiskFault = IsInDoubt mid new offer
 StopsAdopting mid new offer held holds end.Unwritten = IsUntold mid new offer held holds
 StopsAdopting mid new offer held holds end.Memory = IsRefused mid new offer held holds
 
--- The records of the feed behind those that are held: the first of them were adopted and acknowledged, and it is told what came of the next one,
+-- The records of the feed after those that are held: the first of them were adopted and acknowledged, and it is told what came of the next one,
 -- and what a crash may leave of the disk.
 pub record HasAdopted (Told : Moments) (old new : Progress) (held holds : List (List ℕ)) (e : FollowEnd) : Type 0 where
   pub more : List (List ℕ)
@@ -99,7 +99,7 @@ pub record HasAdopted (Told : Moments) (old new : Progress) (held holds : List (
   pub stops : StopsAdopting mid new offer (held ++ more) holds e
   pub told : Told old.sink old.acks more mid.sink offer
 
--- What came of the next record of the feed behind those that are held: it was adopted and acknowledged, or following came to its end.
+-- What came of the next record of the feed after those that are held: it was adopted and acknowledged, or following came to its end.
 abbrev pub AdoptsNext : {D : Type 0} → (D → View) → (old new : Progress) → (before after : D) → (held holds : List (List ℕ)) → Option FollowEnd → Type 0
 AdoptsNext view old new before after held holds None =
     (body : List ℕ) × Acknowledges old new body × (holds ≡ held ++ body ∷ []) × HasGained (view before) (view after) held body
@@ -135,8 +135,8 @@ Begins source sink new (Some end.Memory) = ⊥
 abbrev pub AdoptsNone : (Told : Moments) → (new : Progress) → (held holds : List (List ℕ)) → Type 0
 AdoptsNone Told new held holds = (holds ≡ held) × Told new.sink new.acks [] new.sink no_record
 
--- What a follower did with a feed behind its head, whose file held these records and holds those now. A call of the disk failed while it compared
--- those that it held; or it compared them up to the end; or it adopted those behind them.
+-- What a follower did with a feed after its head, whose file held these records and holds those now. A call of the disk failed while it compared
+-- those that it held; or it compared them up to the end; or it adopted those after them.
 pub data Feeds (Told : Moments) (begun new : Progress) (held holds : List (List ℕ)) (e : FollowEnd) : Type 0 where
   unread : (done rest : List (List ℕ)) → held ≡ done ++ rest → HasCompared begun new (feed_of done) → e ≡ end.DiskFault → AdoptsNone Told new held holds
       → Feeds Told begun new held holds e
@@ -144,7 +144,7 @@ pub data Feeds (Told : Moments) (begun new : Progress) (held holds : List (List 
   adopted : (between : Progress) → HasCompared begun between (feed_of held) → between.ending ≡ None → HasAdopted Told between new held holds e
       → Feeds Told begun new held holds e
 
--- what a follower did with a feed: there was no head; or it was fed behind it
+-- what a follower did with a feed: there was no head; or it was fed after it
 pub data Follows (Told : Moments) (source : SourceView) (sink : SinkView) (held holds : List (List ℕ)) (new : Progress) (e : FollowEnd) : Type 0 where
   headless : Begins source sink new (Some e) → AdoptsNone Told new held holds → Follows Told source sink held holds new e
   fed_behind : (begun : Progress) → Begins source sink begun None → Feeds Told begun new held holds e → Follows Told source sink held holds new e

@@ -10,7 +10,7 @@ use Rattle.shelf.specs.declared.shelf.Shelf.{Shelf}
 use Rattle.page_follower.specs.declared.fault.FollowEnd.{FollowEnd}
 use Rattle.page_follower.specs.declared.fault.FollowEnd.TheVariants as end
 
--- Its number, its limits, its nonces and that it follows stay; and it can be fed on, unless a call of its disk failed.
+-- The number of a shelf, its limits, its nonces and that it follows stay; and it can be fed on, unless a call of its disk failed.
 pub record IsKept {D N : Type 0} (old new : Shelf D N) (o : Option FollowEnd) : Type 0 where
   pub rules_are : new.rules ≡ old.rules
   pub nonces_are : new.nonces ≡ old.nonces

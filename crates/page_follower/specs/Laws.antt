@@ -24,7 +24,7 @@ CutFeedsHoldTheFirst =
     (bodies : List (List ℕ)) (rest : List ℕ) → CanBeFed bodies → 0 < length rest → IsShort rest → length (feed_with bodies ++ rest) ≤ most_of_feed
     → feed_in (feed_with bodies ++ rest) ≡ record { bodies = bodies; ends = cut (length (feed_with bodies)) }
 
--- From the moment on at which records were acknowledged, a crash leaves these behind those that the disk held before, and behind them the first of
+-- From the moment on at which records were acknowledged, a crash leaves these after those that the disk held before, and after them the first of
 -- those that came later; so one now does. So it is for each number of them: there was a disk and an output when they and no others had been
 -- acknowledged. A crash at any moment before that left those that were held before, and behind them the first of all. A record that was refused is
 -- none of them.

@@ -55,7 +55,7 @@ abbrev pub IsFedOn : {D : Type 0} → (D → View) → (held : List (List ℕ)) 
 IsFedOn {D} view held old new sink acks more told offer =
     (mid : D) × AreFed view held old sink acks more told mid × IsOffered view (held ++ more) mid offer new
 
--- The records that a disk held were read, which changed nothing. Then those behind them were added and acknowledged, and one was offered, if one
+-- The records that a disk held were read, which changed nothing. Then those after them were added and acknowledged, and one was offered, if one
 -- was.
 abbrev pub HasFed : {D : Type 0} → (D → View) → (held : List (List ℕ)) → (old new : D) → (sink : SinkView) → (acks : ℕ) → (more : List (List ℕ))
     → (told : SinkView) → Offer → Type 0
@@ -63,7 +63,7 @@ HasFed {D} view held old new sink acks more told offer =
     (read : D) × HasRested (view old) (view read) held × IsFedOn view held read new sink acks more told offer
 
 -- what is told of a follower's disk by the records that were adopted and acknowledged, from one output to another, and the one that was offered
--- behind them, if one was
+-- after them, if one was
 abbrev pub Moments : Type 1
 Moments = (sink : SinkView) → (acks : ℕ) → (more : List (List ℕ)) → (told : SinkView) → Offer → Type 0
 
@@ -80,7 +80,7 @@ abbrev pub HoldsWith : (bodies others : List (List ℕ)) → (bytes : List ℕ) 
 HoldsWith bodies [] bytes = IsClosed newest bodies bytes
 HoldsWith bodies (body ∷ others) bytes = MayHold newest bodies body bytes
 
--- bytes hold these records, and behind them the first of the others, of which the next one may be in flight
+-- bytes hold these records, and after them the first of the others, of which the next one may be in flight
 pub record HoldsFirst (bodies others : List (List ℕ)) (bytes : List ℕ) : Type 0 where
   pub first : List (List ℕ)
   pub rest : List (List ℕ)

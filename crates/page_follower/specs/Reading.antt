@@ -15,7 +15,7 @@ use Rattle.page_follower.specs.declared.reader.Compared.TheVariants as compared
 
 -- ---- what came
 
--- these bytes came behind so many, and up to so many
+-- these bytes came after so many, and up to so many
 pub record Got (old new : SourceView) (before after : ℕ) (bytes : List ℕ) : Type 0 where
   pub consumed : Consumes old.left new.left bytes
   pub place : after ≡ before + length bytes
@@ -50,7 +50,7 @@ pub record GoesPast (old new : Option (List ℕ)) (place size : ℕ) : Type 0 wh
   pub past : most_of_feed < place + length bytes
   pub within : length bytes ≤ size
 
--- a read failed, behind some bytes or none
+-- a read failed, after some bytes or none
 pub record IsUnread (old new : SourceView) : Type 0 where
   pub consumed : ConsumesSome old.left new.left
   pub rose : Rose old.faults new.faults
@@ -88,7 +88,7 @@ pub record IsNoHead (old new : Option (List ℕ)) : Type 0 where
 
 -- ---- what the reader's calls come to
 
--- why bytes were not read, behind so many, of which so many or fewer were asked for
+-- why bytes were not read, after so many, of which so many or fewer were asked for
 abbrev pub Fails : (old new : SourceView) → (place size : ℕ) → FeedFault → Type 0
 Fails old new place size fault.Head = ⊥
 Fails old new place size (fault.Cut p) = ⊥
@@ -134,7 +134,7 @@ abbrev pub Heads : (old new : SourceView) → (before after : ℕ) → Result (U
 Heads old new before after (Ok t) = Got old new before after feed_head
 Heads old new before after (Err f) = NoHead old new f
 
--- why no record came, behind so many bytes
+-- why no record came, after so many bytes
 abbrev pub NoRecord : (old new : SourceView) → (place : ℕ) → FeedFault → Type 0
 NoRecord old new place fault.Head = ⊥
 NoRecord old new place (fault.Cut p) = (p ≡ place) × IsCut old.left new.left

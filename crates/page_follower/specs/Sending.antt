@@ -28,7 +28,7 @@ WritesUnless true old new bytes = WritesPart old new bytes
 abbrev pub SendsBody : (old new : SinkView) → (body : List ℕ) → (failed : Bool) → Type 0
 SendsBody old new body failed = WritesUnless failed old new (framed body)
 
--- one record more, behind writes of which one had failed or not: behind one that failed nothing is written, and a record that tells whether the
+-- one record more, after writes of which one had failed or not: after one that failed nothing is written, and a record that tells whether the
 -- shelf follows is in no feed
 abbrev pub Sends : (failed : Bool) → (role : Bool) → (old new : SinkView) → (body : List ℕ) → (fails : Bool) → Type 0
 Sends true role old new body fails = (fails ≡ true) × (new ≡ old)

@@ -45,7 +45,7 @@ other_head = refl
 cut_record : feed_in (take 19 (feed_with four_bodies)) ≡ record { bodies = some_bytes 3 ∷ []; ends = cut 15 }
 cut_record = refl
 
--- and so it is inside a record's length
+-- inside a record's length a feed is cut at the record's first byte
 cut_length : feed_in (take 17 (feed_with four_bodies)) ≡ record { bodies = some_bytes 3 ∷ []; ends = cut 15 }
 cut_length = refl
 
@@ -72,7 +72,7 @@ refused : followed admits_short [] (feed_in (feed_with four_bodies))
     ≡ record { acks = 3; adopted = some_bytes 3 ∷ some_bytes 1 ∷ [] ∷ []; outcome = refused_at 24 }
 refused = refl
 
--- a feed that is cut inside its second record, which begins behind 300 bytes: the first is acknowledged
+-- a feed that is cut inside its second record, which begins after 300 bytes: the first is acknowledged
 cut_second : followed admits_all [] (feed_in (take 354 (feed_with (some_bytes 288 ∷ some_bytes 101 ∷ []))))
     ≡ record { acks = 1; adopted = some_bytes 288 ∷ []; outcome = cut_at 300 }
 cut_second = refl

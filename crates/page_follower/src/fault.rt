@@ -60,7 +60,7 @@ pub enum FollowEnd {
     Feed(FeedFault),
     /// The record at this place of the feed differs from the one that is held.
     Other { place: u64 },
-    /// The record at this place of the feed cannot stand behind those that are held.
+    /// The record at this place of the feed cannot stand after those that are held.
     Record { place: u64 },
     /// The journal has no room: with the next record it would have so many bytes.
     Full { len: u64 },

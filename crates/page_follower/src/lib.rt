@@ -39,7 +39,7 @@ pub fn cut_feeds_hold_the_first()
     ensures { CutFeedsHoldTheFirst }
 {}
 
-/// A law: from the moment on at which records were acknowledged, a crash leaves them behind those that were held before, and behind them the first of
+/// A law: from the moment on at which records were acknowledged, a crash leaves them after those that were held before, and after them the first of
 /// those that came later.
 pub fn acknowledged_records_are_held<D: Disk>()
     ensures { IsTrue D.tells → AcknowledgedRecordsAreHeld D.view }

@@ -8,7 +8,7 @@ use shelf::{Sink, Take, is_role};
 #[derive(Drop)]
 pub struct Sender<'a, O> {
     sink: &'a mut O,
-    // A write failed, and nothing is written behind it.
+    // A write failed, and nothing is written after it.
     failed: bool,
 }
 
@@ -32,7 +32,7 @@ impl<'a, O: Sink> Sender<'a, O> {
         self.failed
     }
 
-    // Writes a record, behind writes of which none failed.
+    // Writes a record, after writes of which none failed.
     fn send(&mut self, body: &[u8])
         requires { length body.now < 2 ^ 32 }
         ensures same_reference { self.new.sink.ghost_name ≡ self.old.sink.ghost_name }

@@ -10,7 +10,7 @@ use crate::FEED_HEAD;
 use itoa::Buffer;
 use shelf::{Failed, Sink, u32_to_wire, write_all};
 
-// Writes two texts, one behind the other.
+// Writes two texts, one after the other.
 fn write_both<O: Sink>(sink: &mut O, first: &[u8], second: &[u8]) -> Result<(), Failed>
     ensures ok { OnOk result
         (Appends (O.view sink.old).written (O.view sink.new).written (first.now ++ second.now)) }

@@ -19,7 +19,7 @@ TakesStored tells takes old disk result new = IsTrue tells → OnOk result (Take
 abbrev pub TakesSome : {T : Type 0} → (T → ℕ → List ℕ → T → Type 0) → T → T → Type 0
 TakesSome takes old new = (bodies : List (List ℕ)) × TakesAll takes old 8 bodies new × (length (at_rest bodies) ≤ 2 ^ 30)
 
--- The journal has this body behind its records, and can go on.
+-- The journal has this body after its records, and can go on.
 abbrev pub HasAppended : {D : Type 0} → (D → View) → Journal D → (body : List ℕ) → Journal D → Type 0
 HasAppended view old body new = IsSettled view new × (bodies_in view new ≡ bodies_in view old ++ body ∷ [])
 

@@ -7,7 +7,7 @@ use Rattle.page_journal.specs.Records.{at_rest, stored}
 use Rattle.page_journal.specs.Scanned.{NoLonger}
 use Rattle.page_journal.specs.declared.journal.Journal.{Journal}
 
--- the bytes of a file are its records and a closed gate behind them, and no record is longer than this
+-- the bytes of a file are its records and a closed gate after them, and no record is longer than this
 pub record IsWholeFile (file : List ℕ) (most : ℕ) : Type 0 where
   pub rests : file ≡ at_rest (stored file)
   pub fits : length file ≤ 2 ^ 30

@@ -35,7 +35,7 @@ pub trait Take {
     /// What holds of the taker where the next gate is at this place.
     ghost ready: { Self → ℕ → Type 0 };
 
-    /// Takes the body of the record whose gate is at this place. A closed gate has room behind it.
+    /// Takes the body of the record whose gate is at this place. A closed gate has room after it.
     fn body(&mut self, place: u64, body: &[u8])
         requires room { place + 6 + length body.now ≤ 2 ^ 30 }
         requires ready { ready self.old place }
@@ -114,7 +114,7 @@ impl<D: Disk> Journal<D> {
             OnOk result (TakesAll T.takes taker.old 8 (bodies_in D.view self.old) taker.new) }
         ensures front { IsTrue D.tells →
             TakesFront T.takes taker.old (bodies_in D.view self.old) taker.new }
-        // Also of a disk that does not tell its bytes, and where a call of it failed.
+        // What follows holds of a disk that does not tell its bytes too, and where a call of it failed.
         ensures handed { TakesSome T.takes taker.old taker.new }
         ensures quiet { IsQuiet (view_of D.view self.old) (view_of D.view self.new) }
         ensures len { length_of self.new ≡ length_of self.old }

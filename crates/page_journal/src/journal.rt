@@ -33,7 +33,7 @@ impl From<Failed> for AppendFault {
     }
 }
 
-/// Records on a disk: the header, and then each record behind a gate that is open (1), its length and its body. Behind the last one stands a closed gate (0), which is on the disk before anything is written behind it.
+/// Records on a disk: the header, and then each record after a gate that is open (1), its length and its body. After the last one stands a closed gate (0), which is on the disk before anything is written after it.
 #[derive(Drop)]
 pub struct Journal<D: Disk> {
     pub(crate) disk: D,

@@ -18,7 +18,7 @@ use web_disk::Disk;
 #[derive(Drop)]
 pub struct StoredRecords {
     pub(crate) format: u8,
-    // The length of the file, with what stands behind the records.
+    // The length of the file, with what stands after the records.
     pub(crate) len: u64,
     // Its room is enough for the longest record.
     pub(crate) buffer: Vec<u8>,
@@ -75,7 +75,7 @@ impl StoredRecords {
         ensures taken { TakesStored D.tells T.takes taker.old (D.view disk.old) result taker.new }
         ensures front { IsTrue D.tells →
             TakesFront T.takes taker.old (stored (D.view disk.old).seen) taker.new }
-        // Also of a disk that does not tell its bytes, and where a call of it failed.
+        // What follows holds of a disk that does not tell its bytes too, and where a call of it failed.
         ensures handed { TakesSome T.takes taker.old taker.new }
         ensures quiet { IsQuiet (D.view disk.old) (D.view disk.new) }
         ensures format { self.new.format ≡ self.old.format }

@@ -93,7 +93,7 @@ pub fn recover<D: Disk>(alloc: Global, disk: &mut D, len: u64) -> Result<Opening
     }
 }
 
-/// The same of any disk; an empty one gets a journal with no records.
+/// Reads the records of any disk, and mends its end. An empty one gets a journal with no records.
 pub fn recover_or_create<D: Disk>(alloc: Global, disk: &mut D) -> Result<Opening, JournalFault>
     ensures fits { IfOk result (λ opening. opening.end + 1 ≤ 2 ^ 30) }
     ensures known { IfOk result (λ opening. is_format opening.format ≡ true) }

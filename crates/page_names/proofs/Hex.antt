@@ -80,7 +80,7 @@ onto_zero : (k : ℕ) (after : List ℕ) → hex_onto k 0 after ≡ replicate k 
 onto_zero zero after = refl
 onto_zero (suc k) after = onto_zero k (48 ∷ after) ∙ replicate_push k 48 after
 
--- the digits without leading zeros, behind so many zeros
+-- the digits without leading zeros, after so many zeros
 padded : (k f n : ℕ) (after : List ℕ) → k ≤ f → n < 16 ^ suc k
     → (j : ℕ) × (hex_onto (suc k) n after ≡ replicate j 48 ++ digits_onto (suc f) 16 false n after)
 padded zero f n after le small =

@@ -49,7 +49,7 @@ numbers_in bytes = do
   n ← hex_number rest.1
   Some (record { shelf = s; instance = i; page = k; nonce = n })
 
--- the destination that the bytes behind `/servlets/` spell: a name alone, or one that `;` ends and a page's numbers
+-- the destination that the bytes after `/servlets/` spell: a name alone, or one that `;` ends and a page's numbers
 abbrev pub destination_in : List ℕ → Option (List ℕ × List ℕ) → Option Destination
 destination_in bytes None = option_map start (name_in bytes)
 destination_in bytes (Some parts) = do

@@ -110,7 +110,7 @@ pub lone_percent : destination_of (codes "/servlets/sum%") ≡ None
 unfolding destination_of named_by percent_decode
 lone_percent = refl
 
--- nothing may stand behind a page's nonce, nor before the path
+-- nothing may stand after a page's nonce, nor before the path
 pub more_behind : destination_of (codes "/servlets/sum;0*0*0*0000000000000000*0") ≡ None
 unfolding destination_of named_by percent_decode
 more_behind = refl

@@ -24,7 +24,7 @@ pub fn write_url(alloc: Global, name: &ScriptName, numbers: PageName) -> Result<
     Ok(Bytes::new(text.into_bytes()))
 }
 
-// What stands behind the `;`.
+// What stands after the `;`.
 #[tactic(auto, using(crate::proofs::Hex::hex_written))]
 fn numbers_text(alloc: Global, numbers: PageName) -> Result<String, AllocError>
     ensures { IfOk result (λ text. string_bytes text ≡ numbers_spelling numbers) }

@@ -36,13 +36,13 @@ abbrev pub element : List ℕ → Option (List ℕ) → Option (List ℕ) → Op
 element n attributes children =
     if is_element n then join (option_map (start_tag n) attributes) (join children (Some (end_tag n))) else None
 
--- a value behind an element's name is attributes where it is the empty list, or a list whose first item is a list
+-- a value after an element's name is attributes where it is the empty list, or a list whose first item is a list
 abbrev pub attributes_in : Val → Option Vals
 attributes_in (list no_vals) = Some no_vals
 attributes_in (list (val (list ws) vs)) = Some (val (list ws) vs)
 attributes_in _ = None
 
--- the element whose first item behind the name is these attributes, or is a child of this page
+-- the element whose first item after the name is these attributes, or is a child of this page
 abbrev pub element_with : List ℕ → Option Vals → Option (List ℕ) → Option (List ℕ) → Option (List ℕ)
 element_with n None first others = element n (Some []) (join first others)
 element_with n (Some attributes) first others = element n (attributes_of attributes) others
@@ -56,7 +56,7 @@ abbrev pub void_with : List ℕ → Option Vals → Option (List ℕ)
 void_with n None = None
 void_with n (Some attributes) = start_of n attributes
 
--- a void element: behind its name stand attributes, if there are any, and no children
+-- a void element: after its name stand attributes, if there are any, and no children
 abbrev pub void_of : List ℕ → Vals → Option (List ℕ)
 void_of n no_vals = Some (start_tag n [])
 void_of n (val v no_vals) = void_with n (attributes_in v)
@@ -92,10 +92,10 @@ appended old page = option_map (λ b. old ++ b) page
 abbrev pub listed : Value → List Value → Val
 listed v vs = list (val (meaning v) (meanings vs))
 
--- whether these items, in a list behind an element's name, are attributes
+-- whether these items, in a list after an element's name, are attributes
 abbrev pub AreAttributes : Vals → Bool → Type 0
 AreAttributes items b = attributes_in (list items) ≡ (if b then Some items else None)
 
--- what stands behind an element's name is these attributes and then these children, whatever the name
+-- what stands after an element's name is these attributes and then these children, whatever the name
 abbrev pub AreSplit : Vals → Vals → Vals → Type 0
 AreSplit parts attributes children = (n : List ℕ) → element_of n parts ≡ element n (attributes_of attributes) (children_of children)

@@ -39,7 +39,7 @@ turns_stop count i done body env s t o entered h e =
     let left : count - i ≡ suc (count - (i + 1)) = omega arith in
     rw left (one_stop (count - (i + 1)) i done body env s t o entered e)
 
--- what stands before and behind one turn of a loop
+-- what stands before and after one turn of a loop
 pub turn_kept : (a : Arena) (count i : ℕ) (b : Core) (env env1 : List Val) (inside inside1 : List TxName) (done : List Val) (first s t : State) (v : Val)
     → i < count → env1 ≡ env ++ number (pos i) ∷ [] → inside1 ≡ inside → eval (calls_in a) b env1 inside1 s ≡ got v t
     → turns count 0 [] (λ e. eval (calls_in a) b e inside) env first ≡ turns (count - i) i done (λ e. eval (calls_in a) b e inside) env s

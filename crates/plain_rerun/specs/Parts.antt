@@ -105,11 +105,11 @@ first_turns a n body env inside = turns n 0 [] (λ e. eval (calls_in a) body e i
 abbrev pub turns_at : Arena → Val → Core → List Val → List TxName → Run Val
 turns_at a count b env inside = for_each inside (as_number count) (λ e. eval (calls_in a) b e inside) env
 
--- a part stands behind a node, and in the script, and calls tasks below this one alone
+-- a part stands after a node, and in the script, and calls tasks below this one alone
 abbrev pub IsUnder : Arena → (below number part : ℕ) → Type 0
 IsUnder a j n p = IsBehind n (length a.nodes) p × CallsBelow j (tree a p)
 
--- each of these parts stands behind a node, and in the script, and calls tasks below this one alone
+-- each of these parts stands after a node, and in the script, and calls tasks below this one alone
 abbrev pub AreBehind : Arena → (below number : ℕ) → List ℕ → Type 0
 AreBehind a j n ps = AllByRecursion (IsUnder a j n) ps
 

@@ -28,7 +28,7 @@ impl GoesOn {
         }
     }
 
-    /// Whether the next part goes on behind this value.
+    /// Whether the next part goes on after this value.
     pub fn passes(self, value: &Value) -> bool
         ensures { result ≡ passes self (meaning value.now) }
     {

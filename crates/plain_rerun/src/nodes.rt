@@ -6,7 +6,7 @@ ghost use Rattle.plain_rerun.specs.Parts.{tree, AreBehind, CallsEarlier};
 
 use script_nodes::{Node, Script};
 
-/// The node of a number: its parts are behind it, and call the tasks that it may call.
+/// The node of a number: its parts are after it, and call the tasks that it may call.
 #[tactic(auto, using(crate::proofs::Under::parts_under, crate::proofs::Under::call_earlier))]
 pub fn node_of(script: &Script, below: usize, number: u32) -> &Node
     requires number { number < length script.now.nodes }

@@ -1,4 +1,4 @@
--- Disks that are asked for, one behind the other.
+-- Disks that are asked for, one after the other.
 use Rattle.std.proofs.Common.{◌≡◌, ◌∙◌, ap, inr, refl, sym, subst, ℕ, suc, ◌+◌, ◌<◌, List, [], ◌++◌, append_assoc, arith}
 use Rattle.std.proofs.lemmas.List.{append-nil}
 use Rattle.web_disk.specs.View.{RackView}
@@ -14,7 +14,7 @@ asked_none rack = sym (append-nil rack.asked)
 pub asked_all : (shelf : ℕ) (old new : RackView) → AsksForOne shelf old new → AsksForSome shelf old new
 asked_all shelf old new one = (three_numbers shelf, (inr (inr refl), one))
 
--- behind the disks of so many those of the next
+-- after the disks of so many those of the next
 pub asked_more : (count : ℕ) (first old new : RackView) → AsksForFirst count first old → AsksForOne count old new → AsksForFirst (suc count) first new
 asked_more count first old new before one =
     one ∙ (ap (λ (ns : List ℕ). ns ++ three_numbers count) before ∙ append_assoc first.asked (numbers_below count) (three_numbers count))
@@ -46,7 +46,7 @@ first_goes_on shelf old new some = first_stays some.0 old new some.1.1
 pub first_rests : (old new : RackView) → AsksForNone old new → StaysFirst (HasAsked old) (HasAsked new)
 first_rests old new none front first = (first.0, first.1 ∙ sym none)
 
--- those of so many stand there first, whatever was asked for behind them
+-- those of so many stand there first, whatever was asked for after them
 pub asked_through : (count : ℕ) (first opened played last : RackView) → AsksForFirst count first opened → StaysFirst (HasAsked opened) (HasAsked played)
     → AsksForNone played last → AsksForAll count first last
 asked_through count first opened played last asked stays none =

@@ -134,7 +134,7 @@ books_stand view tells scripts xs ts holds told fit own images k s e =
     subst (λ (z : runs.Shelf). HoldsTheBook z.rules z.book.shelf (holds z.book.shelf) z.book) x.2
     (subst (λ n. HoldsTheBook (rules_of x.0.rules) n (holds n) b) (sym number) stands)
 
--- ---- behind a shelf that is lost
+-- ---- after a shelf that is lost
 
 book_fewer : (rules : Rules) (shelf : ℕ) (held holds : List ℕ → Type 0) (b : Book) → HoldsTheBook rules shelf held b
     → AreAmong holds held → HoldsTheBook rules shelf holds b
@@ -159,7 +159,7 @@ room_fewer rules scripts shelf held holds b (reopen.Other place) h among = tt
 room_fewer rules scripts shelf held holds b reopen.Disk h among = tt
 room_fewer rules scripts shelf held holds b reopen.Memory h among = tt
 
--- the disks stand for the books where those of the other shelves went home behind it
+-- the disks stand for the books where those of the other shelves went home after it
 pub left_behind : {D : Type 0} (view : D → View) (tells : Bool) (scripts : List Named) (xs ys : List (Shelf D Counting)) (ts : List (Option Ticket)) (place : ℕ)
     (why : Reopen) (mid after : RackView) → IsTrue tells → AreFit view tells xs ts → AreOwn view tells xs ts → KeepsShelvesBut place xs ys
     → LeavesLost view scripts xs place (shelves_of mid).holds → TellsItsRoom view scripts xs place (shelves_of mid).holds why → IsPutBack xs place (shelves_of mid).out → IsHome ys (shelves_of mid).out

@@ -34,7 +34,7 @@ begins number scripts low read =
     let size : length (texts_of scripts) ≡ length scripts = length-map scripts text_of in
     (low, (omega (arith, few, size), texts_fit scripts (read_short scripts read)))
 
--- the bytes of a text, behind those of its length
+-- the bytes of a text, after those of its length
 abbrev counted_bytes : List ℕ → List ℕ
 counted_bytes text = drop 4 (script_bytes ([], text))
 

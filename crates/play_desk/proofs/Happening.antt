@@ -17,7 +17,7 @@ use Rattle.shelf.specs.declared.shelf.Shelf.{Shelf}
 use Rattle.play_desk.specs.Desk.{counting, happening, in_64_bits}
 use Rattle.play_desk.specs.Staff.{shelf_at}
 
--- the counter of a shelf gives the nonces behind those that it has given
+-- the counter of a shelf gives the nonces after those that it has given
 has_given : (c : Counting) → HasGiven counting (counted c 0) (counted c)
 has_given c k = omega arith
 
@@ -39,7 +39,7 @@ abbrev pub moment_of : {D : Type 0} → (D → View) → Shelf D Counting → Ev
 moment_of view s what reply =
     record { rules = rules_of s.rules; nonce = counting (counted s.nonces 0); event = what; fate = fate_by reply }
 
--- the book behind it
+-- the book after it
 pub then_is : {D : Type 0} (view : D → View) (s new : Shelf D Counting) (what : Event) (reply : spec.Reply)
     → Happens view s new what reply → then_book (moment_of view s what reply) (book_in view s) ≡ book_in view new
 then_is view s new what reply h = ap (λ (x : spec.Reply × runs.Shelf). x.1.book) h

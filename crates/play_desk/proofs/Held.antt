@@ -202,7 +202,7 @@ publish_lawful n d k worker t s here place holds o =
 
 -- ---- a crash
 
--- what is held behind it was held, and is of another shelf
+-- what is held after it was held, and is of another shelf
 pub held_elsewhere : (n k from w : ℕ) (held : List (Option Ticket)) (t : Ticket) → slice_get (without_shelf n k from held) w ≡ Some (Some t)
     → (slice_get held w ≡ Some (Some t)) × (shelf_for n (from + w) t.target ≢ k)
 held_elsewhere n k from w [] t h = absurd (let no : None ≡ Some (Some t) = h in cc)

@@ -130,7 +130,7 @@ stays_set view xs k x y rack now here stays =
 
 -- ---- the event crash
 
--- a shelf that has crashed is the one behind the event
+-- a shelf that has crashed is the one after the event
 pub crash_happens : {D : Type 0} (view : D → View) (scripts : List Named) (x y : Shelf D Counting) (fate : Fate)
     → IsCrashed (rules_of x.rules) (book_in view x) (counting (counted x.nonces 0)) scripts fate (book_in view y)
     → y.rules ≡ x.rules → y.nonces ≡ x.nonces
@@ -162,7 +162,7 @@ crash_step view scripts xs ts us k n live x y fate h is held =
     made : List runs.Shelf → List (Option next.Ticket) → Desk
     made ss hs = record { scripts = scripts; shelves = ss; held = hs }
 
--- what was in doubt lost or kept, the desk is behind the event
+-- what was in doubt lost or kept, the desk is after the event
 pub crash_comes : {D : Type 0} (view : D → View) (scripts : List Named) (xs : List (Shelf D Counting)) (ts us : List (Option Ticket)) (k live : ℕ) (x y : Shelf D Counting)
     → slice_get xs k ≡ Some x → HasCrashed view scripts x y → y.rules ≡ x.rules → y.nonces ≡ x.nonces → length (book_in view y).instances ≡ live
     → map (option_map ticket_of) us ≡ without_shelf (length xs) k 0 (map (option_map ticket_of) ts)

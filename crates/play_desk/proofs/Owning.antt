@@ -47,7 +47,7 @@ own_with {D = D} view tells xs ts us k x y own here own_y mine others = record {
   are_open = each_with (IsOpen view) xs ts us k x y own.are_open here mine others;
 }
 
--- a ticket that is open on a shelf is open on it behind an event
+-- a ticket that is open on a shelf is open on it after an event
 opens_on : {D : Type 0} (view : D → View) (x y : Shelf D Counting) (what : Event) (reply : spec.Reply) (t : Ticket)
     → IsLawful what (book_in view x) → Happens view x y what reply → y.library ≡ x.library → IsOpen view x t → IsOpen view y t
 opens_on view x y what reply t lawful h library o =

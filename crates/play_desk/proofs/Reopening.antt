@@ -28,7 +28,7 @@ use Rattle.play_steps.specs.declared.stage.Reopen.TheVariants as reopen
 use Rattle.play_desk.specs.Opening.{CountRose, CountStays, Finds, FindsBook, HasCrashed, HoldsOpened, LeavesNoRoom, StandsLost, StaysLost, TellsRoom, cause_of}
 use Rattle.play_desk.specs.declared.opening.OpenCause.TheVariants as cause
 
--- a book that is found is the one behind the event crash, what was in doubt lost or kept
+-- a book that is found is the one after the event crash, what was in doubt lost or kept
 has_crashed : {D : Type 0} (view : D → View) → AReopenedShelfHasCrashed view → (scripts : List Named) (old : Shelf D Counting)
     → StandsMeasured (rules_of old.rules) old.rules.number (view old.journal.disk) (book_in view old)
     → (images : List ℕ → Type 0) → AreAmong images (view old.journal.disk).images → (b : Book) → FindsBook view scripts old.rules.number images b
@@ -57,7 +57,7 @@ is_another law scripts number b n k image held another =
     (λ makes. ap (are_same scripts) (sym (recovered_setup (of_length n) kept b.down b)) ∙ another (made_of (if_kept n b) makes.0) makes.1)
     (law setup_of_texts number b (if_kept n b) k image held)
 
--- where there is no room for the setup, this is so of the book behind the event crash
+-- where there is no room for the setup, this is so of the book after the event crash
 pub tells_room : {D : Type 0} (view : D → View) → ImagesMakeBooks → AReopenedShelfHasCrashed view → (scripts : List Named) (old : Shelf D Counting)
     → StandsMeasured (rules_of old.rules) old.rules.number (view old.journal.disk) (book_in view old)
     → (images : List ℕ → Type 0) → AreAmong images (view old.journal.disk).images → (opened : Result (Shelf D Counting) Reopen)

@@ -86,7 +86,7 @@ pub comes_over : {State Fate Answer : Type 0} (fails : Fate → Bool) (rose told
 comes_over fails rose told (answered x) old a new so h = h
 comes_over fails rose told (event by) old a new so h = (h.0, h.1, λ e. so (h.2 e))
 
--- ---- the desk behind them
+-- ---- the desk after them
 
 pub shelf_there : {D : Type 0} (view : D → View) (scripts : List Named) (xs : List (code.Shelf D Counting)) (ts : List (Option Ticket)) (k : ℕ) (x : code.Shelf D Counting)
     → slice_get xs k ≡ Some x → slice_get (desk_with view scripts xs ts).shelves k ≡ Some (shelf_at view x)

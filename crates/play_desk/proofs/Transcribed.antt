@@ -66,7 +66,7 @@ lawful_on d e a b n new ran one later = let two = later one.1 in (lawful_then a 
 all_replies : (a b : List Entry) (r q : List Reply) → map (λ e. e.reply) a ≡ r → map (λ e. e.reply) b ≡ q → map (λ e. e.reply) (a ++ b) ≡ r ++ q
 all_replies a b r q one two = map-append (λ e. e.reply) a b ∙ ap (λ rs. rs ++ map (λ e. e.reply) b) one ∙ ap (λ rs. r ++ rs) two
 
--- an event, and a run behind it
+-- an event, and a run after it
 after_event : {X : Type 0} (d : Desk) (x : X × Desk) (one : Ledger → X × Ledger) (run : Run desk_rules) (next : X → Ledger → Run ledger_rules)
     → EntersOne d x one → Follows x.1 run (next x.0) → Follows d run (λ l. let y = one l in next y.0 y.1)
 after_event d x one run next h k = record {
@@ -82,7 +82,7 @@ after_event d x one run next h k = record {
   lawful = λ n o. lawful_on d x.1 h.entries k.entries n run.state h.runs (h.lawful n o) (k.lawful n);
 }
 
--- a call, and a run behind it
+-- a call, and a run after it
 after_call : {X : Type 0} (d : Desk) (call : Call Desk Fate X) (over : Ledger → Call Ledger Fate X) (fates : List Fate)
     (next : X → Desk → List Fate → Run desk_rules) (after : X → Ledger → List Fate → Run ledger_rules)
     → Enters d call over → ((a : X) (e : Desk) (later : List Fate) → Follows e (next a e later) (λ l. after a l later))
@@ -98,7 +98,7 @@ after_call d (event by) over fates next after h k =
     (after_event d x (λ l. h.over_by l fate) (next x.0 x.1 more) (λ a l. after a l more) (h.one fate) (k x.0 x.1 more))
     (λ later before. ap (λ c. called ledger_rules c (ledger_of d later before) fates after) (h.same later before))
 
--- reports, and a run behind them
+-- reports, and a run after them
 behind_told : (d : Desk) (told : List Report) (run : Run desk_rules) (over : Ledger → Run ledger_rules) → Follows d run over
     → Follows d (behind desk_rules told run) (λ l. behind ledger_rules told (over l))
 behind_told d told run over h = record {
@@ -110,7 +110,7 @@ behind_told d told run over h = record {
   lawful = h.lawful;
 }
 
--- a run, and another behind it where it goes on
+-- a run, and another after it where it goes on
 both_follow : (d : Desk) (end : End) (first second : Run desk_rules) (over : Ledger → Run ledger_rules) (next : Ledger → List Fate → Run ledger_rules)
     → first.end ≡ end → Follows d first over → Follows first.state second (λ l. next l first.fates)
     → Follows d (goes_on desk_rules end first second) (λ l. let x = over l in goes_on ledger_rules x.end x (next x.state x.fates))
@@ -142,7 +142,7 @@ both_follow d (bad_line number) first second over next same h k = record {
 
 -- ---- the steps
 
--- reports that no event is behind
+-- reports that come of no event
 told_follows : (told : List Report) (d : Desk) (fates : List Fate) → Follows d (went desk_rules told d fates) (λ l. went ledger_rules told l fates)
 told_follows told d fates = unmoved d (went desk_rules told d fates) (λ l. went ledger_rules told l fates) refl (λ later before. refl)
 
@@ -156,7 +156,7 @@ got_follows : (worker : ℕ) (x : Result ℕ outcome.Reply) (d : Desk) (fates : 
 got_follows worker (Ok number) d fates = publish_follows worker d fates
 got_follows worker (Err refused) d fates = told_follows (Replied worker refused ∷ []) d fates
 
--- a shelf that is swept, and the others behind it
+-- a shelf that is swept, and the others after it
 swept_follows : (time count shelf : ℕ) (d : Desk) (fates : List Fate)
     → Follows d (swept desk_rules time count shelf d fates) (λ l. swept ledger_rules time count shelf l fates)
 swept_follows time zero shelf d fates = told_follows [] d fates

@@ -7,7 +7,7 @@ use Rattle.script_nodes.specs.declared.setup.Setup.{Setup}
 use Rattle.server_limits.specs.Counts.{most_scripts}
 use Rattle.setup_reader.specs.Texts.{script_of_text}
 
--- A setup with this script at the place where one of its name stands, if one does, or else behind the others: none where there would be too
+-- A setup with this script at the place where one of its name stands, if one does, or else after the others: none where there would be too
 -- many.
 abbrev pub placed_at : List Named → Named → (place : Option ℕ) → Option (List Named)
 placed_at scripts s (Some k) = Some (slice_set scripts k s)
@@ -18,7 +18,7 @@ abbrev pub with_script : List Named → Option Named → Option (List Named)
 with_script scripts None = None
 with_script scripts (Some s) = placed_at scripts s (place_named s.name scripts)
 
--- A setup in which the script of this name has this text, or that has it behind its other scripts: none where the name is no script's name,
+-- A setup in which the script of this name has this text, or that has it after its other scripts: none where the name is no script's name,
 -- where the text is outside the grammar, and where it would be a script too many.
 abbrev pub edited : List Named → (name text : List ℕ) → Option (List Named)
 edited scripts name text = with_script scripts (script_of_text (name, text))
@@ -27,6 +27,6 @@ edited scripts name text = with_script scripts (script_of_text (name, text))
 abbrev pub IsAt : List Named → (place : ℕ) → Named → (other : ℕ) → NamedScript → Type 0
 IsAt scripts k s j copy = slice_get (slice_set scripts k s) j ≡ Some (named_of copy)
 
--- The setup that is found, if one is, has this script behind those of another one.
+-- The setup that is found, if one is, has this script after those of another one.
 abbrev pub IsPlacedBehind : List Named → Named → (found : Option Setup) → Type 0
 IsPlacedBehind scripts s found = option_map scripts_of found ≡ placed_at scripts s None

@@ -187,7 +187,7 @@ BeginsEmpty view scripts rules (Err (reopen.Full len)) = ⊥
 BeginsEmpty view scripts rules (Err _) = ⊤
 
 -- the records of the journal of a shelf that is opened with this setup on bytes that were read: those that stay of what stands there, and
--- behind them what the opening tells
+-- after them what the opening tells
 abbrev pub opened_bodies : List Named → (shelf : ℕ) → (read : List ℕ) → List (List ℕ)
 opened_bodies scripts shelf read = bodies_after shelf read ++ opening_bodies scripts shelf (now_in_bytes shelf read)
 
@@ -233,7 +233,7 @@ KeepsClosed scripts number held holds result =
     IfErr result (λ why. why ≢ cause.Disk → AllKept scripts number held [] holds)
 
 -- No step was performed, as a shelf was not opened for this: nothing was lost on any disk, but on the one of which a call failed, and
--- nothing was written on those behind it.
+-- nothing was written on those after it.
 pub record AllStayKept (scripts : List Named) (before after : ℕ → List ℕ → Type 0) (shelf : ℕ) (why : OpenCause) : Type 0 where
   pub kept : (n : ℕ) → (why ≡ cause.Disk → n ≢ shelf) → AllKept scripts n (before n) [] (after n)
   pub behind : (n : ℕ) → shelf < n → AreAmong (after n) (before n)
@@ -252,7 +252,7 @@ OpensEmpty view scripts rules rack (Ok s) =
     MayBeBare rack rules.number × (shelf_at view s ≡ empty_shelf (rules_of rules) scripts rules.number)
 OpensEmpty view scripts rules rack (Err why) = IsRefusedBy rack rules.number why
 
--- An empty shelf of these limits was opened, and stands behind the others; its disks are out. Of disks that tell what they hold, its
+-- An empty shelf of these limits was opened, and stands after the others; its disks are out. Of disks that tell what they hold, its
 -- own may have held nothing.
 pub record OpensNext {D : Type 0} (view : D → View) (rack_tells tells : Bool) (scripts : List Named) (limits : Rules)
     (shelves now : List (Shelf D Counting)) (old new : RackView) : Type 0 where
@@ -294,7 +294,7 @@ HasCrashed view scripts old new =
     → IsCrashed (rules_of old.rules) (book_in view old) nonce scripts lost (book_in view new)
     ⊎ IsCrashed (rules_of old.rules) (book_in view old) nonce scripts kept (book_in view new)
 
--- The setup has other names or texts than that of the book. Behind the event crash with it, what was in doubt lost or kept, the book would
+-- The setup has other names or texts than that of the book. After the event crash with it, what was in doubt lost or kept, the book would
 -- have a journal of this length, which is longer than one may be; and so would what the disk may hold now.
 pub record HasNoRoom (rules : runs.Rules) (scripts : List Named) (shelf : ℕ) (holds : List ℕ → Type 0) (b : Book) (len : ℕ) : Type 0 where
   pub another : are_same scripts b.scripts ≡ false
@@ -365,7 +365,7 @@ pub record StandsLost (rules : runs.Rules) (scripts : List Named) (shelf : ℕ) 
   pub own : (image : List ℕ) → holds image → HoldsOwnRecords shelf image
   pub stands : (n : ℕ) × ((k : Between setup_of_texts shelf b (if_kept n b)) × (HoldsOpened k scripts holds × MeasuresDoubt rules n b))
 
--- what a disk may hold now, in or behind an opening with this setup, stands for each book that the disk of an own shelf stood for
+-- what a disk may hold now, in or after an opening with this setup, stands for each book that the disk of an own shelf stood for
 abbrev pub StaysLost : List Named → (shelf : ℕ) → View → (holds : List ℕ → Type 0) → Type 0
 StaysLost scripts shelf v holds = (rules : runs.Rules) (b : Book) → StandsOwn rules shelf v b → StandsLost rules scripts shelf holds b
 

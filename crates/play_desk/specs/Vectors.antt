@@ -75,7 +75,7 @@ pub what_names_nothing_takes_no_fate :
 unfolding transcript destination_of named_by percent_decode
 what_names_nothing_takes_no_fate rules scripts = refl
 
--- a script is put in the place of the one of its name, or behind the others, and a sixteenth one nowhere
+-- a script is put in the place of the one of its name, or after the others, and a sixteenth one nowhere
 pub scripts_are_placed :
     (a b s : Named)
     → placed_at (a ∷ b ∷ []) s (Some 0) ∷ placed_at (a ∷ b ∷ []) s None ∷ placed_at (replicate 14 a) s None ∷ placed_at (replicate 15 a) s None ∷ []

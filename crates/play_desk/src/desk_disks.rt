@@ -45,7 +45,7 @@ pub(crate) fn put_all_back<F: Disk, R: Rack<F>>(
     shelves.destroy_empty();
 }
 
-// Opens an empty shelf of these limits behind the others. Where none is opened, its disks are in the
+// Opens an empty shelf of these limits after the others. Where none is opened, its disks are in the
 // rack.
 fn open_next<F: Disk, R: Rack<F>>(
     alloc: Global,
@@ -128,7 +128,7 @@ fn open_all<F: Disk, R: Rack<F>>(
 ///
 /// Each shelf has three disks. One that is not empty, or that fails, is told with the number of its shelf, and
 /// then all disks go back to the rack. Nothing was lost on any then, but on those of a shelf of which a call failed,
-/// and nothing was written on those behind them, which are not even asked for.
+/// and nothing was written on those after them, which are not even asked for.
 pub fn open_desk<'s, F: Disk, R: Rack<F>>(
     alloc: Global,
     rack: &mut R,

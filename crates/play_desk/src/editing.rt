@@ -45,7 +45,7 @@ fn with_script(
     Ok(copy)
 }
 
-// A copy of a setup, with this script behind the others: none where it would be one too many.
+// A copy of a setup, with this script after the others: none where it would be one too many.
 fn with_script_behind(
     alloc: Global,
     setup: &Setup,
@@ -61,7 +61,7 @@ fn with_script_behind(
     Ok(Some(copy))
 }
 
-/// A setup in which the script of this name has this text, or that has it behind its other scripts: none
+/// A setup in which the script of this name has this text, or that has it after its other scripts: none
 /// where that is no script, and where it would be one too many.
 pub fn edited(
     alloc: Global,

@@ -7,13 +7,13 @@ use Rattle.play_steps.specs.Laws.{RepliesGoOn}
 use Rattle.play_steps.specs.declared.report.Report.{Report}
 use Rattle.play_steps.proofs.Runs.{joined}
 
--- reports, and behind them a run and another
+-- reports, and after them a run and another
 pushed : (r : StageRules) (told : List Report) (end : End) (first second : Run r)
     → behind r told (goes_on r end first second) ≡ goes_on r end (behind r told first) second
 pushed r told done first second = joined r told first.told second
 pushed r told (bad_line number) first second = refl
 
--- a run, another behind it, and one behind both
+-- a run, another after it, and one after both
 chained : (r : StageRules) (end : End) (first second all : Run r) (third : r.State → List r.Fate → Run r) → first.end ≡ end
     → all ≡ goes_on r second.end second (third second.state second.fates)
     → goes_on r end first all

@@ -16,7 +16,7 @@ use Rattle.play_steps.specs.declared.performing.Halt.{Halt}
 use Rattle.play_steps.specs.declared.performing.Halt.TheVariants as halt
 use Rattle.play_steps.proofs.Risings.{rises_once, rises_then}
 
--- the fates that a call uses, and what stands behind it
+-- the fates that a call uses, and what stands after it
 pub record Called (r : StageRules) {A : Type 0} (call : Call r.State r.Fate A) (s : Spot r) (result : A) (t : Spot r) : Type 0 where
   pub fates : List r.Fate
   pub is : (next : A → r.State → List r.Fate → Run r) (later : List r.Fate)

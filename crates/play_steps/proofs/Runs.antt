@@ -18,12 +18,12 @@ use Rattle.play_steps.specs.declared.performing.Halt.{Halt}
 use Rattle.play_steps.specs.declared.performing.Halt.TheVariants as halt
 use Rattle.play_steps.proofs.Risings.{stays_risen, rises_then}
 
--- reports, and then a run behind others
+-- reports, and then a run after others
 pub joined : (r : StageRules) (told more : List Report) (run : Run r) → behind r told (behind r more run) ≡ behind r (told ++ more) run
 joined r told more run =
     ap (λ w. record { told = w; end = run.end; state = run.state; fates = run.fates }) (sym (append_assoc told more run.told))
 
--- reports are printed one behind another
+-- reports are printed one after another
 pub print_joined : (told more : List Report) → print (told ++ more) ≡ print told ++ print more
 print_joined [] more = refl
 print_joined (x ∷ told) more =
@@ -76,7 +76,7 @@ more r all start here t number step left told g reached rest later =
     ∙ ap (behind r reached.told) (one r here.spot t number step rest told g later)
     ∙ joined r reached.told told (transcript r t.state (number + lines_in step) rest later)
 
--- what was written so far, and what is written behind it
+-- what was written so far, and what is written after it
 pub both_written : (r : StageRules) (start here there : Scene r) (told : List Report) (more : List ℕ)
     → Appends start.written here.written (print told) → Appends here.written there.written more
     → Appends start.written there.written (print told ++ more)
@@ -173,7 +173,7 @@ so_far r all start here number left reached =
     ∙ reached.is [] [] ∙ ap (behind r reached.told) (over r here.spot.state number [])
     ∙ alone r reached.told (went r [] here.spot.state []) refl
 
--- the steps so far alone, whatever fates stand behind theirs
+-- the steps so far alone, whatever fates stand after theirs
 pub front_only : (r : StageRules) (all : List (Option Step)) (start here : Scene r) (number : ℕ) (left : List (Option Step))
     (reached : Reached r all start here number left) (later : List r.Fate)
     → transcript r start.spot.state 1 reached.front (reached.fates ++ later) ≡ went r reached.told here.spot.state later
@@ -210,7 +210,7 @@ begins r all start here t number step left told g reached =
     ∙ print_joined (reached.told ++ told) later.told
     ∙ ap (λ w. w ++ print later.told) (print_joined reached.told told)
 
--- the run halted behind this front of the text of the next step
+-- the run halted after this front of the text of the next step
 unfoldable pub halted : (r : StageRules) (all : List (Option Step)) (start here there : Scene r) (number : ℕ) (step : Step)
     (left : List (Option Step)) (told : List Report) → Goes r step told here.spot there.spot
     → Reached r all start here number (Some step ∷ left)

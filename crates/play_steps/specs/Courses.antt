@@ -17,7 +17,7 @@ Follows left next.Over = left ≡ []
 Follows left next.NoStep = left ≡ None ∷ []
 Follows left (next.Step step after) = left ≡ Some (meaning step) ∷ left_in after
 
--- this holds of the step that stands next, if one does, and of what is left behind it
+-- this holds of the step that stands next, if one does, and of what is left after it
 abbrev pub IfStep : Next → (code.Step → Course → Type 0) → Type 0
 IfStep (next.Step step after) P = P step after
 IfStep _ P = ⊤

@@ -37,7 +37,7 @@ pub record Scene (r : StageRules) : Type 0 where
 abbrev pub scene : (r : StageRules) → Option (List ℕ) → r.State → ℕ → Scene r
 scene r written s faults = record { written = written; spot = spot r s faults }
 
--- the steps that a text spells, on the shelves of a state: behind each edit the crash of every shelf
+-- the steps that a text spells, on the shelves of a state: after each edit the crash of every shelf
 abbrev pub played : (r : StageRules) → r.State → (text : List ℕ) → List (Option Step)
 played r s text = with_crashes (r.shelves s) (steps_of text)
 
@@ -168,7 +168,7 @@ pub record Waits (r : StageRules) (steps : List (Option Step)) (before after : S
   pub risen : HasRisen r fates before.spot.faults after.spot.faults
   pub written : Appends before.written after.written (print told)
 
--- Where memory ran out in a run: behind a step that was performed, as a shelf that crashed was opened again, or before an edit.
+-- Where memory ran out in a run: after a step that was performed, as a shelf that crashed was opened again, or before an edit.
 abbrev pub RunsOut : (r : StageRules) → (left : r.State → (shelf : ℕ) → Reopen → Type 0) → List (Option Step) → Scene r → Scene r → Type 0
 RunsOut r left steps before after =
     Halts r steps [] before after ⊎ (((shelf : ℕ) × Loses r left steps shelf reopen.Memory before after) ⊎ Waits r steps before after)

@@ -93,14 +93,14 @@ pub an_open_line :
 unfolding steps_of first_step edit_head edit_with step_of take_of publish_of get_of tick_of crash_of compact_of aim_of
 an_open_line = refl
 
--- an edit has its text behind its line, with newlines in it or none, and a newline behind it
+-- an edit has its text after its line, with newlines in it or none, and a newline after it
 pub edits :
     map steps_of (codes "edit a 3\nx\ny\ntick 7\n" ∷ codes "edit b-1 0\n\n" ∷ [])
     ≡ (Some (edit (codes "a") (codes "x\ny")) ∷ Some (tick 7) ∷ []) ∷ (Some (edit (codes "b-1") []) ∷ []) ∷ []
 unfolding steps_of first_step edit_head edit_with step_of take_of publish_of get_of tick_of crash_of compact_of aim_of
 edits = refl
 
--- a text that is cut short, one behind which another byte stands than a newline, and lengths with a leading zero or above the most
+-- a text that is cut short, one after which another byte stands than a newline, and lengths with a leading zero or above the most
 pub no_edits :
     map steps_of (codes "edit a 3\nxy\n" ∷ codes "edit a 2\nxyz\n" ∷ codes "edit a 2\nxy" ∷ codes "edit a 02\nxy\n" ∷ codes "edit a\n\n"
     ∷ codes "edit a 16777217\nxy\n" ∷ [])
@@ -108,7 +108,7 @@ pub no_edits :
 unfolding steps_of first_step edit_head edit_with step_of take_of publish_of get_of tick_of crash_of compact_of aim_of
 no_edits = refl
 
--- the line of an edit, those of its text and the newline behind it
+-- the line of an edit, those of its text and the newline after it
 pub lines_of_edits : map lines_in (edit (codes "a") (codes "x\ny") ∷ edit (codes "a") [] ∷ edit (codes "a") (codes "\n\n") ∷ tick 7 ∷ []) ≡ 3 ∷ 2 ∷ 4 ∷ 1 ∷ []
 lines_of_edits = refl
 

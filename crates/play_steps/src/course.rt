@@ -20,7 +20,7 @@ pub(crate) enum Next<'a> {
     Over,
     /// What is left begins with no step.
     NoStep,
-    /// This step, and what is left behind it.
+    /// This step, and what is left after it.
     Step(Step<'a>, Course<'a>),
 }
 
@@ -56,7 +56,7 @@ impl<'a> Course<'a> {
         }
     }
 
-    // What is left behind the next crash.
+    // What is left after the next crash.
     fn past_crash(&self) -> Course<'a>
         requires { self.now.shelf < self.now.shelves }
         ensures shelf { result.shelf ≡ self.now.shelf + 1 }
@@ -70,7 +70,7 @@ impl<'a> Course<'a> {
         }
     }
 
-    // What is left behind a step, where these bytes stand behind it.
+    // What is left after a step, where these bytes stand after it.
     fn past(&self, step: &Step<'a>, rest: &'a [u8]) -> Course<'a>
         ensures left { left_in result ≡ brought_by self.now.shelves (meaning step.now)
             ++ with_crashes self.now.shelves (steps_of rest.now) }

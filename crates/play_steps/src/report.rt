@@ -73,7 +73,7 @@ impl Report {
     }
 }
 
-/// The texts of these reports, one behind another.
+/// The texts of these reports, one after another.
 pub fn print(alloc: Global, reports: &[Report]) -> Result<Vec<u8>, AllocError>
     ensures { IfOk result (λ text. text.items ≡ spec.print reports.now) }
 {
@@ -84,7 +84,7 @@ pub fn print(alloc: Global, reports: &[Report]) -> Result<Vec<u8>, AllocError>
     Ok(text)
 }
 
-// The text of a reply to a worker: a page behind its length, or a status and a word.
+// The text of a reply to a worker: a page after its length, or a status and a word.
 #[tactic(auto, unfolding(crate::specs::Texts::reply_text))]
 fn reply_text(alloc: Global, worker: u32, reply: &Reply) -> Result<Vec<u8>, AllocError>
     ensures { IfOk result (λ text. text.items ≡ spec.reply_text worker reply.now) }

@@ -120,14 +120,14 @@ fn play_step<T: Stage, O: Sink>(
 
 /// Plays the steps, and writes what each prints.
 ///
-/// Behind an edit comes the crash of every shelf, in order.
+/// After an edit comes the crash of every shelf, in order.
 ///
 /// For some fates of their events, the sink grows by the transcript of the steps over the stage's
 /// rules, and the stage is left in its last state; this is said of a stage that holds what its own
 /// events left, and not where disks tell nothing and a step is a crash or an edit. A line that is no
 /// step, or does not fit, ends the run. A failed write and want of memory for a text end it at a step
-/// that was performed, behind the whole text of all before it. A shelf that crashed and was not opened
-/// again ends it there, behind the same; so does an edit that there is no memory to try.
+/// that was performed, after the whole text of all before it. A shelf that crashed and was not opened
+/// again ends it there, after the same; so does an edit that there is no memory to try.
 pub fn play<T: Stage, O: Sink>(
     alloc: Global,
     stage: &mut T,

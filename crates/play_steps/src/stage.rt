@@ -149,7 +149,7 @@ pub trait Stage {
         ensures damaged { IsTrue tells → (place : ℕ) → IsErrOf result (Reopen.Damaged place) → ⊥ }
         ensures other { IsTrue tells → (place : ℕ) → IsErrOf result (Reopen.Other place) → ⊥ };
 
-    /// The script of this name has this text from now on, or stands behind the others; a shelf has it
+    /// The script of this name has this text from now on, or stands after the others; a shelf has it
     /// once it is opened again. False, and nothing changes, exactly where that does not fit. Nothing
     /// changes either where there is no memory to see that.
     fn edit(&mut self, name: &[u8], text: &[u8]) -> Result<bool, AllocError>

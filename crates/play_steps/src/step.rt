@@ -26,7 +26,7 @@ pub enum Step<'a> {
     Crash { shelf: u32 },
     /// The shelf's file gives place to one that has no more than the shelf needs.
     Compact { shelf: u32 },
-    /// The script of this name has this text from now on, or stands behind the others; the crash of
+    /// The script of this name has this text from now on, or stands after the others; the crash of
     /// every shelf follows.
     Edit { name: &'a [u8], text: &'a [u8] },
     /// A crash that follows an edit. No line spells it.
@@ -222,7 +222,7 @@ fn edit_head(line: &[u8]) -> Option<(&[u8], usize)>
     }
 }
 
-// The edit whose text the bytes begin with, and the bytes behind the text's newline.
+// The edit whose text the bytes begin with, and the bytes after the text's newline.
 #[tactic(auto, unfolding(crate::specs::Step::edit_with))]
 fn edit_with<'a>(name: &'a [u8], length: usize, bytes: &'a [u8]) -> Option<(Step<'a>, &'a [u8])>
     ensures spelled { option_map step_found result ≡ spec.edit_with (name.now, length) bytes.now }
@@ -235,7 +235,7 @@ fn edit_with<'a>(name: &'a [u8], length: usize, bytes: &'a [u8]) -> Option<(Step
     Some((Step::Edit { name, text }, rest))
 }
 
-/// The step at the front of these bytes, and the bytes behind its lines. A step is a line:
+/// The step at the front of these bytes, and the bytes after its lines. A step is a line:
 /// `take W TARGET`, `publish W` or `get W TARGET` of a worker below `MOST_WORKERS`, `tick T` of a time
 /// below 2^62, in seconds, or `crash S` or `compact S` of a shelf; or the line `edit NAME LENGTH`, so many bytes, at
 /// most `TEXT_LIMIT`, and a newline.

@@ -143,7 +143,7 @@ fn joined(alloc: Global, lists: Items) -> Result<Items, AllocError>
     Ok(all)
 }
 
-// Puts the items of a list behind others.
+// Puts the items of a list after others.
 #[tactic(auto, using(crate::proofs::Items::back))]
 fn join(all: &mut Items, value: Value) -> Result<(), AllocError>
     ensures { OnOk result (all.new ≡ all.old ++ spec.items_in (meaning value)) }

@@ -24,7 +24,7 @@ pub record IsMadeOf (library : Library) (seen : InOrder (Unit {0})) (b : Book) (
   pub numbers : (k : ℕ) → is_one k m.earlier.seen ≡ is_one k (numbers_of seen.things.items)
   pub states : HasToldStates library.all m.earlier.states b
 
--- whatever records made this book, this is the word for a record of this format behind them, if it has one
+-- whatever records made this book, this is the word for a record of this format after them, if it has one
 abbrev pub IsFaultIn : (format : ℕ) → Library → InOrder (Unit {0}) → Book → Record → Option Word → Type 0
 IsFaultIn format library seen b r word = (m : Made) → IsMadeOf library seen b m → word ≡ fault_of format m (Some r)
 

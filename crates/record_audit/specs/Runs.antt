@@ -26,7 +26,7 @@ use Rattle.record_audit.specs.declared.home.Home.{Home}
 abbrev pub home_of : Home → next.Home
 home_of h = home (named_of h.script.now) h.shelf h.instance
 
--- The newest segment of a tape: it has this number and nonce, and stands behind this answer and over these cells, with the most fuel that a
+-- The newest segment of a tape: it has this number and nonce, and stands after this answer and over these cells, with the most fuel that a
 -- shelf may have.
 abbrev pub newest_of : next.Home → (answer : Val) → (number nonce : ℕ) → (cells : List Val) → Answer
 newest_of h answer number nonce cells = record { value = answer; segment = now_of h number nonce (present cells most_fuel) }

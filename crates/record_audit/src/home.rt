@@ -50,7 +50,7 @@ impl Home<'_> {
         Ok(Str::new(url_text(alloc, &self.script.name, name)?))
     }
 
-    // The segment that showed a page, behind the answer that it was shown for.
+    // The segment that showed a page, after the answer that it was shown for.
     fn ran(&self, alloc: Global, page: &Numbered<KeptPage>) -> Result<Answer, AllocError>
         ensures { IfOk result
             (λ ran. answer_of ran ≡ answered (home_of self.now) (page_of page.now)) }
@@ -100,7 +100,7 @@ impl Home<'_> {
         Ok(past)
     }
 
-    /// What the script comes to behind these segments, in one of this number and nonce, behind this answer and over these cells. It has
+    /// What the script comes to after these segments, in one of this number and nonce, after this answer and over these cells. It has
     /// the most fuel that a shelf may have.
     pub fn run<'t>(
         &self,

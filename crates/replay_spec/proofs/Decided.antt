@@ -46,7 +46,7 @@ again v fuel cells kind bytes e = record {
         × (Waits (comes_to v (present cells fuel)).outcome → unread (end_over v (recorded (reads_of (comes_to v (present cells fuel)).effects ++ more))) ≡ more)
     all more = recorded_is v.script.script (map (answered (home_of v)) v.pages) (newest v (present cells fuel)) (pages_past (home_of v) v.pages) fuel cells more
 
--- the tape behind a page is the page's own with one more answer
+-- the tape after a page is the page's own with one more answer
 pub tape_longer : (h : Home) (ps : List Page) (p : Page) (a : Answer) → tape_of h (ps ++ p ∷ []) a ≡ longer a (page_tape h ps p)
 tape_longer h [] p a = refl
 tape_longer h (q ∷ qs) p a = ap (λ (l : List Answer). record { first = past h q; later = l ++ a ∷ [] }) (map-append (answered h) qs (p ∷ []))
@@ -54,7 +54,7 @@ tape_longer h (q ∷ qs) p a = ap (λ (l : List Answer). record { first = past h
 pub with_none : (p : Page) → with_more [] p ≡ p
 with_none p = ap (λ (vs : List Val). record p { reads = vs }) (append-nil p.reads)
 
--- an answer to this page, which stands in the book, and the run behind it
+-- an answer to this page, which stands in the book, and the run after it
 pub record Answers (b : Book) (t : Ticket) (at : Place) : Type 0 where
   pub here : instance_at at.instance.number b.instances ≡ Some at.instance
   pub shown : page_at at.page.number at.instance.pages ≡ Some at.page

@@ -28,7 +28,7 @@ took_setup b target nonce fate = grind arith
 pub swept_setup : (rules : Rules) (b : Book) (tick : ℕ) (fate : Fate) (is_late : Bool) → (if is_late then (swept 0, b) else settle rules b fate (sweep_comes rules b tick)).1.scripts ≡ b.scripts
 swept_setup rules b tick fate is_late = grind (arith, settled_setup rules b fate (sweep_comes rules b tick))
 
--- scripts name their cells behind an event, too
+-- scripts name their cells after an event, too
 abbrev Named_in : List Instance → Type 0
 Named_in is = (k : ℕ) (i : Instance) → instance_at k is ≡ Some i → NamesItsCells i.script
 
@@ -63,7 +63,7 @@ named_then b m g h setup = record {
   instances = named_landed b (then_book m b) (lands m.rules b m.event m.fate) g h (lands_as m.rules b (then_book m b) (lands m.rules b m.event m.fate) (goes m.rules b m.nonce m.event m.fate) g);
 }
 
--- the setup behind an event
+-- the setup after an event
 given : (rules : Rules) (b : Book) (nonce : ℕ) (x : Event) (fate : Fate) → NameTheirCells b → GivesNamed x
     → (k : ℕ) (s : Named) → slice_get (step rules b nonce x fate).1.scripts k ≡ Some s → NamesItsCells s
 unfolding step

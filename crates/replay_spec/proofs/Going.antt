@@ -29,7 +29,7 @@ pub record Records (lawful : Type 0) (rules : Rules) (b : Book) (t : Ticket) (c 
   pub reply : Reply
   pub decided : decide rules b t (admit b t.target) ≡ records reply c inside
 
--- The change that an event lands, if it does, and the book behind it.
+-- The change that an event lands, if it does, and the book after it.
 pub data Goes (lawful : Type 0) (rules : Rules) (b : Book) : Option Change → Book → Type 0 where
   stays : Goes lawful rules b None b
   draws : Goes lawful rules b None (draw b)

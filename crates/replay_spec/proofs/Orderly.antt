@@ -193,7 +193,7 @@ rises (ends e) clock b h = omega arith
 rises (finishes f) clock b h = omega arith
 rises (sweeps tick) clock b h = omega (arith, h)
 
--- what is unused behind a change that landed: neither its number, nor what was used
+-- what is unused after a change that landed: neither its number, nor what was used
 pub landed_fewer : (b d : Book) (c : Change) → d.logged ≡ max b.logged (logged_by c) → d.down ≡ None
     → ((m : ℕ) → Among m d.out → Unused b m × (IsOf m c → ⊥)) → (m : ℕ) → Unused d m → Unused b m × (IsOf m c → ⊥)
 landed_fewer b d c logged up out m (inl h) = out m h

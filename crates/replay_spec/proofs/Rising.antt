@@ -40,7 +40,7 @@ pub put_front : {A : Type 0} (number : A → ℕ) (x : A) (ys : List A) → AreA
 put_front number x [] h = refl
 put_front number x (y ∷ ys) h = grind (arith, nat_tests, h.0)
 
--- what is left out before or behind makes no difference to where it is put
+-- what is left out before or after makes no difference to where it is put
 pub kept_put : {A : Type 0} (number : A → ℕ) (f : A → Bool) (x : A) (ys : List A) → IsRising number ys → at_number number (number x) ys ≡ None → f x ≡ true
     → filter f (put_in_order number x ys) ≡ put_in_order number x (filter f ys)
 kept_put number f x [] h none passes = grind arith

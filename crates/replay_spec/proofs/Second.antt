@@ -89,7 +89,7 @@ pub same : EffectsHoldRunSame
 same s past a are fuel before now h =
     ap segment_at_end (run_image (over now) (steps now) s past a are before fuel tt h) ∙ outcome_same now (end_behind s past a (present before fuel))
 
--- the pages behind a visit are past
+-- the pages after a visit are past
 pub pages_past : (h : Home) (ps : List Page) → ArePast (map (answered h) ps)
 pages_past h [] = tt
 pages_past h (p ∷ ps) = (tt, pages_past h ps)

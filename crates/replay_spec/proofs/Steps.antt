@@ -121,7 +121,7 @@ after_more : (ms ns : List Moment) (b : Book) → book_after (ms ++ ns) b ≡ bo
 after_more [] ns b = refl
 after_more (m ∷ ms) ns b = after_more ms ns (then_book m b)
 
--- one run behind another
+-- one run after another
 pub leads_on : (b c d : Book) → Leads b c → Leads c d → Leads b d
 leads_on b c d one two = record {
   moments = one.moments ++ two.moments;

@@ -87,7 +87,7 @@ extended_so deadline answer = changed (extends (record {
 abbrev swept_to : (tick : ℕ) → Line
 swept_to tick = changed (sweeps tick) 9
 
--- the book behind `live_on`: an instance with two pages, and a file with four records of ticks and two of pages
+-- the book after `live_on`: an instance with two pages, and a file with four records of ticks and two of pages
 abbrev lived : Book
 lived = record {
   shelf = 0;
@@ -170,7 +170,7 @@ pub edited_answers :
 unfolding step
 edited_answers = refl
 
--- the book behind `edited`: an instance with two pages, and a file with one record of the changed setup
+-- the book after `edited`: an instance with two pages, and a file with one record of the changed setup
 abbrev behind_edits : Book
 behind_edits = record {
   shelf = 0;

@@ -41,7 +41,7 @@ pub fn more_fuel_is_the_same()
     ensures { MoreFuelIsTheSame }
 {}
 
-/// A script starts inside no transaction. Behind a page it leaves transactions of that page alone, and it stops inside
+/// A script starts inside no transaction. After a page it leaves transactions of that page alone, and it stops inside
 /// the others of these and those that it entered since.
 pub fn names_follow()
     ensures { NamesFollow }
@@ -82,7 +82,7 @@ pub fn each_chain_replays()
     ensures { EachChainReplays }
 {}
 
-/// A page that was shown stands as long as its instance does, behind the pages that it had behind it.
+/// A page that was shown stands as long as its instance does, after the pages that it had after it.
 pub fn pages_stay()
     ensures { PagesStay }
 {}

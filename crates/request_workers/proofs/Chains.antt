@@ -1,4 +1,4 @@
--- Requests of a link, one behind the other.
+-- Requests of a link, one after the other.
 use Rattle.std.proofs.Common.{◌≡◌, ◌≤◌, ◌<◌, ◌+◌, ◌-◌, ◌++◌, ◌∷◌, inl, inr, [], ℕ, List, Bool, true, false, Option, sym, ap, ◌∙◌, subst, append-nil, append_assoc, arith, nat_le, ◌||◌}
 use Rattle.std.specs.Prelude.{⊤}
 use Rattle.std.proofs.lemmas.Bool.Decides.{nat_tests}

@@ -14,7 +14,7 @@ use Rattle.request_workers.specs.Bytes.{NeedsAll, Takes, IsEnough, ReadsPiece, R
 use Rattle.http_forms.specs.declared.reader.ReadStop.{ReadStop}
 use Rattle.http_forms.specs.declared.reader.ReadStop.TheVariants.{Failed, Memory}
 
--- ---- pieces behind one another
+-- ---- pieces after one another
 
 -- bytes none of which is too many, and a piece no longer than is wanted
 pub needs_more : (bytes piece : List ℕ) (wanted : ℕ) → NeedsAll bytes
@@ -88,7 +88,7 @@ still_open bytes wanted short some = subst (λ w. Decides w false unfinished) (a
 pub enough : (bytes : List ℕ) → IsDecided bytes → IsEnough bytes false
 enough bytes decided more = absurd (decided.finished (outcomes_are_one bytes false decided.outcome unfinished decided.decides more))
 
--- nor do those behind which the link ended, if there are any
+-- nor do those after which the link ended, if there are any
 pub enough_ended : (bytes : List ℕ) → IsEnough bytes true
 enough_ended bytes more = by_size (nat_lt 0 (length bytes)) refl
   where

@@ -50,7 +50,7 @@ serves rules p q (incoming.Visit request) (answers.Refused told) old new result 
 serves rules p q (incoming.Refused reason) (answers.Reply reply) old new result came answered written = absurd answered
 serves rules p q incoming.Nothing answer old new result came answered written = absurd answered
 
--- what is said of the halves of a link, before and behind, is said of the link: they were put in one after the other
+-- what is said of the halves of a link, before and after, is said of the link: they were put in one after the other
 pub of_link : (S : LinkView → LinkView → Type 0) (link read wrote : LinkView) (i i' : SourceView) (o o' : SinkView)
     → i ≡ link.input → read ≡ record link { input = i' } → o ≡ read.output → wrote ≡ record read { output = o' }
     → S (record { input = i; output = o }) (record { input = i'; output = o' }) → S link wrote

@@ -206,7 +206,7 @@ fn take_request<A: Answering, L: Link, C: Clock, G: Gate>(
     }
 }
 
-/// Serves one link: the requests that come over it, so many at most, each behind the one before, until one closes the
+/// Serves one link: the requests that come over it, so many at most, each after the one before, until one closes the
 /// connection, the next bytes are refused, no more come, or something fails. Before each the shelves are swept at the
 /// clock's tick, which does nothing where they were at that tick before. Bytes read past a request are kept for the next.
 pub fn serve_link<A: Answering, L: Link, C: Clock, G: Gate>(

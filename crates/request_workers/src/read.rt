@@ -6,7 +6,7 @@ ghost use Rattle.request_workers.specs.Bytes.{ReadsPiece, ReadsAll};
 use http_forms::{ReadStop, RequestScanner};
 use web_outside::Source;
 
-// Reads at most as many bytes as the piece holds behind those that are there, none only at the end. Gives how many.
+// Reads at most as many bytes as the piece holds after those that are there, none only at the end. Gives how many.
 fn read_into<S: Source>(
     source: &mut S,
     bytes: &mut Vec<u8>,
@@ -24,7 +24,7 @@ fn read_into<S: Source>(
     Ok(count)
 }
 
-// The same of so many bytes. A head is read byte by byte, since none behind it may be taken.
+// Reads so many bytes at most. A head is read byte by byte, since none after it may be taken.
 fn read_piece<S: Source>(
     source: &mut S,
     bytes: &mut Vec<u8>,
@@ -47,7 +47,7 @@ fn read_piece<S: Source>(
 }
 
 /// Reads the bytes of one request, or as many as say that they are none, and not one more. Says whether the link ended
-/// behind them.
+/// after them.
 pub(crate) fn read_bytes<S: Source>(
     source: &mut S,
     scanner: &mut RequestScanner,

@@ -99,7 +99,7 @@ fn told(answer: Answer, whole: bool) -> Served
 }
 
 /// Serves one link: reads the bytes of one request and not one more, makes the visit that they ask for, and writes its
-/// reply, behind which the link closes; or writes why they are refused. An error is want of memory: then no visit was
+/// reply, after which the link closes; or writes why they are refused. An error is want of memory: then no visit was
 /// made, and nothing was written.
 pub fn serve_one<A: Answering, L: Link, G: Gate>(
     alloc: Global,

@@ -64,7 +64,7 @@ impl Tally {
         }
     }
 
-    // The same tally, with this end.
+    // This tally with another end.
     pub(crate) fn ended(self, end: WorkEnd) -> Tally
         ensures count { count_of result ≡ count_of self }
         ensures end { result.end ≡ end }

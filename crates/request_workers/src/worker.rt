@@ -81,7 +81,7 @@ fn take_turn<A: Answering, P: Porch, C: Clock, G: Gate>(
 }
 
 /// Serves the links of a porch, each with so many requests at most, until no more come or the porch fails. Before each request
-/// the shelves are swept at the clock's tick, and behind its last the link is handed back.
+/// the shelves are swept at the clock's tick, and after its last the link is handed back.
 pub fn work<A: Answering, P: Porch, C: Clock, G: Gate>(
     alloc: Global,
     answering: &A,

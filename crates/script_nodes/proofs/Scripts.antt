@@ -56,7 +56,7 @@ starts_then : (end k n p : ℕ) (cs : Cores) → k < n → n + count_all cs ≤ 
 starts_then end k n p no_cores h l i j = ((i, j), tt)
 starts_then end k n p (core c cs) h l i j = ((h, omega (arith, count_pos c)), starts_then end k (n + count c) p cs (omega arith) (omega arith) i j)
 
--- one part, behind its node
+-- one part, after its node
 one_behind : (end n : ℕ) (c : Core) → n + 1 + count c ≤ end → AllByRecursion (IsBehind n end) ((n + 1) ∷ [])
 one_behind end n c h = ((omega arith, omega (arith, count_pos c)), tt)
 
@@ -234,7 +234,7 @@ node_on_tasks a s n x e = (each_node a s n x e).on_tasks
 pub node_laid : (a : Arena) → IsScript a → (n : ℕ) (x : Node) → slice_get a.nodes n ≡ Some x → IsLaidAt a.nodes n
 node_laid a s n x e = (each_node a s n x e).laid
 
--- each body of a script stands behind its expression
+-- each body of a script stands after its expression
 starts_within : (end n : ℕ) (cs : Cores) → n + count_all cs ≤ end → (k p : ℕ) → slice_get (starts n cs) k ≡ Some p → p < end
 starts_within end n no_cores h k p e = absurd (cc)
 starts_within end n (core c cs) h zero p e = let f : n ≡ p = cc in omega (arith, count_pos c)

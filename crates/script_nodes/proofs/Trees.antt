@@ -50,7 +50,7 @@ shape_same f g (node.InstRef c) h = refl
 shape_same f g (node.InstSet c e) h = let a : f e ≡ g e = h.0 in cc
 shape_same f g (node.InstAdd c e) h = let a : f e ≡ g e = h.0 in cc
 
--- at least one node, and each part behind its node
+-- at least one node, and each part after its node
 record Follows (nodes : List Node) : Type 0 where
   nonempty : 0 < length nodes
   behind : (n : ℕ) (x : Node) → slice_get nodes n ≡ Some x → AllByRecursion (IsBehind n (length nodes)) (parts x)

@@ -74,7 +74,7 @@ abbrev pub IsOnTasks : (tasks : ℕ) → Node → Type 0
 IsOnTasks tasks (node.Call k ps) = k < tasks
 IsOnTasks tasks _ = ⊤
 
--- a part stands behind its node and in the script
+-- a part stands after its node and in the script
 abbrev pub IsBehind : ℕ → ℕ → ℕ → Type 0
 IsBehind n end p = (n < p) × (p < end)
 
@@ -122,7 +122,7 @@ trees_at nodes ns = cores_of (map (tree_at nodes) ns)
 abbrev pub script_of : Arena → Script
 script_of a = record { web = a.web; cells = a.cells; tasks = trees_at a.nodes a.tasks; body = tree_at a.nodes 0 }
 
--- a script as its nodes in pre-order, those of the bodies of tasks behind those of the expression
+-- a script as its nodes in pre-order, those of the bodies of tasks after those of the expression
 abbrev pub arena_of : Script → Arena
 arena_of s = record { nodes = layout_all 0 (trees_of s); web = s.web; cells = s.cells; tasks = starts (count s.body) s.tasks }
 

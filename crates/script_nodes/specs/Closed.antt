@@ -38,7 +38,7 @@ abbrev mutual
   AreClosed web cells tasks scope in_page no_cores = ⊤
   AreClosed web cells tasks scope in_page (core c cs) = IsClosed web cells tasks scope in_page c × AreClosed web cells tasks scope in_page cs
 
--- the bodies of tasks of so many parameters, behind those of the earlier ones: each calls earlier tasks alone, and has its parameters
+-- the bodies of tasks of so many parameters, after those of the earlier ones: each calls earlier tasks alone, and has its parameters
 -- alone as variables
 abbrev pub AreBodies : (web cells : ℕ) → (earlier tasks : List ℕ) → Cores → Type 0
 AreBodies web cells earlier [] no_cores = ⊤

@@ -15,7 +15,7 @@ value_from (text t) = value.Text t
 value_from (symbol s) = value.Symbol s
 value_from (list vs) = value.List (items_of vs)
 
--- the numbers of trees that stand one behind the other
+-- the numbers of trees that stand one after the other
 abbrev pub starts : ℕ → Cores → List ℕ
 starts n no_cores = []
 starts n (core c cs) = n ∷ starts (n + count c) cs

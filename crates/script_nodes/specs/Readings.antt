@@ -99,7 +99,7 @@ pub tree_at-layout : (c : Core) → tree_at (layout 0 c) 0 ≡ c
 unfolding tree_at
 tree_at-layout c = reads (layout 0 c) (length (layout 0 c)) 0 c (at_end [] (layout 0 c) (layout 0 c) refl) (omega (arith, length-layout 0 c))
 
--- trees that were laid out one behind the other are read again
+-- trees that were laid out one after the other are read again
 pub trees_at-layout : (cs : Cores) → trees_at (layout_all 0 cs) (starts 0 cs) ≡ cs
 unfolding tree_at
 trees_at-layout cs = reads_all (layout_all 0 cs) (length (layout_all 0 cs)) 0 cs (at_end [] (layout_all 0 cs) (layout_all 0 cs) refl) (omega (arith, length-layout_all 0 cs))

@@ -11,7 +11,7 @@ pub record Script : Type 0 where
   pub tasks : Cores
   pub body : Core
 
--- the trees of a script in the order of their nodes: the expression, and behind it the bodies of tasks
+-- the trees of a script in the order of their nodes: the expression, and after it the bodies of tasks
 abbrev pub trees_of : Script → Cores
 trees_of s = core s.body s.tasks
 

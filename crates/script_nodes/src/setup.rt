@@ -87,7 +87,7 @@ impl Setup {
         self.scripts.len()
     }
 
-    /// One more script, behind the others; without memory for it nothing changes.
+    /// One more script, after the others; without memory for it nothing changes.
     #[tactic(auto, using(crate::proofs::Places::map_behind))]
     pub fn push(&mut self, script: NamedScript) -> Result<(), AllocError>
         ensures pushed { OnOk result (scripts_of self.new ≡ scripts_of self.old ++ named_of script ∷ []) }
@@ -97,7 +97,7 @@ impl Setup {
         Ok(())
     }
 
-    // Scripts behind the others; without memory for them nothing changes.
+    // Scripts after the others; without memory for them nothing changes.
     #[tactic(auto, using(crate::proofs::Places::map_joined))]
     pub(crate) fn append(&mut self, later: Setup) -> Result<(), AllocError>
         ensures appended { OnOk result

@@ -173,7 +173,7 @@ impl<'t> Progress<'t> {
         }
     }
 
-    /// A segment with no answer behind it, with these bindings of web cells and inside these transactions.
+    /// A segment with no answer after it, with these bindings of web cells and inside these transactions.
     pub fn resume(
         alloc: Global,
         defaults: &'t Items,

@@ -5,7 +5,7 @@ use instance_cells::Cells;
 use script_value::{Items, Str, Value};
 use std::alloc::{AllocError, Global};
 
-/// A segment that ran, behind the answer that began it.
+/// A segment that ran, after the answer that began it.
 #[derive(Drop)]
 pub struct Answer {
     /// The answer; of a start, which nothing answers, any value.
@@ -38,14 +38,14 @@ pub struct Now<'t> {
     pub reads: Reads<'t>,
 }
 
-/// What a script is run over: segments that followed one another, and the newest behind them.
+/// What a script is run over: segments that followed one another, and the newest after them.
 ///
 /// It borrows all that it names, so to make one takes no memory.
 #[derive(Clone, Copy, Drop)]
 pub struct Tape<'t> {
-    /// The segments behind which the newest runs, from the start on; none where the newest is the start.
+    /// The segments after which the newest runs, from the start on; none where the newest is the start.
     pub past: &'t [Answer],
-    /// The answer behind which the newest runs, where it is not the start.
+    /// The answer after which the newest runs, where it is not the start.
     pub answer: &'t Value,
     /// The newest segment.
     pub newest: Now<'t>,

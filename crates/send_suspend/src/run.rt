@@ -50,7 +50,7 @@ fn begin<'s>(
     }
 }
 
-/// Runs a segment of a script behind an answer, over the instance's cells as they are, up to the next stop.
+/// Runs a segment of a script after an answer, over the instance's cells as they are, up to the next stop.
 ///
 /// It is given the newest answer alone: what earlier ones came to is in the state that it goes on from. Where memory runs out,
 /// there is no answer.

@@ -1,4 +1,4 @@
--- A serving behind the audits of its journals, and what a command answers then.
+-- A serving after the audits of its journals, and what a command answers then.
 use Rattle.std.proofs.Common.{◌≡◌, ◌≤◌, ◌∙◌, inl, inr, ℕ, List, length, Bool, true, false, IsTrue, Option, Some, None, Result, Ok, Err, refl, sym, subst, ap, arith, codes}
 use Rattle.std.specs.Prelude.{⊤, IsErrOf}
 use Rattle.std.specs.Io.KnownBytes.{Consumes, IsAtEnd}
@@ -47,7 +47,7 @@ audits_true false r end is rests = absurd (let no : Err end ≡ Ok tt = sym is �
 pub yes_if : (rack : Racks) (count : ℕ) (r : Result ⊤ AuditEnd) → r ≡ Ok tt → ComesThrough rack count r → IsTrue rack.tells → HoldYes count rack.after
 yes_if rack count r is comes t = hold_yes rack count (subst (ComesThrough rack count) is comes) t
 
--- behind audits, or without
+-- after audits, or without
 pub served_behind : {R D P L N : Type 0} (view : R → RackView) (s : Service) (asks : Asks) (scripts : List Named) (result : Result Tally ServeFault)
     (o : Outside D P L N) (old began : R) (b : Bool) (r : Result ⊤ AuditEnd) → s.audit ≡ b → view old ≡ o.rack.before → (b ≡ false → began ≡ old)
     → (IsTrue b → ComesThrough (racks_of o.rack.tells o.rack.before (view began)) s.options.shelves r) → r ≡ Ok tt

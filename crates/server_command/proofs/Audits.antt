@@ -1,4 +1,4 @@
--- Audits of shelves, one behind the other.
+-- Audits of shelves, one after the other.
 use Rattle.std.proofs.Common.{◌≡◌, ◌≢◌, ◌<◌, ◌≤◌, ◌+◌, ◌-◌, ◌^◌, ◌++◌, ◌∷◌, ◌∙◌, inl, inr, ℕ, zero, suc, List, [], length, Bool, IsTrue, Option, Some, None, Result, Ok, Err, refl, sym, ap, subst, arith, append-nil, append_assoc}
 use Rattle.std.specs.Prelude.{slice_get, min, OnOk}
 use Rattle.std.specs.Io.KnownBytes.{Appends, Keeps}
@@ -81,7 +81,7 @@ audit_comes rack shelf image (Err (fault.Damaged place)) asked held is left fail
 audit_comes rack shelf image (Err fault.DiskFault) asked held is left failed = (asked_all shelf rack.before rack.after asked, failed refl)
 audit_comes rack shelf image (Err fault.Memory) asked held is left failed = asked_all shelf rack.before rack.after asked
 
--- ---- one behind the other
+-- ---- one after the other
 
 pub leaves_none : (tells : Bool) (rack : RackView) → LeavesShelves (racks_of tells rack rack)
 leaves_none tells rack = record { no_more = λ t n image h. h; home = λ n home. home; later = omega arith; failed_later = λ n. omega arith }
@@ -235,7 +235,7 @@ told_more tells before now after n records old mid new p q leaves line = record 
       (appends_then old mid new (ok_text 0 p.images) (ok_line n records) (p.text t) line);
 }
 
--- a line was cut short behind a text
+-- a line was cut short after a text
 cut_more : (old mid new : Option (List ℕ)) (text line : List ℕ) → Appends old mid text → IsCutShort mid new line → IsCutShort old new (text ++ line)
 cut_more old mid new text line p q = record {
   front = text ++ q.front;

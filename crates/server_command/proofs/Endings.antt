@@ -36,7 +36,7 @@ pub since : (old new : Option (List ℕ)) (line : List ℕ) (before mid after : 
 since old new line before mid after le (inl p) = inl p
 since old new line before mid after le (inr p) = inr (rose_later before mid after le p.0, p.1)
 
--- a line that was written behind a text as far as it went
+-- a line that was written after a text as far as it went
 pub tells : (old mid new : Option (List ℕ)) (text line : List ℕ) (before after : ℕ)
     → Appends old mid text → AppendsUnlessFault mid new line before after → Tells text line (sinks old new before after)
 tells old mid new text line before after p (inl q) = record {
@@ -54,7 +54,7 @@ tells old mid new text line before after p (inr q) = record {
   whole = inr q.0;
 }
 
--- a text behind which there is no line
+-- a text after which there is no line
 pub tells_nothing : (old new : Option (List ℕ)) (text : List ℕ) (before after : ℕ) → Appends old new text → Tells text [] (sinks old new before after)
 tells_nothing old new text before after p =
     record { shown = []; cut = []; is = refl; grown = subst (Appends old new) (sym (append-nil text)) p; whole = inl refl }

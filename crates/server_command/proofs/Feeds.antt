@@ -216,7 +216,7 @@ held_told shelf how out kept (inr is) =
 
 -- ---- what was handed on
 
--- what was told behind a feed was handed on, unless a line could not be written
+-- what was told after a feed was handed on, unless a line could not be written
 pub hands_fed : (e : FollowEnd) (old mid new : SinkView) → old.faults ≤ mid.faults → mid.faults ≤ new.faults → (e ≡ end.Unwritten → Rose old.faults mid.faults)
     → (e ≢ end.Unwritten → HandsAllOn mid new) → HandsAllOn old new
 hands_fed end.Unwritten old mid new le later rose on = inr (let r = rose refl in omega (arith, r, later))

@@ -20,7 +20,7 @@ pub record Holds (told : Type 0) (before after : RackView) (number : ℕ) (image
   pub among : told → (shelves_of before).out number ≡ true → AreAmong ((shelves_of after).holds number) images
   pub others : (n : ℕ) → n ≢ number → AreAmong ((shelves_of after).holds n) ((shelves_of before).holds n)
 
--- the disks behind these were given back
+-- the disks after these were given back
 pub record GivenAll {D : Type 0} (view : D → View) (told : Type 0) (all front : List D) (before now : RackView) : Type 0 where
   pub back : List D
   pub is : all ≡ front ++ back

@@ -103,7 +103,7 @@ output_is rack l m p =
     ∙ ap (λ (r : Run desk_rules). whole (line_for most_steps r.told)) run
     ∙ ap (λ (x : Measure). whole (summary_text x.tally x.hash)) (sym p.is)
 
--- the shelves behind so many of the steps
+-- the shelves after so many of the steps
 loaded_behind : (l : LoadOptions) (start last : Desk) (fates : List Fate) (count : ℕ) (reports : List Report) → count ≤ most_steps
     → start ≡ desk_for l.options load_scripts → run_drawn desk_rules count (source_of l.number) start fates ≡ went desk_rules reports last []
     → IsLoaded l fates last
@@ -243,7 +243,7 @@ first_leaves rack l shelf (first.Full size) s old new before after closed failed
     subst (λ x. HasLeft rack l x (sinks old new before after)) (sym same) (no_chances, λ t. absurd (closed t))
 first_leaves rack l shelf first.Memory s old new before after closed failed kept asked all later (told line is same p) = absurd (let no : None ≡ Some line = is in cc)
 
--- what was left by it is left behind the closing too
+-- what was left by it is left after the closing too
 unfoldable shelf_with : (left left' : Desk → ℕ → Reopen → Type 0) → ((d : Desk) (k : ℕ) (w : Reopen) → left d k w → left' d k w) → (count : ℕ) (source : Source)
     (shelf : ℕ) (why : Reopen) (s t : Spot desk_rules) → LosesShelf desk_rules left count source shelf why s t → LosesShelf desk_rules left' count source shelf why s t
 shelf_with left left' f count source shelf why s t p = record {
@@ -257,7 +257,7 @@ shelf_with left left' f count source shelf why s t p = record {
   next = p.next;
 }
 
--- from this desk on a run came to a crash behind which the shelf was not opened, for this
+-- from this desk on a run came to a crash after which the shelf was not opened, for this
 pub record LosesLoad (rack : Racks) (l : LoadOptions) (shelf : ℕ) (why : Reopen) (before : ℕ) (left : Spot desk_rules) (start : Desk) : Type 0 where
   pub loses : LosesShelf desk_rules (IsLeft rack.after) most_steps (source_of l.number) shelf why (spot desk_rules start before) left
   pub rose : why ≡ reopen.Disk → Rose loses.middle.faults left.faults
@@ -298,7 +298,7 @@ module _ (rack : Racks) (l : LoadOptions) (left : Desk → ℕ → Reopen → Ty
   loses_by shelf (reopen.Full size) start before t h = lost_else shelf (reopen.Full size) start before t (λ e. let no : ⊥ = cc e in no) h
   loses_by shelf reopen.Memory start before t h = absurd h
 
--- what remains behind it
+-- what remains after it
 remains_lost : (rack : Racks) (l : LoadOptions) (shelf : ℕ) (why : Reopen) (q : LostLoad rack l shelf why) → (x : (fates : List Fate)
     × (last : Desk) × IsLostBehind rack l (chances_of l.options fates) shelf why last × IsLeft rack.after last shelf why)
     × (HaveFailed rack x.0 0 × (why ≡ reopen.Disk → HaveFailed rack x.0 1))
@@ -344,7 +344,7 @@ lost_if rack l left f shelf why result start last before after is b short some h
     (subst (λ (r : Result Measure Halt). Measures desk_rules left most_steps (source_of l.number) r (spot desk_rules start before) (spot desk_rules last after)) is h)
     from to
 
--- memory ran out, behind some of the steps
+-- memory ran out, after some of the steps
 pub short_load : (rack : Racks) (l : LoadOptions) (left : Desk → ℕ → Reopen → Type 0) → ((d : Desk) (k : ℕ) (w : Reopen) → left d k w → IsLeft rack.after d k w) → (start last : Desk) (before after : ℕ) → Begins rack l.options load_scripts start → AreShort start → 0 < l.options.shelves
     → Measures desk_rules left most_steps (source_of l.number) (Err halt.Memory) (spot desk_rules start before) (spot desk_rules last after)
     → HoldTheBooks last (shelves_of rack.after).holds → rack.before.faults ≤ before → after ≤ rack.after.faults → (chances : Chances) × RemainsLoaded rack l chances IsAny 0

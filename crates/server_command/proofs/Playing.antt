@@ -119,7 +119,7 @@ stand_for rack o bytes setup d e fates run h first is last l counted began =
     subst (λ (r : Result Parsed Fault). StandFor rack (Play o) r (chances_of o fates)) (sym h)
     (subst (λ (x : Desk). HoldTheBooks x (shelves_of rack.after).holds) (sym same) l, counted, began)
 
--- the count of a rack, by that of the stage before and behind the events of these fates
+-- the count of a rack, by that of the stage before and after the events of these fates
 pub have_failed : (rack : Racks) (fates : List Fate) (before after : ℕ) → rack.before.faults ≤ before → HasRisen desk_rules fates before after
     → after ≤ rack.after.faults → HaveFailed rack fates 0
 have_failed rack fates before after from h to =
@@ -309,7 +309,7 @@ pub record Waiting (rack : Racks) (o : Options) (scripts : List Named) (steps : 
   pub from : rack.before.faults ≤ before
   pub to : after ≤ rack.after.faults
 
--- what a run left that came to a crash behind which the shelf was not opened, for this
+-- what a run left that came to a crash after which the shelf was not opened, for this
 pub record Lost (rack : Racks) (o : Options) (scripts : List Named) (steps : List (Option Step)) (shelf : ℕ) (why : Reopen) (old mid : Option (List ℕ))
     : Type 0 where
   pub first : Desk
@@ -548,7 +548,7 @@ some_held holds zero k image m is each here = (subst (λ j. holds j image) (sym 
 some_held holds (suc n) k image m is each here =
     (each k (omega (arith, is)), some_held holds n (k + 1) image m (omega (arith, is)) each here)
 
--- nothing was lost where one disk is not empty, and those behind it were not taken
+-- nothing was lost where one disk is not empty, and those after it were not taken
 pub all_stay : (rack : Racks) (scripts : List Named) (shelf : ℕ) (image : List ℕ) → AllStayKept scripts (shelves_of rack.before).holds (shelves_of rack.after).holds shelf cause.NotEmpty
     → AsksForFirst (shelf + 1) rack.before rack.after → AreAllKept rack scripts (length (replicate shelf [] ++ image ∷ []))
 all_stay rack scripts shelf image stay asked = record {

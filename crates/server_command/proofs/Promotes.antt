@@ -1,4 +1,4 @@
--- Shelves that are promoted, one behind the other.
+-- Shelves that are promoted, one after the other.
 use Rattle.std.proofs.Common.{◌≡◌, ◌≢◌, ◌∙◌, inl, inr, ◌≤◌, ◌<◌, ◌+◌, ◌++◌, ◌∷◌, ℕ, Bool, true, false, IsTrue, List, [], length, Option, Some, None, Result, Ok, Err, IfSome, refl, sym, ap, subst, arith, append-nil, append_assoc}
 use Rattle.std.specs.Prelude.{is_some, option_map}
 use Rattle.std.specs.Io.KnownBytes.{Appends, Keeps}
@@ -112,7 +112,7 @@ module _ {D : Type 0} (view : D → View) (tells told : Bool) (before mid after 
       keeps = keeps;
     }
 
-    -- nothing was written behind the opening
+    -- nothing was written after the opening
     still : (why : OpenCause) → following.StaysFed view s new → (IsTrue told → CannotPromote (bodies_after shelf (view h.taken).seen) why)
         → IsUnpromoted view (IsTrue told) before after shelf why
     still why p cannot =
@@ -174,7 +174,7 @@ pub shut_one : {D : Type 0} (view : D → View) (rack : Racks) (shelf : ℕ) (wh
     → PromotesOne view rack shelf (Err why)
 shut_one view rack shelf why p = (p.failed, inl p.shut)
 
--- ---- what is told behind a text
+-- ---- what is told after a text
 
 pub tells_behind : (text : List ℕ) (shelf : ℕ) (why : OpenCause) (how : Status) (old mid new : Option (List ℕ)) (first between last : ℕ) → first ≤ between
     → Appends old mid text → TellsUnopened shelf why how (sinks mid new between last) → TellsBehind text shelf why how (sinks old new first last)
@@ -183,7 +183,7 @@ tells_behind text shelf why how old mid new first between last le front (telling
 tells_behind text shelf why how old mid new first between last le front (telling.untold is line) =
     untold_behind is (tells_line old mid new text memory_line first last front (since mid new memory_line first between last le line))
 
--- ---- one behind the other
+-- ---- one after the other
 
 -- what a rack lends between two moments it lends between an earlier one and a later one, where nothing else was written on the disks
 lent_wider : {D : Type 0} (view : D → View) (told : Type 0) (first before after last : RackView) (shelf : ℕ) (taken given : D)

@@ -16,13 +16,13 @@ fit_opens unfit holds k [] fit held = refl
 fit_opens unfit holds k (image ∷ images) fit held =
     ap (λ why. found_unfit k why (first_unfit unfit (k + 1) images)) (fit k image held.0) ∙ fit_opens unfit holds (k + 1) images fit held.1
 
--- what is found behind a disk that is fit
+-- what is found after a disk that is fit
 passed : (k : ℕ) (f : Option Unfit) (later more : Option (ℕ × Unfit)) (wanted : Option (ℕ × Unfit)) → found_unfit k f later ≡ None
     → (later ≡ None → more ≡ wanted) → found_unfit k f more ≡ wanted
 passed k None later more wanted none go = go none
 passed k (Some why) later more wanted none go = absurd (let no : ⊥ = cc in no)
 
--- behind disks that are fit, the first that is not
+-- after disks that are fit, the first that is not
 pub unfit_behind : (unfit : ℕ → List ℕ → Option Unfit) (k n : ℕ) (images rest : List (List ℕ)) (image : List ℕ) (why : Unfit) → k + length images ≡ n
     → first_unfit unfit k images ≡ None → unfit n image ≡ Some why → first_unfit unfit k (images ++ image ∷ rest) ≡ Some (n, why)
 unfit_behind unfit k n [] rest image why is none here =

@@ -228,7 +228,7 @@ same_length j scripts c same short =
     some_setup (λ ss. are_same ss c.scripts ≡ true) c scripts (same_self c.scripts) (ap (are_same scripts) same ∙ same_self scripts) in
     subst (λ t. (if t then c.length else renewed_length j (setup_for c scripts) c.length) ≤ 2 ^ 30) (sym test) short
 
--- the book behind the event crash with the setup as it was
+-- the book after the event crash with the setup as it was
 pub crashed_short : (rules : Rules) (b : Book) (nonce : ℕ) (scripts : List Named) (fate : Fate) → b.scripts ≡ scripts → HasRoom rules b
     → (step rules b nonce (crash scripts) fate).1.length ≤ 2 ^ 30
 unfolding step

@@ -50,7 +50,7 @@ pub record LosesBy (left : Desk → ℕ → Reopen → Type 0) (steps : List (Op
   pub loses : played.Loses desk_rules left steps shelf why before after
   pub rose : why ≡ reopen.Disk → Rose loses.middle.faults after.spot.faults
 
--- what was left by it is left behind the closing too
+-- what was left by it is left after the closing too
 unfoldable pub loses_with : (left left' : Desk → ℕ → Reopen → Type 0) → ((d : Desk) (k : ℕ) (w : Reopen) → left d k w → left' d k w) → (steps : List (Option Step))
     (shelf : ℕ) (why : Reopen) (before after : Scene desk_rules) → played.Loses desk_rules left steps shelf why before after
     → played.Loses desk_rules left' steps shelf why before after

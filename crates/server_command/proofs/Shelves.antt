@@ -1,4 +1,4 @@
--- The shelves of a site: opened one behind the other, and standing when they were given back.
+-- The shelves of a site: opened one after the other, and standing when they were given back.
 use Rattle.std.proofs.Common.{◌≡◌, ◌≢◌, ◌<◌, ◌≤◌, ◌+◌, ◌-◌, ◌^◌, ◌++◌, ◌∷◌, ◌∙◌, ◌⊎◌, inl, inr, ℕ, append-nil, zero, suc, List, [], length, Bool, IsTrue, Some, None, refl, sym, ap, subst, arith}
 use Rattle.std.specs.Prelude.{min, slice_get, sum_by, take}
 use Rattle.std.proofs.lemmas.List.Sums.{sum_by-cons}
@@ -144,7 +144,7 @@ Opens view scripts k d =
 opens_fit : {D : Type 0} (view : D → View) (scripts : List Named) (k : ℕ) (d : D) → Opens view scripts k d → unfit_left scripts k (view d).seen ≡ None
 opens_fit view scripts k d (b, (is, short, fits)) = made_fits scripts k (view d).seen b is short fits
 
--- behind disks that make books, one that makes none
+-- after disks that make books, one that makes none
 pub first_bad : {D : Type 0} (view : D → View) (scripts : List Named) (k i n : ℕ) (disks : List D) (d : D) (why : Unfit) → n ≡ k + i
     → ((j m : ℕ) (x : D) → j < i → m ≡ k + j → slice_get disks j ≡ Some x → Opens view scripts m x)
     → slice_get disks i ≡ Some d → unfit_left scripts n (view d).seen ≡ Some why → first_unfit (unfit_left scripts) k (seen_on view disks) ≡ Some (n, why)
@@ -214,7 +214,7 @@ fit_front view scripts k (suc i) (x ∷ disks) fit =
     ap (λ f. found_unfit k f (first_unfit (unfit_left scripts) (k + 1) (take i (seen_on view disks))))
     (opens_fit view scripts k x first) ∙ rest
 
--- nothing was added to the records on the disks of a site that was not begun, from the shelf on that was not opened, or behind it
+-- nothing was added to the records on the disks of a site that was not begun, from the shelf on that was not opened, or after it
 bare_at : {D N : Type 0} (view : D → View) (tells : Bool) (scripts : List Named) (disks : List D) (nonces : List N) (f : SiteFault D N)
     (before after : RackView) → IsTrue tells → ((d : D) → (view d).images (view d).seen) → IsNotBegun view tells scripts disks nonces f
     → ((k : ℕ) (d : D) → slice_get disks k ≡ Some d → AreAmong (view d).images ((shelves_of before).holds k))

@@ -54,7 +54,7 @@ ends (suc fuel) place (gate ∷ rest) bodies low is =
     more : Log
     more = records_from fuel (place + 5 + n) (drop n (drop 4 rest))
 
-    -- what holds of the records behind the first
+    -- what holds of the records after the first
     Behind : Type 0
     Behind = (later : List (List ℕ)) → (place + 5 + n) + 1 ≤ 2 ^ 30 → more ≡ log.Intact later → (place + 5 + n) + length (frames later) + 1 ≤ 2 ^ 30
 

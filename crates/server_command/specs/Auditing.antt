@@ -56,7 +56,7 @@ abbrev pub ok_text : (shelf : ℕ) → List (List ℕ) → List ℕ
 ok_text shelf [] = []
 ok_text shelf (image ∷ images) = ok_text_by shelf (audit_of image) (ok_text (shelf + 1) images)
 
--- nothing is told of shelves to which an audit says yes, where they are served behind it
+-- nothing is told of shelves to which an audit says yes, where they are served after it
 abbrev pub no_text : List (List ℕ) → List ℕ
 no_text images = []
 
@@ -171,7 +171,7 @@ pub record LeavesShelves (rack : Racks) : Type 0 where
 
 -- ---- what an audit leaves
 
--- what is told where audits ended at a shelf, behind the text that was told of those before it
+-- what is told where audits ended at a shelf, after the text that was told of those before it
 abbrev pub LeavesStopped : (told : List (List ℕ) → List ℕ) → Racks → (count : ℕ) → Status → Sinks → Type 0
 LeavesStopped told rack count status.Disk out =
     (images : List (List ℕ)) × (shelf : ℕ) × StopsBy rack count images shelf cause.Disk

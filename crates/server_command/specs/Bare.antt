@@ -98,7 +98,7 @@ pub record AsksOne (rack : Racks) (shelf : ℕ) : Type 0 where
   pub failed_later : StaysUp (shelves_of rack.before).failed (shelves_of rack.after).failed
 
 -- The disks of a shelf were taken from a rack and given back. What they might hold when they were taken the rack might hold before, and one of that
--- was read; what the rack may hold behind that a crash might leave of them when they were given back.
+-- was read; what the rack may hold after that a crash might leave of them when they were given back.
 pub record AreLent {D : Type 0} (view : D → View) (told : Type 0) (before after : RackView) (shelf : ℕ) (taken given : D) : Type 0 where
   pub among : told → AreAmong (view taken).images ((shelves_of before).holds shelf)
   pub reads : told → (view taken).images (view taken).seen

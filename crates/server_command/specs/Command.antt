@@ -1,5 +1,5 @@
 -- What the command answers. Read from `Ends` on, which says how a command ended: its status is one that `Explains` names, with what is
--- written and left then, and it is the one that is due (`EndsAs`). Behind it stand what lawful inputs end with (`IsComplete`), the cause of
+-- written and left then, and it is the one that is due (`EndsAs`). After it stand what lawful inputs end with (`IsComplete`), the cause of
 -- each status (`HasCause`) and what holds whatever a command comes to (`IsTidy`). Before it, from the bottom up, stands what `Explains`
 -- says: `Leaves` of a check and of steps, `LeavesInput` of a serving, `LeavesLoad` of a measured run, by status. `Met` is what all this
 -- speaks of.

@@ -1,4 +1,4 @@
--- How a command ended: an audit; what was sent, followed or promoted; a serving behind the audits of its journals, or at one of them; or a command before which nothing is audited.
+-- How a command ended: an audit; what was sent, followed or promoted; a serving after the audits of its journals, or at one of them; or a command before which nothing is audited.
 use Rattle.std.specs.Prelude.{⊤, ◌≡◌, ℕ, List, Option, Some, IfSome, IsTrue, Result, Ok, Err}
 use Rattle.web_disk.specs.View.{RackView}
 use Rattle.script_nodes.specs.Setup.{Named}
@@ -42,7 +42,7 @@ pub record EndsAtAudit {D P L N : Type 0} (o : Outside D P L N) (s : Service) (a
   pub shut : asks.shut
   pub stops : StopsAt o.rack s.options.shelves end
 
--- What a serving comes to. Where its journals are audited, it comes to that behind the audits of all shelves, each answered yes, by which nothing
+-- What a serving comes to. Where its journals are audited, it comes to that after the audits of all shelves, each answered yes, by which nothing
 -- was written; or it ends at one of them; or it came to no audit, and no disk was asked for. The rack is told by what contracts see of it.
 pub data ComesServed {R D P L N : Type 0} (view : R → RackView) (s : Service) (asks : Asks) (scripts : List Named)
     (result : Result Tally ServeFault) (o : Outside D P L N) : Type 0 where
@@ -102,7 +102,7 @@ abbrev pub WithoutAudits : Option Command → Racks → Type 0
 WithoutAudits (Some (Serve s)) rack = IsTrue s.audit → AsksForNone rack.before rack.after
 WithoutAudits _ rack = ⊤
 
--- How a command ended, Plainly being what holds of one before which nothing is audited. A serving with audits goes on as one without, behind those
+-- How a command ended, Plainly being what holds of one before which nothing is audited. A serving with audits goes on as one without, after those
 -- of all shelves, each answered yes, by which nothing was written; or it ends at one of them. The rack is told by what contracts see of it.
 pub data EndsBehind {R D P L N : Type 0} (view : R → RackView) (how : Status) (Plainly : Around D P L N → Type 0) (a : Around D P L N) : Type 0 where
   plainly : WithoutAudits (asked_in a.words) a.rack → Plainly a → EndsBehind view how Plainly a
@@ -115,7 +115,7 @@ pub data EndsBehind {R D P L N : Type 0} (view : R → RackView) (how : Status) 
   fed : (o : FeedOptions) → asked_in a.words ≡ Some (Follow o) → HasBeenFed o how a → EndsBehind view how Plainly a
   promoted : (o : ShelvesOptions) → asked_in a.words ≡ Some (Promote o) → HasPromoted o how a → EndsBehind view how Plainly a
 
--- How the command ended: as `Ends` says where nothing is audited, and else behind audits, or at one.
+-- How the command ended: as `Ends` says where nothing is audited, and else after audits, or at one.
 pub record HasEnded {R D P L N : Type 0} (view : R → RackView) (result : ℕ) (a : Around D P L N) : Type 0 where
   pub status : Status
   pub code : result ≡ code_of status

@@ -75,7 +75,7 @@ followed_status end.DiskFault = status.Disk
 followed_status end.Unwritten = status.Write
 followed_status end.Memory = status.Memory
 
--- It was told how following ended; or there was no memory for the line; or all was done and could not be handed on.
+-- The output tells how following ended; or there was no memory for the line; or all was done and could not be handed on.
 pub data TellsFollowed (shelf : ℕ) (e : FollowEnd) (how : Status) (out : Sinks) : Type 0 where
   told : how ≡ followed_status e → PrintsTo out (followed_line shelf e) → TellsFollowed shelf e how out
   untold : how ≡ status.Memory → PrintsTo out memory_line → TellsFollowed shelf e how out
@@ -87,7 +87,7 @@ TellsFeed line status.Feed out = PrintsTo out line
 TellsFeed line status.Memory out = PrintsTo out memory_line
 TellsFeed line _ out = ⊥
 
--- It was told why a feed was not read on. No shelf is named.
+-- The output tells why a feed was not read on. It names no shelf.
 abbrev pub TellsFeedFault : FeedFault → Status → Sinks → Type 0
 TellsFeedFault fault how out = (shelf : ℕ) → TellsFollowed shelf (end.Feed fault) how out
 
@@ -98,9 +98,9 @@ unpromoted_for (reply.Down count) = cause.Disk
 unpromoted_for (reply.DiskFault count) = cause.Disk
 unpromoted_for _ = cause.Memory
 
--- ---- what is told of a shelf behind a text
+-- ---- what is told of a shelf after a text
 
--- Behind this text it was told why a shelf was not opened or promoted, or that its disk failed; or there was no memory for its line.
+-- After this text it was told why a shelf was not opened or promoted, or that its disk failed; or there was no memory for its line.
 pub data TellsBehind (text : List ℕ) (shelf : ℕ) (why : OpenCause) (how : Status) (out : Sinks) : Type 0 where
   told_behind : (line : List ℕ) → unopened_line shelf why ≡ Some line → how ≡ unopened_status why → Tells text line out → TellsBehind text shelf why how out
   untold_behind : how ≡ status.Memory → Tells text memory_line out → TellsBehind text shelf why how out
@@ -139,12 +139,12 @@ promoted_text shelf [] = []
 promoted_text shelf (followed ∷ later) = promoted_line shelf followed ++ promoted_text (shelf + 1) later
 
 -- A shelf that was opened on these bytes was promoted, or was left alone as it did not follow: its disks have the records that stay of them, with the
--- one that tells this behind them, all of it on the disk; or nothing was lost on them, and nothing added.
+-- one that tells this after them, all of it on the disk; or nothing was lost on them, and nothing added.
 abbrev pub LeavesPromoted : (shelf : ℕ) → (followed : Bool) → (taken given : View) → Type 0
 LeavesPromoted shelf true taken given = HoldsAtRest newest (bodies_after shelf taken.seen ++ body_of promotes ∷ []) given
 LeavesPromoted shelf false taken given = KeepsRecords shelf [] taken given
 
--- a crash at any moment leaves the records that stay of what was read, with the one that tells the promotion behind them or without it
+-- a crash at any moment leaves the records that stay of what was read, with the one that tells the promotion after them or without it
 abbrev pub PromotesSafely : (shelf : ℕ) → (taken opened given : View) → Type 0
 PromotesSafely shelf taken opened given = LeavesOnly opened given (MayHold newest (bodies_after shelf taken.seen) (body_of promotes))
 
@@ -161,7 +161,7 @@ pub record IsPromoted {D : Type 0} (view : D → View) (told : Type 0) (before a
   pub left : told → LeavesPromoted shelf followed (view taken) (view given)
   pub lawful : told → IsLawful (making_after shelf (view taken))
 
--- so it is of each shelf from this number on
+-- each shelf from this number on was promoted, or did not follow
 abbrev pub ArePromoted : {D : Type 0} → (D → View) → (told : Type 0) → (before after : RackView) → (shelf : ℕ) → List Bool → Type 0
 ArePromoted view known before after shelf [] = ⊤
 ArePromoted view known before after shelf (followed ∷ later) =
@@ -208,7 +208,7 @@ pub record HaveComeTo {D : Type 0} (view : D → View) (rack : Racks) (count : �
   pub asked : AsksUntil count (length followed) rack.before rack.after
   pub later : rack.before.faults ≤ rack.after.faults
 
--- The shelf behind those was not opened or not promoted, for this.
+-- The shelf after those was not opened or not promoted, for this.
 pub record StopsAtShelf {D : Type 0} (view : D → View) (rack : Racks) (count : ℕ) (followed : List Bool) (why : OpenCause) : Type 0 where
   pub come : HaveComeTo view rack count followed
   pub failed : why ≡ cause.Disk → ShelfFailed rack (length followed)
@@ -245,7 +245,7 @@ PromotesOne view rack shelf (Err why) =
 
 -- ---- following
 
--- A shelf that follows was opened, on disks that were taken for it, and closed, behind which they were given back.
+-- A shelf that follows was opened, on disks that were taken for it, and closed, after which they were given back.
 pub record WasFed {D : Type 0} (view : D → View) (rack : Racks) (shelf : ℕ) : Type 0 where
   pub asked : AsksForOne shelf rack.before rack.after
   pub rest : AsksOne rack shelf
@@ -257,8 +257,8 @@ pub record WasFed {D : Type 0} (view : D → View) (rack : Racks) (shelf : ℕ) 
   pub begun : IsTrue rack.tells → KeepsRecords shelf (bare_bodies true (making_after shelf (view taken))) (view taken) (view opened)
   pub opens : IsTrue rack.tells → OpensSafely true shelf (view taken) (view opened)
 
--- The records of a shelf that follows were compared with a feed, and it was fed those behind them, while its disks were these. At each moment a crash
--- leaves the records that it had, and the first of those that it was fed behind them, at least those that were acknowledged by then.
+-- The records of a shelf that follows were compared with a feed, and it was fed those after them, while its disks were these. At each moment a crash
+-- leaves the records that it had, and the first of those that it was fed after them, at least those that were acknowledged by then.
 abbrev pub FollowsOn : {D : Type 0} → (D → View) → (shelf : ℕ) → (taken opened given : D) → (from left : SourceView) → (old told : SinkView)
     → (holds : List (List ℕ)) → FollowEnd → Type 0
 FollowsOn view shelf taken opened given from left old between holds e =

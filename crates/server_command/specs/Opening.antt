@@ -104,7 +104,7 @@ IsRefused told risen scripts images shelf (cause.Full length) =
 IsRefused told risen scripts images shelf cause.Memory = ⊤
 
 -- In which order disks were asked for until this shelf was not opened: all were taken, in order, before one was opened. Unless memory ended, nothing
--- was added to the records on the disks behind it, nor on its own, but where a call of that failed.
+-- was added to the records on the disks after it, nor on its own, but where a call of that failed.
 abbrev pub RefusesInOrder : List Named → (before after : RackView) → (count : ℕ) → (images : List (List ℕ)) → (shelf : ℕ) → OpenCause → Type 0
 RefusesInOrder scripts before after count images shelf cause.Disk = FailsInOrder scripts before after count images shelf
 RefusesInOrder scripts before after count images shelf cause.Memory = ⊤

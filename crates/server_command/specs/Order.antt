@@ -1,4 +1,4 @@
--- In which order a command asks the outside. Behind its words and its input come the seeds, then the disks, then the door: what comes
+-- In which order a command asks the outside. After its words and its input come the seeds, then the disks, then the door: what comes
 -- later is asked only where nothing before it ended the command. Want of memory may end it anywhere.
 use Rattle.std.specs.Prelude.{⊤, ◌≡◌, ◌⊎◌, ℕ, List, length, Option, Some, None, Result, Err}
 use Rattle.web_outside.specs.View.{DoorView, SeedsView}
@@ -89,7 +89,7 @@ abbrev pub AsksForShelves : Racks → (shelves : ℕ) → Type 0
 AsksForShelves rack shelves = AsksForSome rack shelves ⊎ AsksForAll shelves rack.before rack.after
 
 -- What was asked of a rack where steps were to be performed over so many shelves, whatever its disks tell: before they were read nothing
--- was; where a shelf was not opened at first, no disk behind its own was; where steps were performed, those of all were.
+-- was; where a shelf was not opened at first, no disk after its own was; where steps were performed, those of all were.
 abbrev pub PlaysInOrder : Racks → (shelves : ℕ) → Status → Type 0
 PlaysInOrder rack shelves status.Disk = AsksForShelves rack shelves
 PlaysInOrder rack shelves status.Journal = AsksForShelves rack shelves

@@ -64,7 +64,7 @@ rules_for o shelf = record { fuel = o.fuel; life = o.life; instances = o.instanc
 abbrev pub desk_for : Options → List Named → Desk
 desk_for o scripts = first_desk (rules_for o) scripts o.shelves
 
--- the steps that are played behind a setup, each edit with the crashes that it brings
+-- the steps that are played after a setup, each edit with the crashes that it brings
 abbrev pub steps_for : Options → Parsed → List (Option Step)
 steps_for o setup = played_on desk_rules (desk_for o setup.scripts) setup.steps
 

@@ -144,8 +144,8 @@ AreBare before after images first =
     (k : ℕ) (read left : List ℕ) → first ≤ k → slice_get images k ≡ Some read → (shelves_of after).holds k left
     → IsBare k ((shelves_of before).holds k) read left
 
--- A disk of this shelf failed when it was taken, no other behind it was asked for, and nothing was written on any disk of the rack; or all disks had
--- been asked for and taken, the shelves before this one were opened, and nothing was added to the records on the disks behind it.
+-- A disk of this shelf failed when it was taken, no other after it was asked for, and nothing was written on any disk of the rack; or all disks had
+-- been asked for and taken, the shelves before this one were opened, and nothing was added to the records on the disks after it.
 abbrev pub FailsInOrder : List Named → (before after : RackView) → (count : ℕ) → (images : List (List ℕ)) → (shelf : ℕ) → Type 0
 FailsInOrder scripts before after count images shelf =
     (AsksUntil count shelf before after × LeavesAllDisks before after)

@@ -27,7 +27,7 @@ use Rattle.server_command.specs.Output.{Before, BeforeOpening, Chances, IsCrashO
 abbrev pub HaveFailed : Racks → List Fate → (more : ℕ) → Type 0
 HaveFailed rack fates more = RoseBy (count_by is_fault fates + more) rack.before.faults rack.after.faults
 
--- nothing was lost on any disk, and so many were asked for, each once and in order; nothing was written on those behind them
+-- nothing was lost on any disk, and so many were asked for, each once and in order; nothing was written on those after them
 pub record AreAllKept (rack : Racks) (scripts : List Named) (taken : ℕ) : Type 0 where
   pub asked : AsksForFirst taken rack.before rack.after
   pub kept : (n : ℕ) → AllKept scripts n ((shelves_of rack.before).holds n) [] ((shelves_of rack.after).holds n)
@@ -39,7 +39,7 @@ abbrev pub AsksForShelf : Racks → (shelf : ℕ) → OpenCause → Type 0
 AsksForShelf rack shelf why =
     AsksUntil (shelf + 1) shelf rack.before rack.after ⊎ ((why ≡ cause.Memory) × AsksForNone rack.before rack.after)
 
--- a shelf was not opened at first, for this, and no step was performed: no disk behind its own was asked for, those before it may hold
+-- a shelf was not opened at first, for this, and no step was performed: no disk after its own was asked for, those before it may hold
 -- nothing, and nothing was lost on any, but on the one of which a call failed
 pub record IsUnopened (rack : Racks) (scripts : List Named) (shelf : ℕ) (why : OpenCause) : Type 0 where
   pub asked : AsksForShelf rack shelf why
@@ -100,7 +100,7 @@ RemainsUnwritten rack (Play o) (Ok setup) chances old new =
 RemainsUnwritten rack Check setup chances old new = AtRest rack
 RemainsUnwritten rack asked setup chances old new = ⊤
 
--- what remains where a disk is not empty: nothing was lost on any disk, and those behind it were not taken
+-- what remains where a disk is not empty: nothing was lost on any disk, and those after it were not taken
 abbrev pub RemainsShut : Racks → Command → Result Parsed Fault → Chances → Type 0
 RemainsShut rack (Play o) (Ok setup) chances = AreAllKept rack setup.scripts (length chances.disks)
 RemainsShut rack asked setup chances = ⊤
@@ -117,7 +117,7 @@ Loses rack asked input chances shelf out =
     (text : List ℕ) × BeforeOpening asked input chances shelf text × Tells text (disk_line shelf) out
     × Remains rack asked (setup_of (ending_of asked) input) chances text (IsFailed shelf) 1
 
--- A crash of this shelf, behind steps of which this is printed, left its journal without room for the setup that an edit had changed: it
+-- A crash of this shelf, after steps of which this is printed, left its journal without room for the setup that an edit had changed: it
 -- would be so long. Each disk stands for the book that its shelf had before that crash, and all shelves had been begun.
 pub record Outgrows (rack : Racks) (o : Options) (setup : Parsed) (chances : Chances) (shelf length : ℕ) (text : List ℕ) : Type 0 where
   pub last : Desk

@@ -186,7 +186,7 @@ abbrev pub KeepsAll : Racks → List Named → List (List ℕ) → Type 0
 KeepsAll rack scripts images = IsTrue rack.tells → NoneIsLost rack scripts images
 
 -- All disks were asked for and taken, and this shelf is the first that was not opened, for what its disk held. Nothing was lost on any disk, and nothing
--- was added to the records on its own and on those behind it.
+-- was added to the records on its own and on those after it.
 abbrev pub Shuts : Racks → Service → List Named → List (List ℕ) → (shelf : ℕ) → Unfit → Type 0
 Shuts rack s scripts images shelf why =
     IsTrue rack.tells → AreTaken (unfit_left scripts) (shelves_of rack.before).holds s.options.shelves images

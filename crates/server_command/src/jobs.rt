@@ -41,7 +41,7 @@ fn ending_of(job: &Job) -> Ending
     }
 }
 
-// Plays the steps behind a setup, on empty disks.
+// Plays the steps after a setup, on empty disks.
 fn play_all<O: Sink, D: Disk, R: Rack<D>>(
     alloc: Global,
     options: &Options,

@@ -26,7 +26,7 @@ pub enum Status {
     Usage,
     /// The input does not begin with a setup of scripts.
     Setup,
-    /// A line behind the setup is no step, or does not fit.
+    /// A line after the setup is no step, or does not fit.
     Line,
     /// The input failed.
     Read,
@@ -112,7 +112,7 @@ where
     <<A::Porch as Porch>::Link as Link>::Output: Send,
     // Each disk is home when it begins.
     requires home { AreHome (R.view rack.old).out }
-    // How it ended and why, what was written, what is left on the disks, and in which order the outside was asked; a serving with audits behind these.
+    // How it ended and why, what was written, what is left on the disks, and in which order the outside was asked; a serving with audits after these.
     ensures ended { HasEnded R.view result (around (texts words.now)
         (views (trio_view {G = ⟦<D as Disk>⟧}) D.tells A.Porch.Link.view A.Porch.view N.nonce
         (C.shows clock.now))

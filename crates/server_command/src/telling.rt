@@ -72,7 +72,7 @@ pub fn tell_unread<O: Sink>(fault: InputFault, output: &mut O) -> Status
     }
 }
 
-/// Hands on all that was written, behind which nothing is told.
+/// Hands on all that was written, after which nothing is told.
 pub fn hand_on<O: Sink>(output: &mut O) -> Status
     ensures done { HandsOnIfDone result (O.view output.new) }
     ensures same { Keeps (O.view output.old).written (O.view output.new).written }

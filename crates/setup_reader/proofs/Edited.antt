@@ -1,4 +1,4 @@
--- A setup that names and texts were read as stays one with a script in the place of another of its name, and with one more behind it.
+-- A setup that names and texts were read as stays one with a script in the place of another of its name, and with one more after it.
 use Rattle.std.proofs.Common.{◌≡◌, ℕ, zero, suc, ◌+◌, ◌≤◌, ◌<◌, Bool, true, false, not, List, [], ◌∷◌, ◌++◌, length, nat_le, length-append, append-nil, Some, None, refl, sym, ◌∙◌, ap, arith, one-add, if◌then◌else◌}
 use Rattle.std.specs.Prelude.{◌&&◌, slice_set}
 use Rattle.std.specs.List.{position_or_len}
@@ -49,7 +49,7 @@ same_names before (s ∷ ss) (t ∷ ts) e =
     ap (λ n. not (is_among n before) && are_new (before ++ n ∷ []) (texts_of ss)) name
     ∙ ap (λ b. not (is_among t.name before) && b) (same_names (before ++ t.name ∷ []) ss ts later)
 
--- the scripts behind the first one are what their texts are read as
+-- the scripts after the first one are what their texts are read as
 rest_read : (x : Named) (xs : List Named) → scripts_of_texts (texts_of (x ∷ xs)) ≡ Some (x ∷ xs)
     → (script_of_text (text_of x) ≡ Some x) × (scripts_of_texts (texts_of xs) ≡ Some xs)
 rest_read x xs e =
@@ -96,7 +96,7 @@ replaced scripts s k is one at =
       read = set_read scripts k s old.read one;
     })
 
--- one more behind the others
+-- one more after the others
 
 behind_read : (scripts : List Named) (s : Named) → scripts_of_texts (texts_of scripts) ≡ Some scripts → script_of_text (text_of s) ≡ Some s
     → scripts_of_texts (texts_of (scripts ++ s ∷ [])) ≡ Some (scripts ++ s ∷ [])

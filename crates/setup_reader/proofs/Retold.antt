@@ -103,7 +103,7 @@ script_kept t s e =
 
 -- scripts that are read one after the other
 
--- the scripts that names and texts are behind these scripts: none where one is no script, or has the name of one before it
+-- the scripts that names and texts are after these scripts: none where one is no script, or has the name of one before it
 abbrev pub read_behind : List Named → List (List ℕ × List ℕ) → Option (List Named)
 read_behind scripts [] = Some scripts
 read_behind scripts (t ∷ ts) = do
@@ -119,7 +119,7 @@ regroup : (scripts : List Named) (s : Named) (o : Option (List Named))
 regroup scripts s None = refl
 regroup scripts s (Some ss) = ap Some (append_assoc scripts (s ∷ []) ss)
 
--- what is read behind scripts, for the texts as a whole
+-- what is read after scripts, for the texts as a whole
 abbrev whole : List Named → List (List ℕ × List ℕ) → Option (List Named)
 whole scripts ts = if are_new (names_of scripts) ts then option_map (λ more. scripts ++ more) (scripts_of_texts ts) else None
 

@@ -95,7 +95,7 @@ last_stands ending scripts place None fault e h =
     subst (Stands ending scripts place []) same (refl, (refl, none_ends ending [] e))
 last_stands ending scripts place (Some steps) fault e h = ended_stands ending scripts place [] steps fault e h
 
--- scripts that follow, and what stands behind them
+-- scripts that follow, and what stands after them
 record Standing (ending : Ending) (total : ℕ) (scripts : List Named) (bytes : List ℕ) (fault : Fault) : Type 0 where
   more : List Named
   last : List ℕ

@@ -33,7 +33,7 @@ at_other ending total scripts (b ∷ bs) few some e =
     by_count ending scripts total (b ∷ bs) few
     ∙ ap (λ o. unless_ended o (ended (total - length (b ∷ bs)) scripts) (section ending total scripts (b ∷ bs))) e
 
--- behind the section the setup goes on
+-- after the section the setup goes on
 pub goes_on : (ending : Ending) (total : ℕ) (scripts : List Named) (rest : List ℕ) (found : Named × List ℕ) → length scripts ≤ 15 → 0 < length rest
     → ending_at ending rest ≡ None → script_at (total - length rest) scripts (section_in rest) ≡ Ok found
     → setup_from (16 - length scripts) ending total scripts rest

@@ -25,7 +25,7 @@ use web_outside::INPUT_LIMIT;
 /// What ends a setup.
 #[derive(Clone, Copy, Debug, PartialEq, Eq)]
 pub enum Ending {
-    /// The line `steps`; behind it stand the steps that play with the scripts.
+    /// The line `steps`; after it stand the steps that play with the scripts.
     Steps,
     /// The end of the input.
     Input,
@@ -123,7 +123,7 @@ pub(crate) fn compile(
     }
 }
 
-// The script of the section that stands here, behind these scripts, and what follows it.
+// The script of the section that stands here, after these scripts, and what follows it.
 #[tactic(auto, using(crate::proofs::Sections::section_shorter))]
 fn script_at<'a>(
     alloc: Global,
@@ -149,7 +149,7 @@ fn script_at<'a>(
     Ok((script, section.rest))
 }
 
-// What ends a setup here, with what stands behind it.
+// What ends a setup here, with what stands after it.
 fn end_at(ending: Ending, rest: &[u8]) -> Option<&[u8]>
     ensures { option_map (λ steps. steps.now) result ≡ spec.ending_at ending rest.now }
 {
@@ -162,7 +162,7 @@ fn end_at(ending: Ending, rest: &[u8]) -> Option<&[u8]>
     }
 }
 
-// The setup ends here behind these scripts.
+// The setup ends here after these scripts.
 fn ended<'a>(place: u64, setup: Setup, steps: &'a [u8]) -> Result<Parsed<'a>, SetupFault>
     ensures value { Gives parsed_of result (spec.ended place (scripts_of setup) steps.now) }
     ensures told { result ≢ Err SetupFault.Memory }
@@ -173,7 +173,7 @@ fn ended<'a>(place: u64, setup: Setup, steps: &'a [u8]) -> Result<Parsed<'a>, Se
     Ok(Parsed { setup, steps })
 }
 
-// The input ends here behind these scripts.
+// The input ends here after these scripts.
 fn at_end<'a>(
     ending: Ending,
     place: u64,

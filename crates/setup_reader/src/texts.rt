@@ -26,7 +26,7 @@ pub fn script_of(alloc: Global, name: &[u8], text: &[u8]) -> Result<Option<Named
     }
 }
 
-// The script that a journal told behind those of this setup: none also where one of them has its name.
+// The script that a journal told after those of this setup: none also where one of them has its name.
 fn next_of(
     alloc: Global,
     setup: &Setup,

@@ -163,7 +163,7 @@ pub record Reaches (k total : ℕ) (state : State) (bytes : List ℕ) (next : St
   enough : length rest < left
   same : pieces k total state bytes ≡ pieces left total next rest
 
--- one piece, and the gap behind it
+-- one piece, and the gap after it
 one_piece : (k total b : ℕ) (bs : List ℕ) (state next : State) (rest : List ℕ) → length (b ∷ bs) < k → length rest < length (b ∷ bs)
     → piece (total - length (b ∷ bs)) b bs state ≡ Ok (next, rest) → Reaches k total state (b ∷ bs) next (after_gap rest)
 one_piece zero total b bs state next rest l s h = absurd (omega arith)

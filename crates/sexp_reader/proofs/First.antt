@@ -118,7 +118,7 @@ bad_faulted n here fault state b bs starts bad = record {
   whole = newline_completes n state;
 }
 
--- a fault behind a piece and a gap
+-- a fault after a piece and a gap
 fault_behind : (here b : ℕ) (t g y : List ℕ) (state next : State) (fault : Fault) (j total : ℕ) → piece here b (t ++ (g ++ y)) state ≡ Ok (next, g ++ y)
     → after_gap (g ++ y) ≡ y → ((m : ℕ) → length y < m → pieces m total next y ≡ Err fault) → total ≡ here + length (b ∷ (t ++ (g ++ y)))
     → length (b ∷ (t ++ (g ++ y))) < j → pieces j total state (b ∷ (t ++ (g ++ y))) ≡ Err fault

@@ -1,4 +1,4 @@
--- What a piece and a gap are does not hang on what stands further behind.
+-- What a piece and a gap are does not hang on what stands further after.
 use Rattle.std.proofs.Common.{◌≡◌, ℕ, suc, Bool, true, false, cond, List, [], ◌∷◌, ◌++◌, take, drop, refl, sym, ap, ◌∙◌, subst}
 use Rattle.std.specs.Prelude.{not, ◌==◌, Result, Ok, Err, codes}
 use Rattle.std.proofs.lemmas.Bool.{eqb-true}
@@ -17,7 +17,7 @@ use Rattle.sexp_reader.proofs.Utf8.{same_rest, err_ok, bind_ok}
 use Rattle.sexp_reader.proofs.Taken.{text_read, token_plain, token_ends}
 use Rattle.sexp_reader.proofs.Again.{text_again, token_again, no_gap_here, begins_gap, begins_with_at, alone}
 
--- what may stand behind a piece in the place of the rest
+-- what may stand after a piece in the place of the rest
 abbrev pub Instead : List ℕ → List ℕ → Type 0
 Instead rest ys = (AtTokenEnd rest → AtTokenEnd ys) × (begins_with_at rest ≡ false → begins_with_at ys ≡ false)
 
@@ -25,7 +25,7 @@ pub instead_behind : (u v w : List ℕ) → Instead v w → Instead (u ++ v) (u 
 instead_behind [] v w i = i
 instead_behind (x ∷ u) v w i = (λ e. e, λ e. e)
 
--- a piece that is read, and the same piece with something else behind it
+-- a piece that is read, and the same piece with something else after it
 pub record Local (read_at : List ℕ → Result (State × List ℕ) Fault) (bs : List ℕ) (next : State) (rest : List ℕ) : Type 0 where
   pub tail : List ℕ
   pub parts : tail ++ rest ≡ bs
@@ -180,7 +180,7 @@ piece_local place b bs state next rest h =
       | _ ↦ λ e k. absurd (err_ok bad p (Err bad) refl k)
     ] refl h
 
--- a gap before a byte that is no gap's, and the same gap with something else behind it
+-- a gap before a byte that is no gap's, and the same gap with something else after it
 pub record Gap_local (in_comment : Bool) (bytes : List ℕ) (x : ℕ) (r : List ℕ) : Type 0 where
   pub gap : List ℕ
   pub parts : gap ++ x ∷ r ≡ bytes

@@ -1,4 +1,4 @@
--- A fault stays whatever is written behind a text.
+-- A fault stays whatever is written after a text.
 use Rattle.std.proofs.Common.{◌≡◌, ℕ, zero, suc, ◌≤◌, Bool, true, false, cond, List, [], ◌∷◌, ◌++◌, length, take, drop, refl, sym, ap, ◌∙◌, arith}
 use Rattle.std.specs.Prelude.{not, ◌==◌, Option, None, Some, Result, Ok, Err}
 use Rattle.std.proofs.lemmas.Bool.{cond-false}
@@ -17,7 +17,7 @@ use Rattle.sexp_reader.specs.Laws.{is_met_inside}
 use Rattle.sexp_reader.proofs.ByteClasses.{plain_is}
 use Rattle.sexp_reader.proofs.Again.{test_false}
 
--- what is left, with more behind it
+-- what is left, with more after it
 abbrev pub extend : {A : Type 0} → List ℕ → Result (A × List ℕ) Fault → Result (A × List ℕ) Fault
 extend more (Ok p) = Ok (p.0, p.1 ++ more)
 extend more (Err e) = Err e

@@ -211,7 +211,7 @@ datum_completes n v items (opened x at before ∷ levels) bytes after all d t =
     (v ∷ t.0, t.1, a_datum n bytes bytes v after t.0 (closing_byte x ∷ t.1) (no_gap bytes) d t.2, subst P (append_assoc items (v ∷ []) t.0) t.3)
 datum_completes n v items (marked m at ∷ levels) bytes after all d t = (bytes, v, after, no_gap bytes, d, t)
 
--- how many levels more may be opened behind a piece, and what comes before it
+-- how many levels more may be opened after a piece, and what comes before it
 pub record Goes (n : ℕ) (state next : State) (bytes rest : List ℕ) (all : List Val) : Type 0 where
   pub left : ℕ
   pub count : left + length next.levels ≡ 128
@@ -237,7 +237,7 @@ datum_goes n v state bytes rest all h d =
     let more = put_goes n v state.items state.levels rest all h in
     record { left = more.left; count = more.count; back = λ c. datum_completes n v state.items state.levels bytes rest all d (more.back c) }
 
--- the state and the rest behind a piece are these
+-- the state and the rest after a piece are these
 same_goes : (n : ℕ) (state : State) (bytes : List ℕ) (all : List Val) (p q : State × List ℕ) (r : Result (State × List ℕ) Fault)
     → r ≡ Ok p → r ≡ Ok q → Goes n state p.0 bytes p.1 all → Goes n state q.0 bytes q.1 all
 same_goes n state bytes all p q r h k g =
@@ -263,7 +263,7 @@ list_goes m place b d bs items levels all h e = record {
       (subst P (sym (class_opening b d e)) (a_list m (opening_byte d) (closing_byte d) bs c.0 c.1 (encloses d) c.2)) c.3;
 }
 
--- a mark, of which the first byte and what stands behind that are given
+-- a mark, of which the first byte and what stands after that are given
 record Mark_spelled (b : ℕ) (bs : List ℕ) (p : Mark × List ℕ) : Type 0 where
   spelling : List ℕ
   means : Marks spelling (name_of p.0)

@@ -12,7 +12,7 @@ choose_some : {A : Type 0} (b : Bool) (x : A) (other : Option A) (y : A) → con
 choose_some true x other y h = inl (refl, cc)
 choose_some false x other y h = inr h
 
--- one name of the table, and those behind it
+-- one name of the table, and those after it
 truth_step : (token name : List ℕ) (x b : Bool) (other : Option Bool) → Truth name x → cond (bytes_eq token name) (Some x) other ≡ Some b
     → (other ≡ Some b → Truth token b) → Truth token b
 truth_step token name x b other t h f =

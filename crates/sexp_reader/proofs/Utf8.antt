@@ -1,4 +1,4 @@
--- What is left of a UTF-8 text behind a piece is UTF-8.
+-- What is left of a UTF-8 text after a piece is UTF-8.
 use Rattle.std.proofs.Common.{◌≡◌, ℕ, ◌+◌, ◌<◌, Bool, true, false, cond, inl, inr, ⊎_elim, List, [], ◌∷◌, ◌++◌, length, get_or, take, drop, refl, sym, ap, ◌∙◌, subst, arith, append_assoc, ◌-◌}
 use Rattle.std.specs.Prelude.{not, IsUtf8, ◌==◌, Option, None, Some, Result, Ok, Err, ◌⊎◌}
 use Rattle.std.proofs.lemmas.List.{length-append}

@@ -21,7 +21,7 @@ is_met_inside Mismatch = true
 is_met_inside Range = true
 is_met_inside Deep = true
 
--- BadEscape bytes: what stands behind the quote of a text, up to and with the first backslash and byte that are no escape
+-- BadEscape bytes: what stands after the quote of a text, up to and with the first backslash and byte that are no escape
 pub data BadEscape : List ℕ → Type 0 where
   no_escape : (b : ℕ) → escaped b ≡ None → BadEscape (92 ∷ b ∷ [])
   past_letter : (b : ℕ) (bytes : List ℕ) → b ≢ 34 → b ≢ 92 → BadEscape bytes → BadEscape (b ∷ bytes)
@@ -39,7 +39,7 @@ pub data Faulty : ReadKind → List ℕ → Type 0 where
   deep_list : (b c : ℕ) → Encloses b c → Faulty Deep (b ∷ [])
   deep_mark : (b : ℕ) (more name : List ℕ) → Marks (b ∷ more) name → Faulty Deep (b ∷ [])
 
--- behind a token stands a byte that ends it, or the end; behind another piece anything
+-- after a token stands a byte that ends it, or the end; after another piece anything
 abbrev pub MayFollow : List ℕ → List ℕ → Type 0
 MayFollow piece rest = IsToken piece → AtTokenEnd rest
 

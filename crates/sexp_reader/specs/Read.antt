@@ -22,13 +22,13 @@ abbrev pub ◌>>=◌ : {A B : Type 0} → Result A Fault → (A → Result B Fau
 (Ok x) >>= f = f x
 (Err e) >>= f = Err e
 
--- what stands behind space and comments; the test says whether a comment is open
+-- what stands after space and comments; the test says whether a comment is open
 abbrev pub past_gap : Bool → List ℕ → List ℕ
 past_gap in_comment [] = []
 past_gap true (b ∷ bs) = past_gap (not (b == 10)) bs
 past_gap false (b ∷ bs) = elim (class_of b) [ Blank ↦ past_gap false bs | Comment ↦ past_gap true bs | _ ↦ b ∷ bs ]
 
--- what stands behind space and comments, any or none
+-- what stands after space and comments, any or none
 abbrev pub after_gap : List ℕ → List ℕ
 after_gap bytes = past_gap false bytes
 
@@ -43,7 +43,7 @@ word_at place token =
     if is_number token then (if is_in_range (number_of token) then Ok (number (number_of token)) else Err (place, Range))
     else elim (truth_of token) [ Some b ↦ Ok (truth b) | None ↦ if is_symbol token then Ok (symbol token) else Err (place, Token) ]
 
--- the characters of a text behind those so far, whose quote is at this place, and what follows the text
+-- the characters of a text after those so far, whose quote is at this place, and what follows the text
 abbrev mutual
   pub text_from : ℕ → List ℕ → List ℕ → Result (List ℕ × List ℕ) Fault
   text_from place done [] = Err (place, Unclosed)
@@ -107,7 +107,7 @@ finish items [] = Ok items
 finish items (opened delimiter at before ∷ levels) = Err (at, Unclosed)
 finish items (marked mark at ∷ levels) = Err (at, Unclosed)
 
--- the state after a text, of which what stands behind its quote is given, and what follows the text
+-- the state after a text, of which what stands after its quote is given, and what follows the text
 abbrev pub take_text : ℕ → List ℕ → State → Result (State × List ℕ) Fault
 take_text place bytes state =
     text_from place [] bytes >>= λ found. Ok (put (text found.0) state.items state.levels, found.1)
@@ -121,7 +121,7 @@ take_token place bytes state =
 abbrev pub with_rest : List ℕ → Result State Fault → Result (State × List ℕ) Fault
 with_rest bytes read = read >>= λ state. Ok (state, bytes)
 
--- the state after a mark, of which the first byte and what stands behind that are given, and what follows the mark
+-- the state after a mark, of which the first byte and what stands after that are given, and what follows the mark
 abbrev pub take_mark : Mark → ℕ → List ℕ → State → Result (State × List ℕ) Fault
 take_mark mark place bytes state = with_rest (whole_mark mark bytes).1 (open_mark (whole_mark mark bytes).0 place state)
 
@@ -137,7 +137,7 @@ piece place b bs state =
       | _ ↦ Err (place, Token)
     ]
 
--- all data, of what stands behind a gap in a text of so many bytes, in at most so many pieces; scan gives it more than the text has bytes, so
+-- all data, of what stands after a gap in a text of so many bytes, in at most so many pieces; scan gives it more than the text has bytes, so
 -- the first case is never met there
 abbrev pub pieces : ℕ → ℕ → State → List ℕ → Result (List Val) Fault
 pieces zero total state bytes = Err (total, Long)

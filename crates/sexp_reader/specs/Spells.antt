@@ -79,7 +79,7 @@ mutual
         → Datum levels middle v rest → Datum (suc levels) (mark ++ bytes) (list (vals_of (symbol name ∷ v ∷ []))) rest
 
   -- Data levels bytes vs rest: bytes are spellings of vs in their order, in which at most so many lists and marks are open at once,
-  -- with gaps before and behind them, and then rest
+  -- with gaps before and after them, and then rest
   pub data Data : ℕ → List ℕ → List Val → List ℕ → Type 0 where
     no_data : (levels : ℕ) (bytes rest : List ℕ) → Gap bytes rest → Data levels bytes [] rest
     a_datum : (levels : ℕ) (bytes middle : List ℕ) (v : Val) (after : List ℕ) (vs : List Val) (rest : List ℕ) → Gap bytes middle

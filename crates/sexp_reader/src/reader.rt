@@ -134,7 +134,7 @@ impl Reader {
         }
     }
 
-    // A mark, of which the first byte and what stands behind that are given; what follows it.
+    // A mark, of which the first byte and what stands after that are given; what follows it.
     fn take_mark<'a>(
         &mut self,
         mark: Mark,
@@ -149,7 +149,7 @@ impl Reader {
         Ok(rest)
     }
 
-    // A text, of which what stands behind its quote is given; what follows it.
+    // A text, of which what stands after its quote is given; what follows it.
     fn take_text<'a>(
         &mut self,
         alloc: Global,

@@ -8,7 +8,7 @@ use crate::fault::{ReadFault, ReadKind, fault};
 use script_value::Str;
 use std::alloc::Global;
 
-/// What stands behind space and comments.
+/// What stands after space and comments.
 pub fn after_gap(text: &[u8]) -> &[u8]
     ensures gap { result.now ≡ spec.after_gap text.now }
     ensures shorter { length result.now ≤ length text.now }
@@ -60,7 +60,7 @@ fn escaped(byte: u8) -> Option<u8>
     }
 }
 
-// The characters of the text behind a quote at this place, and what follows it.
+// The characters of the text after a quote at this place, and what follows it.
 fn letters_at(alloc: Global, place: u64, bytes: &[u8]) -> Result<(Vec<u8>, &[u8]), ReadFault>
     ensures found { Gives (λ x. (x.0.items, x.1.now)) result (spec.text_from place [] bytes.now) }
     ensures shorter { IfOk result (λ x. length x.1.now ≤ length bytes.now) }
@@ -100,7 +100,7 @@ fn text_of(bytes: Vec<u8>) -> Str
     }
 }
 
-/// The text behind a quote at this place, and what follows it.
+/// The text after a quote at this place, and what follows it.
 pub fn text_at(alloc: Global, place: u64, bytes: &[u8]) -> Result<(Str, &[u8]), ReadFault>
     requires { IsUtf8 bytes.now }
     ensures found { Gives (λ x. (x.0, x.1.now)) result (spec.text_from place [] bytes.now) }

@@ -1,4 +1,4 @@
--- What a crash leaves of a journal in which a record is added, behind calls that write nothing.
+-- What a crash leaves of a journal in which a record is added, after calls that write nothing.
 use Rattle.std.proofs.Common.{◌≡◌, ◌∙◌, inl, inr, ⊎_elim, ℕ, Bool, List, Option, Some, None, option_map, is_some, IfSome, IsTrue, ap, subst, arith}
 use Rattle.web_disk.specs.View.{View, NoNewImage, Elapses, LeavesOnly}
 use Rattle.page_journal.specs.Records.{newest, stored}

@@ -97,7 +97,7 @@ body_now shelf place body (made w) = next_now place (length body) w (read_record
 body_now shelf place body (damaged p) = refl
 body_now shelf place body (other p) = refl
 
--- what records make with a body more is what that one makes behind them
+-- what records make with a body more is what that one makes after them
 with_more_is : (n : ℕ) (body : List ℕ) → OneBodyMore → (bodies : List (List ℕ)) → with_more n (8 + length (frames bodies)) body (book_of texts n bodies) ≡ book_of texts n (bodies ++ body ∷ [])
 with_more_is n body one bodies = body_now n (8 + length (frames bodies)) body (book_of texts n bodies) ∙ sym (one texts n bodies body)
 

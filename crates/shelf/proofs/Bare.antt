@@ -138,7 +138,7 @@ not_late m late is = subst IsLate is late
 abbrev AreFront : List (List ℕ) → Type 0
 AreFront bodies = bodies ≡ body_of follows ∷ (body_of promotes ∷ [])
 
--- behind both there is none
+-- after both there is none
 nothing_behind : (shelf place : ℕ) (bodies : List (List ℕ)) → with_bodies texts shelf place bodies waited ≡ waited → bodies ≡ []
 nothing_behind shelf place [] is = refl
 nothing_behind shelf place (body ∷ bodies) is =
@@ -204,7 +204,7 @@ module _ (x : AreRecordsExact) (shelf : ℕ) where
   abbrev p : List ℕ
   p = body_of promotes
 
-  -- what stands behind the two
+  -- what stands after the two
   behind_front_is : (bodies : List (List ℕ)) → book_of texts shelf (f ∷ (p ∷ bodies)) ≡ with_bodies texts shelf 20 bodies waited
   behind_front_is bodies =
       ap (λ (r : Option Record). with_bodies texts shelf 14 (p ∷ bodies) (start_by texts shelf 8 1 r)) (x.back follows tt)

@@ -272,7 +272,7 @@ module _ {D N : Type 0} (view : D → View) (tells : Bool) (coming : N → ℕ �
           let l = between_these in
           (l.0, any_less (view_of view s.journal) (view_of view j) (Hold newest bodies (puts newest others)) (Held l.0) (carried newest bodies (puts newest others) l.0 l.1) run_here)
 
-      -- whatever the shelf's book is behind it
+      -- whatever the shelf's book is after it
       moments_to : (d : Book) (n : ℕ) → reopened then_ ≡ reopened (if_kept n d) → Throughout texts shelf b (if_kept n d) (view_of view s.journal) (view_of view j)
       moments_to d n alike = both_alike shelf m.book (compacted_book m.book) b (if_kept n d) (view_of view s.journal) (view_of view j) refl alike throughout
 

@@ -317,7 +317,7 @@ one_in_front : (x : List ℕ) (front rest anew : List (List ℕ)) → anew ≡ f
 one_in_front x front rest anew is one = is ∙ ap (λ (xs : List (List ℕ)). xs ++ rest) one
 
 module _ (f : ℕ) where
-  -- these bodies, the gate of the first at this place, behind what was made
+  -- these bodies, the gate of the first at this place, after what was made
   record Walk (ls : List Instance) (shelf place : ℕ) (bodies : List (List ℕ)) (m e : Made) : Type 0 where
     all : List (Option Kept)
     marks : marks_of f texts shelf place bodies (made m) ≡ map is_some all
@@ -369,9 +369,9 @@ module _ (f : ℕ) where
             subst (λ (xs : List (List ℕ)). AreBodiesOf xs (its ∷ w.all)) (sym (one_in_front x.0 front rest anew h.2.0 x.1.0)) (x.1.1, w.anew_are old rest behind);
       }
 
-  -- ---- behind the record that a journal begins with, and behind one that tells a number
+  -- ---- after the record that a journal begins with, and after one that tells a number
 
-  -- what stands behind them
+  -- what stands after them
   record Second (ls : List Instance) (shelf place : ℕ) (bodies : List (List ℕ)) (first e : Made) : Type 0 where
     from : Made
     later : ℕ
@@ -441,8 +441,8 @@ module _ (f : ℕ) where
 
   -- ---- the record that a journal begins with, and those in front of it
 
-  -- what bodies tell behind what was made of those before them, of which together a book is made of a shelf that does not follow: the record
-  -- that its journal begins with, and what stands behind that
+  -- what bodies tell after what was made of those before them, of which together a book is made of a shelf that does not follow: the record
+  -- that its journal begins with, and what stands after that
   record Start (shelf gate : ℕ) (bodies : List (List ℕ)) (x : Making) : Type 0 where
     fed : Bool
     place : ℕ
@@ -486,7 +486,7 @@ module _ (f : ℕ) where
           );
         }
 
-    -- it stands behind this one, which tells whether the shelf follows
+    -- it stands after this one, which tells whether the shelf follows
     start_later : (gate : ℕ) (body : List ℕ) (bodies : List (List ℕ)) (x y : Making) → ((ls : List Instance) → entry_in f ls texts x body ≡ []) → mark_in f x body ≡ [] → (IsOlder f → ⊥) → is_role body ≡ true
         → with_body_at f texts shelf gate body x ≡ y → Start shelf (gate + 5 + length body) bodies y → Start shelf gate (body ∷ bodies) x
     start_later gate body bodies x y none no_mark never role is s =
@@ -558,7 +558,7 @@ module _ (f : ℕ) where
         by_record (Some (draws number)) read = plainly (Some (draws number)) read refl
         by_record (Some promotes) read = plainly (Some promotes) read refl
 
-  -- these bodies, walked through: the first that is no role's, and those behind it
+  -- these bodies, walked through: the first that is no role's, and those after it
   record Read (ls : List Instance) (shelf : ℕ) (bodies : List (List ℕ)) (m : Made) : Type 0 where
     first : List ℕ
     behind : List (List ℕ)

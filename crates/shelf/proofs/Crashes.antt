@@ -1,4 +1,4 @@
--- What is opened behind a crash.
+-- What is opened after a crash.
 use Rattle.std.proofs.Common.{◌≡◌, inl, inr, ⊎_elim, ℕ, List, None, length, refl, sym, ◌∙◌, ap, subst}
 use Rattle.book_recovery.specs.SetupReader.Texts.{setup_of_texts as texts}
 use Rattle.script_nodes.specs.Setup.{Named}

@@ -47,7 +47,7 @@ first_on n body f b c library next notes then_notes true is waits_so way begins 
     }
 first_on n body f b c library next notes then_notes false is waits_so way begins under known = absurd (let no : ⊥ = cc is in no)
 
--- a record behind that was taken
+-- a record after that was taken
 pub later_on : (n : ℕ) (body : List ℕ) (f : Follower) (after : InOrder (Unit {0})) (b c : RustBook) (library next : kept.Library) (notes then_notes : FileNotes) (alone taken : Bool) → taken ≡ true
     → ((k : ℕ) (m : Making) → IsFedAt f.fed n k f.seen b (library_of library) m → IsMadeAs n k true alone b (library_of library) f.seen m)
     → ((place : ℕ) → GivesWith newest n place body true alone (found.Made b library) true false (found_as place (Ok taken) c next) f.seen after)

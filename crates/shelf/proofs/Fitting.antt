@@ -1,4 +1,4 @@
--- A ticket fits the book behind its take; and calls on a shelf whose book was made anew, the same.
+-- A ticket fits the book after its take; and calls on a shelf whose book was made anew, the same.
 use Rattle.std.proofs.Common.{◌≡◌, ◌∙◌, ap, sym, subst, ℕ, Bool, List, [], Option, Some, None, IfSome, slice_get}
 use Rattle.script_nodes.specs.Setup.{Named, Library}
 use Rattle.book_recovery.specs.SetupReader.Texts.{setup_of_texts as texts}

@@ -110,7 +110,7 @@ pub either_newest : (bodies others : List (List ℕ)) (image : List ℕ) → IsE
 either_newest bodies others image (inl old) = closed_format newest bodies image old
 either_newest bodies others image (inr new) = closed_format newest others image new
 
--- behind a call that writes nothing
+-- after a call that writes nothing
 pub known_quiet : {D : Type 0} (view : D → View) (tells : Bool) (shelf : ℕ) (old new : Journal D) (up_old up_new : Type 0) (before after : FileNotes) → KnowsFile view tells shelf old up_old before → IsQuietCall view tells old new → StaysAsTold before after
     → IsNoted after → (up_new → up_old) → KnowsFile view tells shelf new up_new after
 known_quiet view tells shelf old new up_old up_new before after k call stays noted still = record {
@@ -131,7 +131,7 @@ pub known_doubted : {D : Type 0} (view : D → View) (tells : Bool) (shelf : ℕ
     → KnowsFile view tells shelf new up notes
 known_doubted view tells shelf new up notes now noted images in_doubt = record { newest_is = now; noted = noted; images = images; records = λ told there. absurd (in_doubt there) }
 
--- behind a record that was added and is one that recovery takes
+-- after a record that was added and is one that recovery takes
 pub known_added : {D : Type 0} (view : D → View) (tells : Bool) (shelf : ℕ) (old mid new : Journal D) (up_old up_new : Type 0) (before after : FileNotes) (body : List ℕ) → KnowsFile view tells shelf old up_old before → up_old
     → IsQuietCall view tells old mid → new.format ≡ newest → IsNoted after → marks_in after ≡ marks_in before ++ true ∷ [] → AreBytes body
     → (IsTrue tells → IsSettled view new × (bodies_in view new ≡ bodies_in view mid ++ body ∷ []))

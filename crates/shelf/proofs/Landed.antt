@@ -78,7 +78,7 @@ module _ {D N : Type 0} (view : D → View) (tells : Bool) (s : Shelf D N) (orde
   abbrev body : List ℕ
   body = body_by c state
 
-  -- the book behind the change, and the one where it is in doubt
+  -- the book after the change, and the one where it is in doubt
   abbrev pub landed_book : Book
   landed_book = land (of_length (length body)) c inside (spend k b)
 

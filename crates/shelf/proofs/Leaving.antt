@@ -78,7 +78,7 @@ pub record Publishes {D N : Type 0} (view : D → View) (tells : Bool) (coming :
   pub memory : SpendsOnly view s u t x
   pub tickets : KeepsTickets view s u
 
--- what a publish rests on of the disk before it and behind it
+-- what a publish rests on of the disk before it and after it
 pub record Serves {D : Type 0} (view : D → View) (tells : Bool) (old new : Journal D) : Type 0 where
   pub only_now : OnlyNow (view old.disk)
   pub counts_now : CountsNow (view new.disk)

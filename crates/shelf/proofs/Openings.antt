@@ -235,7 +235,7 @@ quiet_then v0 v1 v2 p q = record {
   left = omega (arith, p.left, q.left);
 }
 
--- a call that writes nothing, behind which one leaves what has a property that nothing else had before
+-- a call that writes nothing, after which one leaves what has a property that nothing else had before
 pub quiet_leaves : (v0 v1 v2 : View) (P : List ℕ → Type 0) → IsQuiet v0 v1 → ((image : List ℕ) → v0.images image → P image) → LeavesOnly v1 v2 P → LeavesOnly v0 v2 P
 quiet_leaves v0 v1 v2 P quiet holds run = record {
   later = omega (arith, quiet.moments.later, run.later);

@@ -95,7 +95,7 @@ module _ {D N : Type 0} where
     fed = stays.fed;
   }
 
-  -- so it stays behind an event
+  -- so it stays after an event
   pub order_behind : (view : D → View) (tells : Bool) (old new : Shelf D N) (event : step.Event) (fate : step.Fate) (r : step.Reply) (after : Book) → IsInOrder view tells old
       → IsLawful event (book_in view old) → GivesTick event → (HasSomeStates (library_in old).all old.book → HasSomeStates (library_in new).all new.book) → HasWholeScripts after → book_in view new ≡ after
       → new.library ≡ old.library → new.rules ≡ old.rules → new.follower ≡ old.follower → step.step (rules_of old.rules) (book_in view old) 0 event fate ≡ (r, after) → JournalStays view tells new old.rules.number after → IsInOrder view tells new

@@ -1,4 +1,4 @@
--- An opening goes on behind the reading of a journal.
+-- An opening goes on after the reading of a journal.
 use Rattle.std.proofs.Common.{◌≡◌, inl, inr, ⊎_elim, ℕ, Bool, true, false, List, ◌++◌, Some, Result, Err, IfOk, IsTrue, refl, sym, ◌∙◌, ap, subst, arith}
 use Rattle.book_recovery.specs.SetupReader.Texts.{setup_of_texts as texts}
 use Rattle.script_nodes.specs.Setup.{Named, Library}
@@ -149,7 +149,7 @@ noted_at view shelf j notes x now known =
     let P : ℕ → Making → Type 0 = λ k m. WhereMade x (NotesFile k shelf bodies notes m) in
     subst (P newest) (format_of_now texts shelf bodies) (subst (λ (k : ℕ). P k (book_of_format k texts shelf bodies)) now known)
 
--- it goes on to be known behind a call that wrote nothing
+-- it goes on to be known after a call that wrote nothing
 pub known_after : {D : Type 0} (view : D → View) (shelf : ℕ) (j0 j1 : Journal D) (notes : FileNotes) → IsQuiet (view_of view j0) (view_of view j1) → KnowsRead view shelf j0 notes → KnowsRead view shelf j1 notes
 known_after view shelf j0 j1 notes quiet known =
     let these : bodies_in view j0 ≡ bodies_in view j1 = ap stored (sym quiet.seen) in

@@ -42,7 +42,7 @@ own_bodies view shelf old now s reads own =
     now_own shelf (bodies_in view old)
     (own_seen shelf v.seen newest (bodies_in view old) refl (omega (arith, s.end, s.fits)) (newest_images view old s now v.seen reads) (images_own shelf v v.seen own reads))
 
--- so what a change's page is written behind is the own state
+-- so what a change's page is written after is the own state
 pub own_behind : {D : Type 0} (view : D → View) (shelf : ℕ) (b : Book) (old : Journal D) (now_is : old.format ≡ newest) (c : Change) (up : b.down ≡ None) (fit : IsFit view texts shelf old b)
     → (view old.disk).images (view old.disk).seen → HasOwnImages shelf (view old.disk) → IsOwnBefore (fit.holds up).earlier b (Some c)
 own_behind view shelf b old now_is c up fit reads own =
@@ -65,7 +65,7 @@ module _ {D : Type 0} (view : D → View) (tells : Bool) (shelf : ℕ) (rules : 
   has_room : HasRoom bodies (adds body)
   has_room = let s = fit.settled up in omega (arith, s.end, room)
 
-  -- behind the event that lands the change
+  -- after the event that lands the change
   kept_with : (fate : Fate) → lands rules b event fate ≡ Some c → KeepsWith texts shelf bodies (body ∷ []) (step rules b 0 event fate).1
   kept_with fate landed =
       let x = (step rules b 0 event fate).1 in
@@ -151,7 +151,7 @@ module _ {D : Type 0} (view : D → View) (tells : Bool) (shelf : ℕ) (rules : 
         let t = added_fit.stands in
         record { images = images; stands = (t.0, (t.1.0, (t.1.1, measured_up rules t.0 d still))) }
 
--- what is at stake behind a record that was added, and behind one that is in doubt
+-- what is at stake after a record that was added, and after one that is in doubt
 pub stake_landed : (rules : Rules) (b : Book) (event : Event) (fate : Fate) (c : Change) → lands rules b event fate ≡ Some c → stake_of rules b 0 event fate ≡ Some c
 stake_landed rules b event fate c is = ap (λ (o : Option Change). at_stake o (step rules b 0 event fate).1) is
 

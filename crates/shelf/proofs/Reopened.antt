@@ -205,7 +205,7 @@ module _ {D : Type 0} (view : D → View) (fed : Bool) (shelf : ℕ) (old : D) (
   pub moving_bare : (w : Made) → (w.book ≡ reopened before) ⊎ (w.book ≡ reopened after) → Moves view shelf j0 j1 w → LeavesOnly (view old) (view_of view j1) Q
   moving_bare w one m = leaves_then (view old) (view_of view j0) (view_of view j1) Q begun_bare (leaves_map (view_of view j0) (view_of view j1) (Held m.between) Q (to_held w one m) m.run)
 
-  -- behind it, the opening of the new file
+  -- after it, the opening of the new file
   pub opening_bare : (w : Made) → (w.book ≡ reopened before) ⊎ (w.book ≡ reopened after) → (m : Moves view shelf j0 j1 w) → (j2 : Journal D) → CountsNow (view_of view j1) → making_of view shelf j1 ≡ book_of texts shelf (bodies_now j0.format shelf (bodies_in view j0))
       → (bare_bodies fed (making_of view shelf j1) ≡ [] → IsQuiet (view_of view j1) (view_of view j2)) → LeavesOnly (view old) (view_of view j2) Q
   opening_bare w one m j2 counts_then is quiet =

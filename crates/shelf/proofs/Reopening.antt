@@ -281,7 +281,7 @@ module _ {D : Type 0} (view : D → View) (tells : Bool) (shelf : ℕ) (j0 j1 j2
         told = λ told. (before told).0;
       }
 
-  -- whatever goes on behind it
+  -- whatever goes on after it
   pub role_done : {T : Type 0} (u : T) (t : TellsSetup view tells j1 j2 f (Ok u)) (now2 : j2.format ≡ newest) (only_now : OnlyNow (view_of view j2)) (x : AreRecordsExact) (bare : length_of j1 ≡ 9) (seen : InOrder (Unit {0})) (unseen : seen_by seen ≡ [])
       (known notes : FileNotes) (r : Result (RustBook × kept.Library) BeginFault) → IsFedOf shelf found.Nothing known notes r → OpensParts view tells true shelf j0 j2 (Some (record { seen = seen; fed = fed.Waits; fallen = None })) notes r
   role_done u t now2 only_now x bare seen unseen known notes (Ok o) is = role_opened u t now2 only_now x bare seen unseen o.0 o.1 notes is

@@ -24,7 +24,7 @@ module _ {D : Type 0} (view : D → View) (old : Journal D) where
   pub left_first : (other : ℕ) (others : List (List ℕ)) (mid : View) → IsSettled view old → LeavesOnly v mid v.images → LeavesOnly v mid (IsEither old.format other (bodies_in view old) others)
   left_first other others mid s run = leaves_map v mid v.images (IsEither old.format other (bodies_in view old) others) (λ image left. inl (settled_images view old s image left)) run
 
-  -- and behind that the file gave place to another one, or not
+  -- and after that the file gave place to another one, or not
   pub left_then : (mid new : Journal D) (others : List (List ℕ)) → IsSettled view old → LeavesOnly v (view_of view mid) v.images → mid.format ≡ old.format → (view_of view mid).seen ≡ v.seen
       → LeavesOnly (view_of view mid) (view_of view new) (IsEither mid.format newest (bodies_in view mid) others) → LeavesOnly v (view_of view new) (IsEither old.format newest (bodies_in view old) others)
   left_then mid new others s first format seen run =

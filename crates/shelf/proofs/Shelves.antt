@@ -70,7 +70,7 @@ not_doubted (Some d) e = absurd (let no : ⊥ = cc in no)
 
 module _ {D N : Type 0} (view : D → View) (tells : Bool) (s t : Shelf D N) (told_same : t.library ≡ s.library) (limits : t.rules ≡ s.rules) (d : Book) (is : book_in view t ≡ d) (same : reopened (book_in view s) ≡ reopened d) (down : (book_in view s).down ≡ d.down)
     (call : IsQuietCall view tells s.journal t.journal) where
-  -- an event that leaves no record, behind which the book differs in what is out alone
+  -- an event that leaves no record, after which the book differs in what is out alone
   module _ (order : IsInOrder view tells s) (some : HasSomeStates (library_in s).all s.book → HasSomeStates (library_in t).all t.book) (stay : StayTold s t) (sound : journal.IsSound t.journal) (event : step.Event) (fate : step.Fate) (x : step.Reply)
       (stepped : step.step (rules_of s.rules) (book_in view s) 0 event fate ≡ (x, d)) (appends : IsAppending event) (gives : Gives texts event) (setup : KeepsSetup event (book_in view s)) (tells_none : told_bodies event (book_in view s) ≡ []) (lawful : IsLawful event (book_in view s)) (tick : GivesTick event)
       (events : EventsAreKept) (none : lands (rules_of s.rules) (book_in view s) event fate ≡ None) where

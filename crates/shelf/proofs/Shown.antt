@@ -1,4 +1,4 @@
--- The page that a change shows has the state that its record tells, behind what records told of the page that is answered.
+-- The page that a change shows has the state that its record tells, after what records told of the page that is answered.
 use Rattle.std.proofs.Common.{◌≡◌, ◌∙◌, ap, sym, subst, refl, ℕ, zero, suc, List, slice_get, Option, Some, None, option_map, Contains, inl, inr}
 use Rattle.std.specs.Prelude.{IfSome}
 use Rattle.std.proofs.lemmas.Option.{same_Some}
@@ -126,7 +126,7 @@ rises_behind : (links : ℕ) (o : Option Suspended) (p : Suspended) → o ≡ So
 rises_behind zero o p e rise = tt
 rises_behind (suc n) o p e rise = subst RisesBefore (sym e) rise
 
--- so the page of the change is written behind what records told
+-- so the page of the change is written after what records told
 module _ (b : Book) (t : Ticket) (r : Segment) (earlier : Earlier) where
   abbrev IsBehindTold : Change → Type 0
   IsBehindTold c = (before_told earlier b (change_of c) ≡ behind_in t c) × RisesBefore (behind_in t c)

@@ -64,7 +64,7 @@ nothing_doubted shelf bodies b up keeps =
 
 module _ {D : Type 0} (view : D → View) (tells : Bool) (shelf : ℕ) (rules : Rules) (b : Book) (event : Event) (fate : Fate) (old : Journal D)
     (is_over : AreOver rules shelf) (appends : IsAppending event) (gives : Gives texts event) (tells_none : told_bodies event b ≡ []) (lawful : IsLawful event b) (events : EventsAreKept) where
-  -- behind an event that leaves no record, with a book that differs in what is out alone
+  -- after an event that leaves no record, with a book that differs in what is out alone
   module _ (d : Book) (is : (step rules b 0 event fate).1 ≡ d) (none : lands rules b event fate ≡ None) (same : reopened b ≡ reopened d) (down : b.down ≡ d.down) (new : Journal D) (call : IsQuietCall view tells old new) (told : IsTrue tells) where
     quiet_keeps : b.down ≡ None → Keeps texts shelf (bodies_in view old) b → Keeps texts shelf (bodies_in view new) d
     quiet_keeps up keeps =

@@ -149,7 +149,7 @@ module _ (all : List Named) (b : Book) (whole : HasWholeScripts b) (t : Ticket) 
   state_left (start name) ok fits over c keeps is = start_left name (admit b (start name)) refl ok fits over c keeps is
   state_left (page name n) ok fits over c keeps is = page_left name n (admit b (page name n)) refl ok fits over c keeps is
 
--- ---- the state that a page's is written behind is what its ticket goes on from
+-- ---- the state that a page's is written after is what its ticket goes on from
 
 tape_there : (h : Home) (qs : List Page) (p : Page) → chain_tape h (qs ++ p ∷ []) ≡ Some (page_tape h qs p)
 tape_there h [] p = refl

@@ -1,4 +1,4 @@
--- A shelf in order goes on to be, behind a call that writes nothing and leaves its book as it was.
+-- A shelf in order goes on to be, after a call that writes nothing and leaves its book as it was.
 use Rattle.std.proofs.Common.{◌≡◌, ◌∙◌, ap, sym, subst, ℕ, Bool, List, map, Option, Some, None, option_map, IfSome, IsTrue}
 use Rattle.book_recovery.specs.SetupReader.Texts.{setup_of_texts as texts}
 use Rattle.web_disk.specs.View.{View, NoNewImage}

@@ -56,7 +56,7 @@ module _ (r : limits_of.Rules) (b : Book) (tick : ℕ) (late : nat_le tick b.clo
         landed = comes.landed;
       }
 
--- scripts stay whole behind a sweep
+-- scripts stay whole after a sweep
 pub swept_whole : (tick : ℕ) (b d : Book) → IsOrderly b → HasWholeScripts b → d.scripts ≡ b.scripts → d.instances ≡ instances_by b.scripts (sweeps tick) [] b.instances → HasWholeScripts d
 swept_whole tick b d orderly whole same is = record {
   setup = subst AreWhole (sym same) whole.setup;

@@ -130,7 +130,7 @@ module _ (l : Library) (beside : Beside) (book : kept.Book) (t : Ticket) (r : Se
   abbrev s : eval.Segment
   s = segment_of r
 
-  -- what is told of the state of the change's page is that state, where it is read behind what the ticket goes on from
+  -- what is told of the state of the change's page is that state, where it is read after what the ticket goes on from
   abbrev pub IsRead : Change → Type 0
   IsRead c =
       (earlier : Earlier) → before_told earlier b (change_of c) ≡ behind_in t c → RisesBefore (behind_in t c) → BindsIn t c

@@ -1,4 +1,4 @@
--- A setup is told behind the records of a journal.
+-- A setup is told after the records of a journal.
 use Rattle.std.proofs.Common.{◌≡◌, inl, inr, ⊎_elim, ℕ, ◌≤◌, Bool, List, [], ◌∷◌, ◌++◌, length, Ok, Err, IsTrue, refl, ◌∙◌, ap, subst, arith}
 use Rattle.web_disk.specs.View.{View, NoNewImage, Elapses, LeavesOnly}
 use Rattle.web_outside.specs.Causes.{Rose}
@@ -13,7 +13,7 @@ use Rattle.shelf.specs.declared.begin.BeginFault.TheVariants as fault
 use Rattle.shelf.proofs.Standing.{OnlyNow}
 use Rattle.shelf.proofs.Newest.{newest_images}
 
--- a call that leaves no new image, behind which one leaves what has a property that all had before
+-- a call that leaves no new image, after which one leaves what has a property that all had before
 run_after : (v0 v1 v2 : View) (P : List ℕ → Type 0) → OnlyNow v0 → ((image : List ℕ) → v0.images image → P image) → NoNewImage v0 v1 → Elapses v0 v1 → LeavesOnly v1 v2 P → LeavesOnly v0 v2 P
 run_after v0 v1 v2 P only_now holds less time run =
     let first : LeavesOnly v0 v1 P = record {

@@ -34,7 +34,7 @@ HeldAnew {before} {after} shelf scripts k bytes = HeldOpened k scripts bytes ⊎
 pub recovery_leaves : (shelf : ℕ) (scripts : List Named) (old new : View) → StaysThroughout texts shelf old new → (before after : Book) (k : Between texts shelf before after) → HoldIn k old.images → LeavesOnly old new (HeldAnew shelf scripts k)
 recovery_leaves shelf scripts old new stays before after k held = leaves_map old new (Held k) (HeldAnew shelf scripts k) (λ image h. inl (inl h)) (stays before after k held)
 
--- a file that gives place, and what is opened behind it
+-- a file that gives place, and what is opened after it
 module _ (shelf : ℕ) (scripts : List Named) (found anew : Book) (renewed : IsRenewedAs found anew) where
   -- of the book that was found, as after a crash
   module _ (b : Book) (same : found ≡ reopened b) where
@@ -103,7 +103,7 @@ module _ {D : Type 0} (view : D → View) (scripts : List Named) (shelf : ℕ) (
         leaves_then (view old) (view_of view j0) (view_of view j1) P begun
         (leaves_map (view_of view j0) (view_of view j1) (Held m.between) P (to_held w one m.anew.book (renewed_of w m) m.between) m.run)
 
-    -- behind it, the opening of the new file
+    -- after it, the opening of the new file
     pub opening_held : (w : Made) → (w.book ≡ reopened before) ⊎ (w.book ≡ reopened after) → (m : Moves view shelf j0 j1 w) → (j2 : Journal D) → CountsNow (view_of view j1) → making_of view shelf j1 ≡ book_of texts shelf (bodies_now j0.format shelf (bodies_in view j0))
         → IsReadOrRenewed view scripts shelf j1 j2 → LeavesOnly (view old) (view_of view j2) P
     opening_held w one m j2 counts_then is quiet =

@@ -203,7 +203,7 @@ module _ {D N : Type 0} (view : D → View) (s u : Shelf D N) (same : u.library 
 pub states_stay : {D N : Type 0} (view : D → View) (s u : Shelf D N) → ((source : Source ⊤) → HasStatesFrom source (library_in s).all s.book → HasStatesFrom source (library_in u).all u.book) → KeepsGiven view s u
 states_stay view s u stay f has = (f, (stay (given f) has, λ n d used is. is))
 
--- the book behind an event is a later one
+-- the book after an event is a later one
 pub later_step : {D N : Type 0} (view : D → View) (s : Shelf D N) (event : step.Event) (fate : step.Fate) (x : step.Reply) (d : Book) → IsOrderly (book_in view s) → IsLawful event (book_in view s)
     → step.step (rules_of s.rules) (book_in view s) 0 event fate ≡ (x, d) → Later (book_in view s) d
 later_step view s event fate x d orderly lawful e =

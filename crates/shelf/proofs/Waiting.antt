@@ -286,7 +286,7 @@ module _ {D : Type 0} (view : D → View) (tells : Bool) (scripts : List Named) 
   goes_on_fed found.Memory (Err e) h finds order gives held some noted =
       refused found.Memory e (λ told. subst (IsReadFaultOf scripts shelf (making_of view shelf j)) (sym h) tt) (λ is. let no : fault.Memory ≡ fault.DiskFault = sym h ∙ is in cc no)
 
--- so it does behind the reading of its journal
+-- so it does after the reading of its journal
 module _ {D : Type 0} (view : D → View) (tells : Bool) (scripts : List Named) (shelf : ℕ) (j0 j1 : Journal D) (now_is : j0.format ≡ newest) (format : j1.format ≡ j0.format) (settled : IsTrue tells → IsSettled view j1) (only_now : OnlyNow (view_of view j1)) (x : AreRecordsExact)
     (quiet : IsQuiet (view_of view j0) (view_of view j1)) (len : length_of j1 ≡ length_of j0) (read : ReadBook) (fed : read.follows ≡ true) where
   abbrev made_before : Making

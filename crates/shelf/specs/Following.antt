@@ -71,14 +71,14 @@ IsOpen view tells s = IsInOrder view tells s ⊎ HasNotBegun view tells s
 
 -- ---- a record more
 
--- A body stands behind those of the journal of a shelf of this number that follows: it does not tell whether a shelf follows, and the records
+-- A body stands after those of the journal of a shelf of this number that follows: it does not tell whether a shelf follows, and the records
 -- make a book with it.
 pub record CanStand (shelf : ℕ) (bodies : List (List ℕ)) (body : List ℕ) : Type 0 where
   pub fed : is_role body ≡ false
   pub made : Made
   pub makes : made_in (book_of setup_of_texts shelf (bodies ++ body ∷ [])) ≡ Some made
 
--- where the disk tells its bytes, a body stands behind those of the shelf's journal
+-- where the disk tells its bytes, a body stands after those of the shelf's journal
 abbrev pub StandsBehind : {D N : Type 0} → (D → View) → Bool → Shelf D N → List ℕ → Type 0
 StandsBehind view tells s body = IsTrue tells → CanStand s.rules.number (bodies_in view s.journal) body
 
@@ -100,7 +100,7 @@ pub record HasFallen {D N : Type 0} (view : D → View) (old new : Shelf D N) (c
   pub counts : count ≡ (view_of view new.journal).faults
   pub rose : Rose (view_of view old.journal).faults (view_of view new.journal).faults
 
--- The body stands behind those that the journal had, which make the book with it; and the shelf can be fed on.
+-- The body stands after those that the journal had, which make the book with it; and the shelf can be fed on.
 pub record HasAdopted {D N : Type 0} (view : D → View) (tells : Bool) (old new : Shelf D N) (body : List ℕ) : Type 0 where
   pub could : CanBeFed old
   pub can : CanBeFed new
@@ -142,7 +142,7 @@ Adopts view tells old new body (Err (fault.Full n)) = IsTooLongFed view tells ol
 Adopts view tells old new body (Err (fault.DiskFault count)) = HasFallen view old new count × StandsBehind view tells old body
 Adopts view tells old new body (Err fault.Memory) = StaysFed view old new
 
--- a crash at any moment of a call on a shelf that can be fed leaves the records that its journal has, with this body behind them or without it
+-- a crash at any moment of a call on a shelf that can be fed leaves the records that its journal has, with this body after them or without it
 abbrev pub AddsThroughout : {D N : Type 0} → (D → View) → (old new : Shelf D N) → (body : List ℕ) → Type 0
 AddsThroughout view old new body =
     CanBeFed old → LeavesOnly (view_of view old.journal) (view_of view new.journal) (MayHold newest (bodies_in view old.journal) body)
@@ -160,7 +160,7 @@ AdoptsThroughout view tells old new body (Err _) = LeavesAsBefore view old new
 
 -- ---- and none
 
--- The body that tells that the shelf follows no longer stands behind those that the journal had. The book is as it was, but for the length of its
+-- The body that tells that the shelf follows no longer stands after those that the journal had. The book is as it was, but for the length of its
 -- file and that the shelf leads, which is in order or has not begun.
 pub record IsPromoted {D N : Type 0} (view : D → View) (tells : Bool) (old new : Shelf D N) : Type 0 where
   pub could : CanBeFed old

@@ -78,7 +78,7 @@ IsWholeFrom all t (Extends x) =
     IfSome (slice_get all t.script) (λ s. IsWhole (arena_of s.script) (suspended_of x.state) x.show.page.item.inside.items)
 IsWholeFrom all t _ = ⊤
 
--- the instance whose page is answered, where the change shows a page behind another one, is of the ticket's script
+-- the instance whose page is answered, where the change shows a page after another one, is of the ticket's script
 abbrev pub IsOfItsScript : List Named → Book → Ticket → Change → Type 0
 IsOfItsScript all b t (Extends x) = script_at all x.instance b ≡ Some (script_in all t.script)
 IsOfItsScript all b t _ = ⊤

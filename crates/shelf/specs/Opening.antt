@@ -151,7 +151,7 @@ IsUntouched old new = (new.seen ≡ old.seen) × NoNewImage old new
 abbrev pub IsDoneUnlessOutside : {T : Type 0} → Result T BeginFault → Type 0
 IsDoneUnlessOutside result = IsErrOf result fault.DiskFault ⊎ (IsErrOf result fault.Memory ⊎ IsTrue (is_ok result))
 
--- A settled journal gets this body behind its records; a crash at any moment leaves those, with it or without it. Where it is not added, the
+-- A settled journal gets this body after its records; a crash at any moment leaves those, with it or without it. Where it is not added, the
 -- disk failed, or there was no memory and nothing was written.
 pub record TellsSetup {D T : Type 0} (view : D → View) (tells : Bool) (old new : Journal D) (body : List ℕ) (result : Result T BeginFault) : Type 0 where
   pub added : IsTrue tells → OnOk result (IsSettled view new × (bodies_in view new ≡ bodies_in view old ++ body ∷ []))
@@ -168,7 +168,7 @@ pub record TellsFull {D T : Type 0} (old new : Journal D) (body : List ℕ) (res
   pub journal : new ≡ old
   pub told : IsErrOf result (fault.Full (length_with old body))
 
--- these are the scripts that were told, and behind them those of this setup, which is the present one
+-- these are the scripts that were told, and after them those of this setup, which is the present one
 pub record IsLibraryOf (earlier scripts : List Named) (library : Library) : Type 0 where
   pub all : (library_of library).all ≡ earlier ++ scripts
   pub setup : (library_of library).setup ≡ scripts
@@ -202,7 +202,7 @@ pub record IsFollowerOf {D : Type 0} (view : D → View) (tells : Bool) (shelf :
   pub made : IsFedSome f.fed shelf f.seen o.0 (library_of o.1)
   pub told : IsTrue tells → IsFedBy f.fed shelf f.seen o.0 (library_of o.1) (making_of view shelf journal)
 
--- so it is of the shelf that was opened, if it follows
+-- a shelf that was opened and follows keeps what the records of its journal fed it
 abbrev pub IsFollowedBy : {D : Type 0} → (D → View) → Bool → (shelf : ℕ) → Journal D → Option Follower → Result (RustBook × Library) BeginFault → Type 0
 IsFollowedBy view tells shelf journal o result = IfOk result (λ x. IfSome o (IsFollowerOf view tells shelf journal x))
 
@@ -225,7 +225,7 @@ abbrev pub IsReadOrRenewed : {D : Type 0} → (D → View) → List Named → (s
 IsReadOrRenewed view scripts shelf old new =
     making_of view shelf old ≢ nothing → making_of view shelf old ≢ waited → IsQuiet (view_of view old) (view_of view new) ⊎ Renews view scripts shelf old new
 
--- these records of this format and a closed gate behind them are the whole of a disk, also after a crash
+-- these records of this format and a closed gate after them are the whole of a disk, also after a crash
 abbrev pub HoldsAtRest : (format : ℕ) → List (List ℕ) → View → Type 0
 HoldsAtRest f bodies v = (v.seen ≡ at_rest_in f bodies) × Only v.seen v
 
@@ -234,13 +234,13 @@ abbrev pub HoldsAsRead : View → View → Type 0
 HoldsAsRead old new = (f : ℕ) × (TellsFormat old.seen f × HoldsAtRest f (stored old.seen) new)
 
 -- A disk on which nothing was lost in an opening that added these bodies: it is as it was, or holds the records that were read of it, where
--- there are none; or it holds these records, of an older format those that stay, and the bodies behind them.
+-- there are none; or it holds these records, of an older format those that stay, and the bodies after them.
 abbrev pub KeepsRecords : (shelf : ℕ) → (more : List (List ℕ)) → View → View → Type 0
 KeepsRecords shelf more old new =
     ((more ≡ []) × IsUntouched old new)
     ⊎ (IsIntactOrEmpty old × (HoldsAtRest newest (bodies_after shelf old.seen ++ more) new ⊎ ((more ≡ []) × HoldsAsRead old new)))
 
--- the disk of a journal is as it was, where no bodies were added, or has these behind its records
+-- the disk of a journal is as it was, where no bodies were added, or has these after its records
 abbrev pub HasAdded : {D : Type 0} → (D → View) → (more : List (List ℕ)) → (old new : Journal D) → Type 0
 HasAdded view more old new =
     ((more ≡ []) × IsUntouched (view_of view old) (view_of view new))

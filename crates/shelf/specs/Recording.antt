@@ -66,7 +66,7 @@ state_in (Opens o) = Some (suspended_of o.state)
 state_in (Extends x) = Some (suspended_of x.state)
 state_in _ = None
 
--- the state that a change's state is written behind: what its ticket goes on from, where the links ask for it
+-- the state that a change's state is written after: what its ticket goes on from, where the links ask for it
 abbrev pub behind_in : Ticket → Change → Option Suspended
 behind_in t (Extends x) = behind_at t.links (origin_of t.from)
 behind_in t _ = None
@@ -104,7 +104,7 @@ IsKeptIn t (Opens o) = IsKeptFrom None 0 (suspended_of o.state) (kept_at o.page)
 IsKeptIn t (Extends x) = IsKeptOfTicket t (suspended_of x.state) x.show.page
 IsKeptIn t _ = ⊤
 
--- each web cell that is bound in the state that a change's state is written behind is bound in the change's state
+-- each web cell that is bound in the state that a change's state is written after is bound in the change's state
 abbrev pub BindsIn : Ticket → Change → Type 0
 BindsIn t c = IfSome (state_in c) (BindsBefore (behind_in t c))
 

@@ -25,7 +25,7 @@ pub enum AdoptFault {
     Leader,
     /// A call of the disk failed before, as a record was added: so often one had failed then.
     Down(u64),
-    /// No journal has such a record behind those that the shelf was fed.
+    /// No journal has such a record after those that the shelf was fed.
     Outside,
     /// The journal would be so long with it.
     Full { len: u64 },
@@ -57,7 +57,7 @@ fn fed_more(
 {
     let alone = match follower.fed {
         Fed::Waits => {
-            // No file has room for a longer one, behind the record that tells that the shelf follows.
+            // No file has room for a longer one, after the record that tells that the shelf follows.
             if body.len() as u64 + 20 > MAX_LEN {
                 return Err(AllocError);
             }
@@ -105,7 +105,7 @@ impl<D: Disk, N> Shelf<D, N> {
     ghost use Rattle.shelf.specs.Events.{CountsOn};
     ghost use Rattle.shelf.specs.Following.{IsInOrderIfFed, Adopts, AdoptsThroughout};
 
-    /// Feeds a shelf that follows the body of one record more of the other one's journal. From `Ok` on it stands behind those that it has, and
+    /// Feeds a shelf that follows the body of one record more of the other one's journal. From `Ok` on it stands after those that it has, and
     /// the book is the one that these make.
     ///
     /// That the shelf does not follow is told first, and then that the disk failed before; that the record has no place there, that there is

@@ -341,7 +341,7 @@ impl<F: Disk, N: Nonces + Drop> Shelf<Disks<F>, N> {
     /// Opens the shelf of these limits, which are in their ranges, on three disks: its book is what the records of the journal make,
     /// as after a crash. Disks without a record get the first, which tells the shelf's number and its scripts. A journal of an older
     /// format gives place to one of the newest, with the records of live instances and the setups. Where the setup has
-    /// other names or texts than the last one that the journal tells, it is told behind the others; instances go on with the scripts
+    /// other names or texts than the last one that the journal tells, it is told after the others; instances go on with the scripts
     /// with which they began. A shelf whose journal tells that it follows another one's is told no setup, and goes on to follow: nothing is
     /// written. Disks that are refused are handed back, with what stands on them, but where one of their calls failed.
     /// Where the records that are read are own ones, as those of empty disks are, the shelf is an own one; on disks that tell no bytes

@@ -21,7 +21,7 @@ impl<D: Disk, N> Shelf<D, N> {
             (TakesAll T.takes taker.old 8 (bodies_in D.view self.old.journal) taker.new) }
         ensures front { IsTrue D.tells →
             TakesFront T.takes taker.old (bodies_in D.view self.old.journal) taker.new }
-        // Also of a disk that does not tell its bytes, and where a call of it failed.
+        // What follows holds of a disk that does not tell its bytes too, and where a call of it failed.
         ensures handed { (bodies : List (List ℕ)) × TakesAll T.takes taker.old 8 bodies taker.new
             × (length (at_rest bodies) ≤ 2 ^ 30) }
         ensures quiet { IsQuiet (view_of D.view self.old.journal) (view_of D.view self.new.journal) }

@@ -5,9 +5,9 @@ use book_recovery::books::InOrder;
 pub enum Fed {
     /// It was fed none.
     Waits,
-    /// It was fed the record that a journal begins with, and none behind it.
+    /// It was fed the record that a journal begins with, and none after it.
     Begun,
-    /// It was fed others behind that one.
+    /// It was fed others after that one.
     Made,
 }
 

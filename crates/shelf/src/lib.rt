@@ -55,7 +55,7 @@ pub fn tickets_go_on_to_fit()
     pages_stay();
 }
 
-/// A shelf that is opened on what a crash left of a shelf in order, with whichever setup, is that shelf behind the event crash that
+/// A shelf that is opened on what a crash left of a shelf in order, with whichever setup, is that shelf after the event crash that
 /// gives this setup, what was in doubt lost or kept.
 pub fn a_reopened_shelf_has_crashed<D: Disk>()
     ensures { AReopenedShelfHasCrashed D.view }

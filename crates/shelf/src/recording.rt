@@ -29,7 +29,7 @@ use web_disk::Disk;
 /// The greatest length of a record's body, in bytes.
 pub const MOST_OF_RECORD: u64 = 1_048_576;
 
-// The bytes that are kept of a state, behind another one or by itself; none where a value nests too deep to be written. One that is
+// The bytes that are kept of a state, after another one or by itself; none where a value nests too deep to be written. One that is
 // kept as it is for another cause is told as want of memory.
 fn state_bytes<'k>(kept: &'k KeptState, state: &Suspended) -> Result<Option<&'k [u8]>, AllocError>
     ensures { IfOk result (IsLentAs (suspended_of state.now) (kept_of kept.now).form) }

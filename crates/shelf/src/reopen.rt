@@ -30,7 +30,7 @@ use web_outside::Nonces;
 // How long a journal without records is.
 const BARE: u64 = 9;
 
-// Adds the record that tells that the shelf follows another one's journal, behind no other.
+// Adds the record that tells that the shelf follows another one's journal, after no other.
 fn tell_role<D: Disk>(alloc: Global, journal: &mut Journal<D>) -> Result<(), BeginFault>
     requires sound { IsSound journal.old }
     requires newest { journal.old.format ≡ newest }

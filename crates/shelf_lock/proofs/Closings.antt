@@ -27,7 +27,7 @@ module _ {A : Type 0} where
   each_head P [] ys all = tt
   each_head P (x ∷ xs) ys all = (all.0, each_head P xs ys all.1)
 
-  -- what holds of the n-th and of all behind it
+  -- what holds of the n-th and of all after it
   pub from_next : (T : A → Type 0) (all : List A) (n : ℕ) (x : A) → slice_get all n ≡ Some x → T x → ((k : ℕ) (p : A) → suc n ≤ k → slice_get all k ≡ Some p → T p)
       → (k : ℕ) (p : A) → n ≤ k → slice_get all k ≡ Some p → T p
   from_next T all n x at here later k p le e = dite (ℕ_discrete k n) (λ same. subst T (one_of (sym at ∙ (ap (slice_get all) (sym same) ∙ e))) here) (λ ne. later k p (omega arith) e)

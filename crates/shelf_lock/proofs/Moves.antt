@@ -196,7 +196,7 @@ module _ {S O E : Type 0} (g : Ghosts S O E) (start : S) (seats : ℕ) where
       alone zero u e = subst (λ (x : W). Fit (record { log = []; gate = 0; holder = 0; chief = 0; next = 0; owner = λ c. 0 }) 0 x x.role) (some-injective _ _ e) ((refl, refl), refl, refl)
       alone (suc j) u e = absurd (some-ne-none u (sym e))
 
-  -- the maker hands out its next number, to the seat that comes behind all others
+  -- the maker hands out its next number, to the seat that comes after all others
   abbrev renumber : Facts E → ℕ → Facts E
   renumber k seat = record k { next = k.next + 1; owner = λ c. if eqb c k.next then seat else k.owner c }
 

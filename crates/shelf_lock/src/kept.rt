@@ -1,13 +1,13 @@
 //! What may lie behind the lock.
 ghost use Rattle.std.specs.Prelude.{◌≡◌, ℕ, List, length};
 
-/// A value that stands for an opening, and for a history of entries behind it, each made by a caller. Where the value is
+/// A value that stands for an opening, and for a history of entries after it, each made by a caller. Where the value is
 /// `Send`, threads may share its lock.
 pub trait Kept {
     /// What no turn changes. No value of it need be made.
     type Opening;
 
-    /// What one turn may put behind the others. No value of it need be made.
+    /// What one turn may put after the others. No value of it need be made.
     type Entry;
 
     /// The opening that the value stands for.

@@ -108,7 +108,7 @@ impl<V: Kept> ShelfLock<V> {
     }
 
     /// Takes a note in: the pass has then seen the longer of what it had and what the note's maker had. Both are of one
-    /// history, and the pass made no entry behind what it had seen.
+    /// history, and the pass made no entry after what it had seen.
     pub fn join(&self, pass: &mut Pass<V>, note: Note<V>)
         requires own { AreOf self.now.board.shared.table_id pass.old.seat note.seat }
         ensures own { IsSameSeat pass.old.seat pass.new.seat × (pass.new.caller ≡ pass.old.caller) }

@@ -213,7 +213,7 @@ module _ {D N : Type 0} (view : D → View) (tells : Bool) (coming : N → ℕ �
             fuel_is = ap (λ (z : Shelf D N). z.rules.fuel) f.2.opened_is ∙ (ap (λ (r : Rules). r.fuel) f.2.shelf.rules_are ∙ sym fuel_is);
           }
 
-    -- one was not opened, behind these
+    -- one was not opened, after these
     pub unopened_at : OnlyNow view tells scripts → (front rest : List D) (d e : D) (number : ℕ) (fault : BeginFault) → disks ≡ front ++ d ∷ rest → length front ≡ number → length ks ≡ number
         → IsUnopened view tells scripts number d e fault → AreUnopened view tells scripts disks (map disk_in ks ++ e ∷ rest) number fault
     unopened_at only_now front rest d e number fault is len many unopened =

@@ -1,4 +1,4 @@
--- A shelf that follows another one's journal is as it was opened, behind each event that may come.
+-- A shelf that follows another one's journal is as it was opened, after each event that may come.
 use Rattle.std.proofs.Common.{◌≡◌, ⊎_elim, inl, inr, ℕ, ◌<◌, Bool, true, List, [], ◌∷◌, ◌++◌, Option, Some, None, Contains, length, sym, ◌∙◌, ap, subst}
 use Rattle.std.proofs.lemmas.List.Elements.{Contains-push_cases}
 use Rattle.std.specs.Prelude.{Result}

@@ -1,4 +1,4 @@
--- The numbers that are out and the nonces to come, behind one event more on any shelf.
+-- The numbers that are out and the nonces to come, after one event more on any shelf.
 use Rattle.std.proofs.Common.{◌≡◌, ◌==◌, ℕ, ◌+◌, Bool, true, cond, List, [], ◌∷◌, ◌++◌, length, length-append, filter, not, Contains, refl, sym, ◌∙◌, ap, subst, arith}
 use Rattle.std.proofs.lemmas.Bool.Decides.{nat_tests}
 use Rattle.std.proofs.lemmas.List.Elements.{Contains-push, filter-append}
@@ -48,7 +48,7 @@ pub owed_out : (out : List ℕ) (es : List Entry) (caller : ℕ) (t : Ticket) �
 owed_out out es caller t are owes =
     subst (λ (ns : List ℕ). Contains ns t.number) (sym are.numbers) (contains_mapped (λ (u : Ticket). u.number) (tickets_left es []) t (are.owned caller t owes))
 
--- behind one entry more
+-- after one entry more
 pub out_then : (out more : List ℕ) (es : List Entry) (e : Entry) → AreOut out es → MayCome e.caller e.event es → IsFresh e (tickets_left es [])
     → more ≡ numbers (tickets_by e.event e.reply (tickets_left es [])) → AreOut more (es ++ e ∷ [])
 out_then out more es e are comes fresh is =
@@ -62,7 +62,7 @@ out_then out more es e are comes fresh is =
     }
 
 module _ (rules : Rules) (b c : Book) (nonce : ℕ) (x : Event) (fate : Fate) (r : Reply) (ts : List Ticket) (orderly : IsOrderly b) (is : step rules b nonce x fate ≡ (r, c)) (out : b.out ≡ numbers ts) where
-  -- what is out behind a lawful event
+  -- what is out after a lawful event
   pub stepped_out : IsLawful x b → c.out ≡ numbers (tickets_by x r ts)
   stepped_out lawful =
       let m : Moment = record { rules = rules; nonce = nonce; event = x; fate = fate } in
@@ -77,14 +77,14 @@ module _ (rules : Rules) (b c : Book) (nonce : ℕ) (x : Event) (fate : Fate) (r
       let below = orderly.below u.number (among_of b.out u.number old) in
       omega (arith, below, same, drawn)
 
--- behind a publish its number is out no more, whatever else it did
+-- after a publish its number is out no more, whatever else it did
 pub spent_out : (out more : List ℕ) (es : List Entry) (caller : ℕ) (t : Ticket) (r : Reply) → AreOut out es → Owes caller t es → more ≡ filter (λ m. not (m == t.number)) out
     → AreOut more (es ++ entry caller (publish t) r ∷ [])
 spent_out out more es caller t r are owes is =
     out_then out more es (entry caller (publish t) r) are owes (λ u v given there same. absurd given)
     (is ∙ (ap (filter (λ m. not (m == t.number))) are.numbers ∙ sym (numbers_spent t.number (tickets_left es []))))
 
--- how many nonces were drawn behind one entry more
+-- how many nonces were drawn after one entry more
 drawn_then : (es : List Entry) (caller : ℕ) (x : Event) (r : Reply) → drawn_by r (length (tickets_taken es)) ≡ length (tickets_taken es) + length (given_by x r [])
     → drawn_by r (length (tickets_taken es)) ≡ length (tickets_taken (es ++ entry caller x r ∷ []))
 drawn_then es caller x r is =

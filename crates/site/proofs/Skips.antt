@@ -125,7 +125,7 @@ module _ {D N : Type 0} (view : D → View) (tells : Bool) (coming : N → ℕ �
       let second = ap length more ∙ length-append (own_of v.caller (seen_by m)) added in
       absurd (omega (arith, first, second))
 
-  -- behind a tick another one at the same time does nothing, whatever its caller did since
+  -- after a tick another one at the same time does nothing, whatever its caller did since
   again : (v w u : Known D N) (added : List Entry) (tick n : ℕ) → Ticked view tells coming v tick (Ok n) w → GoesFrom view tells coming w added u → Ticked view tells coming u tick (Ok 0) u
   again v w u added tick n t g =
       let one = swept_goes v t.middle tick n t.swept in
@@ -151,7 +151,7 @@ module _ {D N : Type 0} (view : D → View) (tells : Bool) (coming : N → ℕ �
   abbrev pub Skips : Spots D N → ℕ → Type 0
   Skips pass tick = (answers : List (Result ℕ Reply)) × AreSwept answers × Ticks view tells coming pass tick answers pass
 
-  -- behind a tick that no shelf refused, another at the same time does nothing
+  -- after a tick that no shelf refused, another at the same time does nothing
   skips_next : (old new : Spots D N) (tick : ℕ) (answers : List (Result ℕ Reply)) → length new ≡ length old → Ticks view tells coming old tick answers new → AreSwept answers → Skips new tick
   skips_next old new tick answers long ticks all = (
     nothings answers,

@@ -131,7 +131,7 @@ module _ {D N : Type 0} (view : D → View) (tells : Bool) (coming : N → ℕ �
         → step.step (rules_of s.rules) (book_in view s) (source_of coming o given) event (views.fate_by r) ≡ (r, book_in view t)
     stepped event r does = ap (λ (z : step.Reply × runs.Shelf). (z.0, z.1.book)) (does.step (source_of coming o) given p.nonces)
 
-    -- what is out behind an event
+    -- what is out after an event
     pub out_push : (caller : ℕ) (event : Event) (r : step.Reply) → MayCome caller event es → IsLawful event (book_in view s) → IsEvent view coming s t event r
         → AreOut (book_in view t).out (es ++ entry caller event r ∷ [])
     out_push caller event r may lawful does =
@@ -175,7 +175,7 @@ module _ {D N : Type 0} (view : D → View) (tells : Bool) (coming : N → ℕ �
 
     -- of a shelf that was opened as an own one
     module _ (h : HasItsHistory view tells coming o s es) where
-      -- one event more: the shelf is then the one behind it
+      -- one event more: the shelf is then the one after it
       pub kept_push : (caller : ℕ) (event : Event) (r : step.Reply) → MayCome caller event es → IsEvent view coming s t event r → count_of view s ≤ count_of view t
           → TellsCount (count_of view s) (count_of view t) r → drawn_by r given ≡ length (tickets_taken (es ++ entry caller event r ∷ []))
           → IsKept (source_of coming o) (count_of view o.shelf.value) (count_of view t) (start_of view o) (shelf_of view (length (tickets_taken (es ++ entry caller event r ∷ []))) t) (coming t.nonces) (es ++ entry caller event r ∷ [])

@@ -16,7 +16,7 @@ use Rattle.site.specs.Passes.{Spots, Known, Ticked}
 use Rattle.site.specs.Sites.{TicksSoFar}
 
 module _ {O E : Type 0} (k : ℕ) (R S T : View O E → View O E → Type 0) where
-  -- two turns at one place, the second behind the first
+  -- two turns at one place, the second after the first
   pub at_both : (old middle new : List (Spot O E)) → ((u v w : View O E) → R u v → S v w → T u w) → At k R old middle → At k S middle new → At k T old new
   at_both old middle new joins one two =
       let same : spot one.0.table one.1 ≡ two.0 = one_of (sym (there k R old middle one) ∙ two.2) in

@@ -184,7 +184,7 @@ module _ {D N : Type 0} (view : D → View) (tells : Bool) (coming : N → ℕ �
         subst (λ (p : Opening D N). tick ≤ (book_then view coming p (seen_by w)).clock) same
         (subst (λ (l : List Entry). tick ≤ (book_then view coming x.opened l).clock) seen_now (le (subst (IsOwnOpening view tells) (sym same) own)))
 
-    -- behind a sweep, or where the clock of the shelf was at the tick before
+    -- after a sweep, or where the clock of the shelf was at the tick before
     pub swept : (by tick : ℕ) (result : Result ℕ answers.Reply) → v.caller ≡ by → IsSound view tells coming x.opened x.shelf (entries_of x.history)
         → Sweeps by tick result (book_in view x.shelf).clock x.history y.history → Swept view tells coming v tick result w
     swept by tick (Ok n) is sound (inl over) = (
@@ -216,7 +216,7 @@ module _ {D N : Type 0} (view : D → View) (tells : Bool) (coming : N → ℕ �
         subst (λ (p : Opening D N). P (book_then view coming p (entries_of x.history)).length) same
         (subst P (ap (λ z. z.book.length) (sound.history mine).kept.shelf) holds)
 
-    -- behind a turn that compacts a long journal
+    -- after a turn that compacts a long journal
     pub compacted : (by : ℕ) → v.caller ≡ by → IsSound view tells coming x.opened x.shelf (entries_of x.history)
         → Compacts by (book_in view x.shelf).length x.history y.history → Compacted view tells coming v w
     compacted by is sound (inl (short, same)) =

@@ -84,7 +84,7 @@ module _ {D N : Type 0} (view : D → View) (tells : Bool) (coming : N → ℕ �
   abbrev pub AreOpened : Rules → Vec D → Vec N → Vec (KeptShelf D N) → Type 0
   AreOpened rules disks nonces ks = AreFreshOn rules (reverse disks.items) (reverse nonces.items) ks.items
 
--- nothing was lost on a disk: it has the records that it had, with what the opening with this setup tells behind them or without it
+-- nothing was lost on a disk: it has the records that it had, with what the opening with this setup tells after them or without it
 abbrev pub LosesNothing : List Named → (shelf : ℕ) → (old new : View) → Type 0
 LosesNothing scripts shelf old new =
     KeepsRecords shelf [] old new ⊎ KeepsRecords shelf (opening_bodies scripts shelf (making_after shelf old)) old new
@@ -111,7 +111,7 @@ module _ {D : Type 0} (view : D → View) (tells : Bool) (scripts : List Named) 
 
   -- A shelf was not opened, the first of those that can't be: what makes no shelf with this setup stands on its disk, or a call of its disk
   -- failed, or memory ended. Nothing was lost on any disk, but on the one of which a call failed. Unless memory ended, nothing was added to
-  -- the records on its disk and on those behind it.
+  -- the records on its disk and on those after it.
   pub record AreUnopened (disks back : List D) (shelf : ℕ) (fault : BeginFault) : Type 0 where
     pub returned : AreReturned disks back
     pub within : shelf < length disks

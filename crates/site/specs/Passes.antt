@@ -118,7 +118,7 @@ module _ {D N : Type 0} (view : D → View) (tells : Bool) (coming : N → ℕ �
   IsShortBehind w es =
       (o : Opening D N) → w.opening ≡ o ∷ [] → IsOwnOpening view tells o → (book_then view coming o es).length < compacted_from
 
-  -- What a turn does behind a sweep that freed an instance. It compacts a journal that it finds long: that is one entry of the caller, with
+  -- What a turn does after a sweep that freed an instance. It compacts a journal that it finds long: that is one entry of the caller, with
   -- its answer. A shorter one is left as it is. Where the history is as long as it may be, nothing is compacted, and no entry is made.
   pub data Compacted (v w : Known D N) : Type 0 where
     compacted : (told : Result ℕ Reply) → GoesFrom v (entry v.caller step.compact (compacted_of told) ∷ []) w
@@ -126,7 +126,7 @@ module _ {D N : Type 0} (view : D → View) (tells : Bool) (coming : N → ℕ �
     short : GoesFrom v [] w → IsShortBehind w (seen_by w) → Compacted v w
     worn : GoesFrom v [] w → length (seen_by w) ≡ entry_limit → Compacted v w
 
-  -- where a sweep freed an instance, the turn behind it may compact; else nothing more is done
+  -- where a sweep freed an instance, the turn after it may compact; else nothing more is done
   abbrev pub Follows : (freed : Bool) → (v w : Known D N) → Type 0
   Follows true v w = Compacted v w
   Follows false v w = w ≡ v

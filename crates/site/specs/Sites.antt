@@ -77,7 +77,7 @@ module _ {D N : Type 0} (view : D → View) (tells : Bool) (coming : N → ℕ �
   abbrev pub SweptAt : ℕ → (tick : ℕ) → Result ℕ Reply → (old new : Spots D N) → Type 0
   SweptAt k tick result old new = At k (λ v w. Swept view tells coming v tick result w) old new
 
-  -- the turn behind a sweep of the shelf at this place that freed an instance
+  -- the turn after a sweep of the shelf at this place that freed an instance
   abbrev pub CompactedAt : ℕ → (old new : Spots D N) → Type 0
   CompactedAt k old new = At k (λ v w. Compacted view tells coming v w) old new
 

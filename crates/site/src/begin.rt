@@ -271,7 +271,7 @@ fn lock_all<R: Wait, D: Disk, N: Nonces + Drop>(
     }
 }
 
-// Closes shelves, and puts their disks and sources behind the others, those of the last shelf first.
+// Closes shelves, and puts their disks and sources after the others, those of the last shelf first.
 fn give_back<D: Disk, N: Nonces + Drop>(
     mut shelves: Vec<KeptShelf<D, N>>,
     disks: &mut Vec<D>,

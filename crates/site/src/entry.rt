@@ -3,7 +3,7 @@ use script_value::{Reply, Value};
 use shelf::Ticket;
 use std::snapshot::Snapshot;
 
-/// What was done at a shelf, and what it was answered. Clauses alone read what stands behind a snapshot.
+/// What was done at a shelf, and what it was answered. Clauses alone read what stands after a snapshot.
 #[derive(Drop)]
 pub enum Did {
     Take {

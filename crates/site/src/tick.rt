@@ -110,7 +110,7 @@ impl<F: Disk, N: Nonces + Drop> Site<Disks<F>, N> {
     /// Sweeps each shelf whose clock is lower than the tick, in seconds: how many instances it freed, or the reply that says
     /// why none, in the order of the shelves. An error is want of memory for their list, and changes nothing.
     ///
-    /// Behind a sweep that freed an instance, in a turn of its own, a journal of 2^29 bytes or more is compacted. What that is
+    /// After a sweep that freed an instance, in a turn of its own, a journal of 2^29 bytes or more is compacted. What that is
     /// answered stands in the history alone.
     pub fn tick<R: Wait>(
         &self,

@@ -223,7 +223,7 @@ module _ {D N : Type 0} (view : D → View) (tells : Bool) (coming : N → ℕ �
     replies_adds old new None answer reply r = subst (λ x. Adds old new (visited x).pages) (sym r.0) (adds_none old new r.1)
     replies_adds old new (Some target) answer reply v = visits_adds old new target answer reply v
 
-    -- a tick, and the visit behind it
+    -- a tick, and the visit after it
     turned_adds : (old new : Spots D N) (e : Exchange) → Turned (site_rules view tells coming site) shown old e new → Adds old new (visited e.reply).pages
     turned_adds old new e t =
         adds_both old t.middle new 0 (visited e.reply).pages (visited e.reply).pages (as_adds old t.middle t.swept.1.tick (Ok t.swept.0) t.swept.1.ticked)
@@ -235,7 +235,7 @@ module _ {D N : Type 0} (view : D → View) (tells : Bool) (coming : N → ℕ �
     passes_adds old new (e ∷ es) p =
         adds_both old p.0 new (visited e.reply).pages (counted es).pages (counted (e ∷ es)).pages (turned_adds old p.0 e p.1) (passes_adds p.0 new es p.2) refl
 
-    -- ticks behind which no visit was made
+    -- ticks after which no visit was made
     all_adds : (old new : Spots D N) → SweepsAll (site_rules view tells coming site) shown old new → Adds old new 0
     all_adds old new s = as_adds old new s.1.tick (Ok s.0) s.1.ticked
 

@@ -165,7 +165,7 @@ module _ {D N : Type 0} (view : D → View) (tells : Bool) (coming : N → ℕ �
       (m.0, m.1, inl m.2)
   published t reply o v w s k (inr worn) = let m = makes_none o v w s k worn.2 in (m.0, m.1, inr (worn.0, ap length m.1.front ∙ worn.1, m.2))
 
-  -- a take and what is behind it are a visit
+  -- a take and what is after it are a visit
   visited : (target : Destination) (answer : Val) (t : Ticket) (reply : Reply) (o : Opened) (a c : Seen)
       → ((b : Seen) × TakesTicket target answer t o a b × Publishes t reply o b c) → IsVisited o worker target answer reply a c
   visited target answer t reply o a c (b, took, inl made) = IsVisited.published (ticket_of t) b took.0 took.1 took.2 made
@@ -254,7 +254,7 @@ module _ {D N : Type 0} (view : D → View) (tells : Bool) (coming : N → ℕ �
       let more = happens R S one k openings old (set old k (spot a.table w)) seen all.1 (a, w, here, refl, r) in
       (s ∷ more.0, subst (λ p. KnowsAll (o ∷ openings) p (s ∷ more.0)) (sym is) (all.0, more.1), (refl, more.2))
 
-  -- two calls at one place, the second behind the first
+  -- two calls at one place, the second after the first
   behind : (S T : Opened → Seen → Seen → Type 0) (k : ℕ) (os : List Opened) (a b c : List Seen) → HappensAt S k os a b → HappensAt T k os b c
       → HappensAt (λ o x z. (y : Seen) × S o x y × T o y z) k os a c
   behind S T zero (o ∷ os) (x ∷ a) (y ∷ b) (z ∷ c) one two = ((y, one.0, two.0), two.1 ∙ one.1)

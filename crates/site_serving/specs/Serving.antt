@@ -83,7 +83,7 @@ AreSeenBy worker seen histories = ⊥
 
 -- The worker of this number served the links of its porch to their end, or until the porch failed. A link carried so many requests at
 -- most: each has the entries and counts of one visit, and on the link stand their replies. All entries of the worker in the histories
--- are those of its visits and of the sweeps before them, with the compactions behind these.
+-- are those of its visits and of the sweeps before them, with the compactions after these.
 pub record HasServed {D P L N : Type 0} (v : Views D P L N) (openings : List Opened) (requests : ℕ) (histories : List (List KeptEntry)) (number : ℕ)
     (before after : P) (tally : Tally) : Type 0 where
   pub last : List Seen

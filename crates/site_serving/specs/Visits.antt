@@ -51,7 +51,7 @@ module _ (o : Opened) (worker : ℕ) where
   IsWorn reply a b = (reply ≡ Worn) × (length b.front ≡ most_entries) × Makes [] a b
 
   -- A visit: the worker's next entry is a take that gave no ticket; or the next two are a take and its publish; or it is a take, and
-  -- behind it the shelf's history was worn; or the history was worn at once.
+  -- after it the shelf's history was worn; or the history was worn at once.
   pub data IsVisited (target : Destination) (answer : Val) (reply : Reply) (a b : Seen) : Type 0 where
     untaken : IsNoTicket reply → Makes (entry worker (take target answer) (reply_of reply) ∷ []) a b → IsVisited target answer reply a b
     published : (t : Ticket) (middle : Seen) → t.target ≡ target → t.answer ≡ answer → Makes (take_of worker t ∷ []) a middle
@@ -104,7 +104,7 @@ VisitsOn None openings worker target answer reply old new = (reply ≡ Refused U
 VisitsOn (Some place) openings worker target answer reply old new =
     HappensAt (λ o a b. IsVisited o worker target answer reply a b) place openings old new
 
--- each shelf was swept at the tick, and answered in its place; behind a sweep that freed an instance it may be compacted
+-- each shelf was swept at the tick, and answered in its place; after a sweep that freed an instance it may be compacted
 abbrev pub AreSwept : List Opened → (worker tick : ℕ) → List (Result ℕ Reply) → (old new : List Seen) → Type 0
 AreSwept [] worker tick [] [] [] = ⊤
 AreSwept (o ∷ openings) worker tick (r ∷ answers) (a ∷ old) (b ∷ new) =

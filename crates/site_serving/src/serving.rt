@@ -165,7 +165,7 @@ where
 }
 
 /// Serves links of the door from the shelves of a site: each worker those of its own porch, in a thread of its own, until so
-/// many came as it may serve, or no more come. A link carries so many requests at most, one behind the other. Where a porch fails its worker ends, and the others go on. Behind the last
+/// many came as it may serve, or no more come. A link carries so many requests at most, one after the other. Where a porch fails its worker ends, and the others go on. After the last
 /// worker the site is closed, and its past is kept, once. It gives back the disks, with what was counted; an error is that of
 /// the door or of a porch, or want of memory before any link came.
 pub fn serve_site<

@@ -88,7 +88,7 @@ pub fn sums_setup(alloc: Global) -> Result<Setup, Fail>
     setup(alloc, &[("sum", SUM)])
 }
 
-// What stands on the disks of a shelf of this setup behind these visits.
+// What stands on the disks of a shelf of this setup after these visits.
 fn visited_files(
     alloc: Global,
     setup: &Setup,
@@ -103,7 +103,7 @@ fn visited_files(
     files_of(alloc, shelf)
 }
 
-/// What stands on the disks of a shelf behind these visits of sums.
+/// What stands on the disks of a shelf after these visits of sums.
 pub fn visited(alloc: Global, visits: &[Visit], rules: Rules) -> Result<Files, Fail>
     requires { AreInRange rules }
 {

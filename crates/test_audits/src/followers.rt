@@ -11,13 +11,13 @@ use test_compactions::old::files_with;
 // The header of a file.
 const HEADER: &[u8] = b"KSWEB\0\0\x06";
 
-// The record that tells that a shelf follows, behind its gate.
+// The record that tells that a shelf follows, after its gate.
 const FOLLOW: &[u8] = b"\x01\x01\0\0\0\x08";
 
-// The record that tells that a shelf was promoted, behind its gate.
+// The record that tells that a shelf was promoted, after its gate.
 const PROMOTED: &[u8] = b"\x01\x01\0\0\0\x09";
 
-// The file of these records, each behind its gate.
+// The file of these records, each after its gate.
 fn file_of(alloc: Global, records: &[&[u8]]) -> Result<Files, Fail> {
     let mut file = HEADER.to_vec(alloc)?;
     for record in records {
@@ -106,7 +106,7 @@ fn answer_with(
     audited(alloc, &changed)
 }
 
-// What is told of a leader's record is told of its follower's, whose gate is 6 bytes later, or 12 behind a promotion: of the number that the second
+// What is told of a leader's record is told of its follower's, whose gate is 6 bytes later, or 12 after a promotion: of the number that the second
 // page's state holds, at 522; and of a page that an answer names, at 580. The shelf's number is at 14.
 #[test]
 fn a_change_is_told_at_its_place(rt: HostRuntime) -> Result<(), Fail> {

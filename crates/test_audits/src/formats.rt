@@ -7,7 +7,7 @@ use std::test::Fail;
 use test_compactions::old::{SCRIPTS, file_of, files_with};
 use test_compactions::records::{DRAWN, FORMAT_1, FORMAT_2, FORMAT_3, RENEWED};
 
-// What an audit answers to a file of this format with these records behind the first one.
+// What an audit answers to a file of this format with these records after the first one.
 fn answer(
     alloc: Global,
     format: u8,

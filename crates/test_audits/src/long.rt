@@ -25,7 +25,7 @@ fn expect_pass(alloc: Global, files: &Files) -> Result<(), Fail> {
     }
 }
 
-// What stands on the disks of the shelf of these files behind visits.
+// What stands on the disks of the shelf of these files after visits.
 fn visited_files(
     alloc: Global,
     files: &Files,
@@ -39,7 +39,7 @@ fn visited_files(
     files_of(alloc, shelf)
 }
 
-// What stands there behind a compaction.
+// What stands there after a compaction.
 fn short_files(alloc: Global, files: &Files, setup: &Setup) -> Result<Files, Fail>
     requires { IsReadSetup (scripts_of setup.now) }
 {
@@ -48,7 +48,7 @@ fn short_files(alloc: Global, files: &Files, setup: &Setup) -> Result<Files, Fai
     files_of(alloc, shelf)
 }
 
-// The same behind visits and then a compaction. Before it and behind it the files have to pass.
+// What stands there after visits and then a compaction. Before it and after it the files have to pass.
 fn compacted_files(
     alloc: Global,
     files: &Files,
@@ -81,7 +81,7 @@ const FIRST_ANSWERS: &[Visit] = &[
     },
 ];
 
-// And behind a compaction.
+// What pages of the older journal go on with after a compaction.
 const LATER_ANSWERS: &[Visit] = &[
     Visit {
         path: "/servlets/hotel;0*3*5*0000000000000005",
@@ -95,7 +95,7 @@ const LATER_ANSWERS: &[Visit] = &[
     },
 ];
 
-// What stands on the disks of a shelf with the older journal, behind such answers and a compaction of each.
+// What stands on the disks of a shelf with the older journal, after such answers and a compaction of each.
 fn compacted_twice(alloc: Global, setup: &Setup) -> Result<Files, Fail>
     requires { IsReadSetup (scripts_of setup.now) }
 {
@@ -139,7 +139,7 @@ const STARTS: &[&[Visit]] = &[
     ],
 ];
 
-// What stands on the disks of the shelf of these files behind the visits of a version, and a compaction.
+// What stands on the disks of the shelf of these files after the visits of a version, and a compaction.
 fn started(alloc: Global, files: &Files, version: &str, visits: &[Visit]) -> Result<Files, Fail> {
     let setup = setup(alloc, &[("s", version)])?;
     compacted_files(alloc, files, &setup, visits)

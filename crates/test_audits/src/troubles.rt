@@ -8,7 +8,7 @@ use std::test::Fail;
 use test_compactions::files::{Files, Place, Trouble, Wrong, disks_of};
 use web_disk::{Disk, MemoryDisk};
 
-// Behind so many calls of each of its disks an audit has come to its end.
+// After so many calls of each of its disks an audit has come to its end.
 const MOST_CALLS: u64 = 32;
 
 // Whether an audit of these files comes to its end, where a call of a disk fails. It is told where one failed, and only there.

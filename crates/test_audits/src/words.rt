@@ -282,7 +282,7 @@ fn swept_files(alloc: Global, setup: &Setup) -> Result<Files, Fail>
     files_of(alloc, shelf)
 }
 
-// The same of a shelf of sums.
+// What stands on the disks of a shelf of sums that was swept twice.
 fn swept_twice(alloc: Global) -> Result<Files, Fail> {
     let setup = sums_setup(alloc)?;
     swept_files(alloc, &setup)

@@ -41,7 +41,7 @@ fn played<R: Machine>(rt: &R, folder: &str, shelves: &str, input: &str) -> Resul
 // What stands in a Let frame that has done the number 3: its part, how many are done, and that.
 const DONE: &[u8] = &[1, 0, 0, 0, 1, 0, 0, 0, 0, 3, 0, 0, 0, 0, 0, 0, 0];
 
-// The same with the number 4.
+// What stands in a Let frame that has done the number 4.
 const OTHER: &[u8] = &[1, 0, 0, 0, 1, 0, 0, 0, 0, 4, 0, 0, 0, 0, 0, 0, 0];
 
 // Makes the number 3 of the second page of a journal 4.

@@ -26,7 +26,7 @@ const NO_STEPS: &[&str] = &[
     "get 1 /none\ntake 2 /servlets/sum\nget 0 /x\r\n",
 ];
 
-// Whether a run of these steps ends behind two of them.
+// Whether a run of these steps ends after two of them.
 fn ends_at_the_third<R: Machine>(rt: &R, steps: &str) -> Result<bool, Fail> {
     let input = input_of(rt.alloc(), &[("sum", "'a")], steps)?;
     let told = (4, "1 404 unknown\n2 taken 0\nerror 4 3\n");
@@ -169,7 +169,7 @@ fn a_reply_that_is_not_written_ends_with_6(rt: HostRuntime) -> Result<(), Fail> 
     Ok(())
 }
 
-// An output that takes no byte, behind an input whose first read fails.
+// An output that takes no byte, after an input whose first read fails.
 const NOTHING: Outside<'static> = Outside {
     reads: &[0],
     ..FULL

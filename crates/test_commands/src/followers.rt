@@ -193,7 +193,7 @@ fn is_refused<R: Machine>(
     is_followed(rt, folder, "0", &other, change.told)
 }
 
-// The same on disks that hold a front of the feed, and nothing else.
+// Whether following such a feed comes to this on disks that hold a front of the feed, and nothing else.
 fn is_refused_behind<R: Machine>(rt: &R, feed: &[u8], change: &Change) -> Result<bool, Fail> {
     let folder = "refused-feeds";
     if change.held > feed.len() {

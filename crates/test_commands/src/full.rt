@@ -13,7 +13,7 @@ use web_outside::{ListDoor, ListSeeds, OpenGate, SetClock, TextSink, TextSource}
 const PAGES: &str = "(begin (send/suspend (lambda (u) \"a\")) (send/suspend (lambda (u) \"b\")))";
 
 // How the journal of a shelf of this script begins: the header, and the record of the shelf's number and its scripts up to the
-// length of the text, which stands behind it.
+// length of the text, which stands after it.
 const FIRST: &[u8] = &[
     75, 83, 87, 69, 66, 0, 0, 6, 1, 89, 0, 0, 0, 1, 0, 0, 0, 0, 1, 0, 0, 0, 1, 0, 0, 0, b's', 71,
     0, 0, 0,

@@ -81,7 +81,7 @@ const A_PAGE_AND_ITS_ANSWER: Street = Street {
 #[test]
 fn a_page_expires_between_two_requests_of_one_link(rt: HostRuntime) -> Result<(), Fail> {
     let setup = setup_of(rt.alloc(), &[ALL])?;
-    // Each reading of the clock is so many seconds behind the one before.
+    // Each reading of the clock is so many seconds after the one before.
     for (step, text) in [(0, "pages 2 refused 0\n"), (20, "pages 1 refused 1\n")] {
         let outcome = served_at(
             &rt,

@@ -12,7 +12,7 @@ fn a_text_that_is_no_utf8_is_told(rt: HostRuntime) -> Result<(), Fail> {
     Ok(())
 }
 
-// What stands before and behind the part of a script that is repeated; how often, at most, and what is told of once more.
+// What stands before and after the part of a script that is repeated; how often, at most, and what is told of once more.
 struct Limit {
     before: &'static str,
     text: &'static str,

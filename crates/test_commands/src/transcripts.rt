@@ -48,7 +48,7 @@ pub fn sums(alloc: Global) -> Result<String, Fail> {
     input_of(alloc, &[("sum", SUM)], STEPS)
 }
 
-/// The input of the first of these visits, one behind the other.
+/// The input of the first of these visits, one after the other.
 pub fn first_sums(alloc: Global) -> Result<String, Fail> {
     input_of(alloc, &[("sum", SUM)], FIRST_STEPS)
 }

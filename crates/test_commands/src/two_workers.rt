@@ -76,7 +76,7 @@ fn count_told(outcome: &Ending, text: &str) -> usize {
 }
 
 // The visit that is held, of number 2, ran its script before that of number 3 came, which bought the item. It is published when
-// that one has its reply, since the same link asked for the visit of number 4 behind it.
+// that one has its reply, since the same link asked for the visit of number 4 after it.
 #[test]
 fn a_visit_that_is_held_until_another_has_its_reply_runs_again(
     rt: HostRuntime,

@@ -106,7 +106,7 @@ pub fn both(alloc: Global, setup: &Setup) -> Result<Files, Fail>
     files_of(alloc, shelf)
 }
 
-// What stands on the disks of the shelf of these files, behind a compaction.
+// What stands on the disks of the shelf of these files, after a compaction.
 fn compacted_once(alloc: Global, setup: &Setup, files: &Files) -> Result<Files, Fail>
     requires { IsReadSetup (scripts_of setup.now) }
 {
@@ -115,7 +115,7 @@ fn compacted_once(alloc: Global, setup: &Setup, files: &Files) -> Result<Files, 
     files_of(alloc, shelf)
 }
 
-// How long the file is behind two compactions in a row.
+// How long the file is after two compactions in a row.
 fn compact_twice(alloc: Global, shelf: &mut MemoryShelf) -> Result<u64, Fail>
     requires { IsInOrder trio_view true shelf.old }
     ensures { IsInOrder trio_view true shelf.new }
@@ -124,7 +124,7 @@ fn compact_twice(alloc: Global, shelf: &mut MemoryShelf) -> Result<u64, Fail>
     compacted(alloc, shelf)
 }
 
-// What stands on the disks of the shelf of these files behind that.
+// What stands on the disks of the shelf of these files after that.
 fn compacted_twice(alloc: Global, setup: &Setup, files: &Files) -> Result<Files, Fail>
     requires { IsReadSetup (scripts_of setup.now) }
 {
@@ -252,7 +252,7 @@ fn evict(alloc: Global, shelf: &mut MemoryShelf) -> Result<(), Fail>
     Ok(())
 }
 
-// What stands on the disks of a shelf of these files behind that.
+// What stands on the disks of a shelf of these files after that.
 fn evicted(alloc: Global, files: &Files, setup: &Setup) -> Result<Files, Fail>
     requires { IsReadSetup (scripts_of setup.now) }
 {
@@ -284,7 +284,7 @@ fn a_page_that_gave_way_stays_gone(rt: HostRuntime) -> Result<(), Fail> {
 const PASSED: &[u8] =
     b"\x03\x32\0\0\0\0\0\0\0\x09\0\0\0\0\0\0\0\x09\0\0\0\0\0\0\0\x05\0\0\0\0\0\0\0\0\0\0\0\0";
 
-// These files, the first of which has such a record behind its others.
+// These files, the first of which has such a record after its others.
 fn with_passed(alloc: Global, files: &Files) -> Result<Files, Fail> {
     let mut a = files.a.as_slice().to_vec(alloc)?;
     let _gate = a.pop();
@@ -299,7 +299,7 @@ fn with_passed(alloc: Global, files: &Files) -> Result<Files, Fail> {
     })
 }
 
-// What stands on the disks of a shelf of these files and of such a record, behind a compaction.
+// What stands on the disks of a shelf of these files and of such a record, after a compaction.
 fn dropped(alloc: Global, setup: &Setup, files: &Files) -> Result<Files, Fail>
     requires { IsReadSetup (scripts_of setup.now) }
 {

@@ -31,7 +31,7 @@ pub enum Place {
 /// What is wrong with the calls of a disk.
 #[derive(Clone, Copy, Debug)]
 pub enum Trouble {
-    /// Behind so many of them it does nothing more.
+    /// After so many of them it does nothing more.
     Stops,
     /// The one of this number fails.
     Fails,

@@ -1,4 +1,4 @@
-//! Openings of a journal of an older format that are stopped, or fail, at each call of each disk, and shelves that are opened again behind
+//! Openings of a journal of an older format that are stopped, or fail, at each call of each disk, and shelves that are opened again after
 //! a crash.
 ghost use Rattle.script_nodes.specs.Views.{scripts_of};
 ghost use Rattle.setup_reader.specs.Texts.{IsReadSetup};
@@ -14,7 +14,7 @@ use std::test::Fail;
 use test_shelves::tried_under;
 use web_disk::{MemoryDisk, Wreck};
 
-// Behind so many calls of each of its disks an opening has come to its end.
+// After so many calls of each of its disks an opening has come to its end.
 const MOST_CALLS: u64 = 32;
 
 // Whether a shelf is opened on these files, where a disk is wrong; and what is left of the disks.
@@ -36,7 +36,7 @@ fn opened_despite(
     }
 }
 
-// Whether such an opening comes to its end. Behind a crash, and behind another opening that goes wrong so, the page goes on.
+// Whether such an opening comes to its end. After a crash, and after another opening that goes wrong so, the page goes on.
 fn expect_crash(
     alloc: Global,
     setup: &Setup,
@@ -53,7 +53,7 @@ fn expect_crash(
     Ok(opened)
 }
 
-// How many such openings do not come to their end, of those behind which a crash follows.
+// How many such openings do not come to their end, of those after which a crash follows.
 fn failed(alloc: Global, setup: &Setup, files: &Files, wrong: Wrong) -> Result<u64, Fail>
     requires { IsReadSetup (scripts_of setup.now) }
 {

@@ -35,7 +35,7 @@ fn length_of(length: usize) -> Result<[u8; 4], Fail> {
     }
 }
 
-// Puts a record behind others, and its open gate in front of it.
+// Puts a record after others, and its open gate in front of it.
 fn push_record(file: &mut Vec<u8>, body: &[u8]) -> Result<(), Fail> {
     file.push(1)?;
     file.extend_from_slice(&length_of(body.len())?)?;
@@ -43,7 +43,7 @@ fn push_record(file: &mut Vec<u8>, body: &[u8]) -> Result<(), Fail> {
     Ok(())
 }
 
-// Puts a byte string behind its length.
+// Puts a byte string after its length.
 fn push_text(body: &mut Vec<u8>, text: &str) -> Result<(), Fail> {
     body.extend_from_slice(&length_of(text.len())?)?;
     body.extend_from_slice(text.as_bytes())?;
@@ -62,7 +62,7 @@ fn first_record(alloc: Global, scripts: &[(&str, &str)]) -> Result<Vec<u8>, Fail
     Ok(body)
 }
 
-// Puts records behind others.
+// Puts records after others.
 fn push_records(file: &mut Vec<u8>, records: &[&[u8]]) -> Result<(), Fail> {
     for record in records {
         push_record(file, record)?;
@@ -70,7 +70,7 @@ fn push_records(file: &mut Vec<u8>, records: &[&[u8]]) -> Result<(), Fail> {
     Ok(())
 }
 
-/// The file of this format that tells these scripts for the shelf 0, with these records behind the first one.
+/// The file of this format that tells these scripts for the shelf 0, with these records after the first one.
 pub fn file_of(
     alloc: Global,
     format: u8,

@@ -93,7 +93,7 @@ fn drawn(alloc: Global, files: &Files, setup: &Setup) -> Result<u64, Fail>
     Ok(drawn)
 }
 
-// What stands on the disks of the shelf of these files, behind visits of their pages.
+// What stands on the disks of the shelf of these files, after visits of their pages.
 fn visited(alloc: Global, files: &Files, setup: &Setup) -> Result<Files, Fail>
     requires { IsReadSetup (scripts_of setup.now) }
 {
@@ -102,7 +102,7 @@ fn visited(alloc: Global, files: &Files, setup: &Setup) -> Result<Files, Fail>
     files_of(alloc, shelf)
 }
 
-// The same behind a compaction.
+// What stands on the disks of the shelf of these files, after visits of their pages and a compaction.
 fn compacted_files(alloc: Global, files: &Files, setup: &Setup) -> Result<Files, Fail>
     requires { IsReadSetup (scripts_of setup.now) }
 {
@@ -142,7 +142,7 @@ fn expect_migrated(old: &Files, new: &Files) -> Result<(), Fail> {
     Err(Fail::from("no migration"))
 }
 
-// Refuses a file whose pages do not go on when it is opened, or behind a compaction. What is there in the end.
+// Refuses a file whose pages do not go on when it is opened, or after a compaction. What is there in the end.
 fn expect_pages(alloc: Global, old: &Files, setup: &Setup) -> Result<Files, Fail>
     requires { IsReadSetup (scripts_of setup.now) }
 {

@@ -1,4 +1,4 @@
-//! The records of journals of the formats 1 to 5, behind their first one, which tells the scripts. Those of the formats 1 to 3 tell the
+//! The records of journals of the formats 1 to 5, after their first one, which tells the scripts. Those of the formats 1 to 3 tell the
 //! same visits; no program wrote the formats 4 and 5, whose records are those of format 3 and others that these have more.
 
 /// Of format 1, as commit 25f9cc87 wrote them: no record has a state.
@@ -58,7 +58,7 @@ pub const FORMAT_3: &[&[u8]] = &[
     b"\x05\x07\0\0\0\0\0\0\0",
 ];
 
-/// What a journal of format 4 may have behind records of format 3: the script `fin` alone is told, which is the first one from then on,
+/// What a journal of format 4 may have after records of format 3: the script `fin` alone is told, which is the first one from then on,
 /// and started.
 pub const RENEWED: &[&[u8]] = &[
     b"\x06\x01\0\0\0\x03\0\0\0finU\0\0\0(begin\x0a  (send/suspend (lambda (u) `(a ((href ,u)) \"1\")))\x0a  (send/finish '(p \"bye\")))",

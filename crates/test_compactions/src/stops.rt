@@ -1,4 +1,4 @@
-//! Compactions that are stopped, or fail, at each call of each disk, and shelves that are opened again behind a crash.
+//! Compactions that are stopped, or fail, at each call of each disk, and shelves that are opened again after a crash.
 ghost use Rattle.std.specs.Prelude.{true};
 ghost use Rattle.script_nodes.specs.Views.{scripts_of};
 ghost use Rattle.setup_reader.specs.Texts.{IsReadSetup};
@@ -26,7 +26,7 @@ pub const WRECKS: &[(u64, u8, bool)] = &[
     (12, 1, false),
 ];
 
-// Behind so many calls of each of its disks an opening and a compaction have come to their end.
+// After so many calls of each of its disks an opening and a compaction have come to their end.
 const MOST_CALLS: u64 = 12;
 
 /// The disks of a shelf.
@@ -109,7 +109,7 @@ fn expect_files(alloc: Global, setup: &Setup, files: &Files) -> Result<(), Fail>
     told
 }
 
-// Refuses a crash behind such a compaction that changes what the shelf has, or one behind an opening that stops then.
+// Refuses a crash after such a compaction that changes what the shelf has, or one after an opening that stops then.
 fn expect_crash(
     alloc: Global,
     setup: &Setup,
@@ -147,7 +147,7 @@ impl Counts {
     }
 }
 
-// The same for each crash behind a compaction that goes wrong so.
+// The counts for each crash after a compaction that goes wrong so.
 fn count_crashes(
     alloc: Global,
     setup: &Setup,

@@ -102,7 +102,7 @@ fn expect_versions(alloc: Global, shelf: &mut MemoryShelf) -> Result<(), Fail>
     expect_visit(alloc, shelf, VERSIONS[2].first)
 }
 
-// The same of the shelf of these files.
+// Refuses the shelf of these files where an instance does not go on with its script, or a start is not of the last one.
 fn expect_files(alloc: Global, files: &Files, setup: &Setup) -> Result<(), Fail>
     requires { IsReadSetup (scripts_of setup.now) }
 {

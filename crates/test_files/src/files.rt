@@ -95,7 +95,7 @@ fn what_is_no_file_of_a_folder_is_refused(rt: HostRuntime) -> Result<(), Fail> {
     clear(&rt, "no-files")
 }
 
-// Records, each with what is read of a journal before it is added and behind it.
+// Records, each with what is read of a journal before it is added and after it.
 const ADDED: &[(&[u8], &[u8], &[u8])] = &[
     (b"", b"abc", b",abc"),
     (b",abc", b"", b",abc,"),
@@ -120,7 +120,7 @@ fn begun(alloc: Global, disk: FileDisk<File>) -> Result<FileJournal, Fail>
     }
 }
 
-// Opens the journal of a disk and adds a record; tells what is read of it before and behind that, and the disk's count of faults.
+// Opens the journal of a disk and adds a record; tells what is read of it before and after that, and the disk's count of faults.
 fn added(
     alloc: Global,
     disk: FileDisk<File>,

@@ -8,7 +8,7 @@ use std::alloc::Global;
 use std::test::Fail;
 use web_disk::{Disk, MemoryDisk, Wreck};
 
-// The records `abc`, `de` and `f` behind open gates, and a closed gate.
+// The records `abc`, `de` and `f` after open gates, and a closed gate.
 const RECORDS: &[u8] = &[
     1, 3, 0, 0, 0, b'a', b'b', b'c', 1, 2, 0, 0, 0, b'd', b'e', 1, 1, 0, 0, 0, b'f', 0,
 ];
@@ -32,7 +32,7 @@ pub fn file_of(alloc: Global, format: u8) -> Result<Vec<u8>, Fail> {
     Ok(bytes)
 }
 
-/// Puts records one behind the other, each behind a comma.
+/// Puts records one after the other, each after a comma.
 #[derive(Drop)]
 pub struct Reader {
     text: Vec<u8>,
@@ -66,7 +66,7 @@ impl Take for Reader {
     }
 }
 
-/// The records of a journal, each behind a comma.
+/// The records of a journal, each after a comma.
 pub fn read<D: Disk>(alloc: Global, journal: &mut Journal<D>) -> Result<Vec<u8>, Fail>
     requires sound { IsSound journal.old }
     requires settled { IsTrue D.tells → IsSettled D.view journal.old }

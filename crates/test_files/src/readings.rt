@@ -25,7 +25,7 @@ const DAMAGED: &[(&[u8], u64)] = &[
     (b"KSWEB\0\0\x06\x01\x01\0\0\0\x09\x01\x02\0\0\0\x09", 14),
 ];
 
-// The format and the records that are found on disks that are open, each record behind a comma.
+// The format and the records that are found on disks that are open, each record after a comma.
 fn found_in<D: Disk>(
     alloc: Global,
     disks: &mut Disks<D>,
@@ -163,7 +163,7 @@ fn each_call_that_fails_is_a_fault(rt: HostRuntime) -> Result<(), Fail> {
         let Err(JournalFault::DiskFault) = found(alloc, &mut disks) else {
             return Err(Fail::from("a call that is not made"));
         };
-        // Whichever failed, it is read behind it, and nothing was written.
+        // Whichever failed, it is read after it, and nothing was written.
         let Ok(Some((_, text))) = found(alloc, &mut disks) else {
             return Err(Fail::from("no records"));
         };

@@ -50,7 +50,7 @@ struct Case {
     may_be_lost: bool,
 }
 
-// What is read behind a replacement.
+// What is read after a replacement.
 #[derive(Drop)]
 struct Outcome {
     done: bool,
@@ -229,7 +229,7 @@ fn reopened(
     crashed(alloc, disks, wreck)
 }
 
-// A replacement crashes while its root is not synced, and so does the opening behind it, at this call.
+// A replacement crashes while its root is not synced, and so does the opening after it, at this call.
 fn expect_same_file(alloc: Global, root: (&[u8], Side), call: u64) -> Result<(), Fail> {
     let (bytes, side) = root;
     let sync = write_of(bytes).saturating_add(1);

@@ -48,7 +48,7 @@ pub const WRECKS: &[Wreck] = &[
     },
 ];
 
-// Behind so many calls of each of its disks a shelf is opened that follows, and was fed four records.
+// After so many calls of each of its disks a shelf is opened that follows, and was fed four records.
 const MOST_CALLS: u64 = 40;
 
 // What a shelf answers to a record.
@@ -77,7 +77,7 @@ fn answer(
     adopted(alloc, &mut shelf, body)
 }
 
-// A record that no journal has, and one that each has behind its first one.
+// A record that no journal has, and one that each has after its first one.
 const NO_RECORD: &[u8] = b"\x0a";
 
 const A_SWEEP: &[u8] = b"\x05\x07\0\0\0\0\0\0\0";
@@ -197,7 +197,7 @@ fn held_of(alloc: Global, files: &Files, bodies: &[Vec<u8>]) -> Result<usize, Fa
     Err(Fail::from("other records"))
 }
 
-// Whether so many records may be held behind feeding that went so.
+// Whether so many records may be held after feeding that went so.
 fn may_hold(went: Went, held: usize, all: usize) -> bool {
     match went {
         Went::Unopened => held == 0,
@@ -233,7 +233,7 @@ impl Counts {
     }
 }
 
-// Counts how feeding went behind which such a crash came. What is held then is what was adopted, or one record more; the whole feed goes on from there.
+// Counts how feeding went after which such a crash came. What is held then is what was adopted, or one record more; the whole feed goes on from there.
 fn count_crash(
     alloc: Global,
     files: &Files,
@@ -254,7 +254,7 @@ fn count_crash(
     Ok(())
 }
 
-// How feeding goes where a call of one of the disks is wrong, each of those in turn, and behind each of these crashes.
+// How feeding goes where a call of one of the disks is wrong, each of those in turn, and after each of these crashes.
 fn counted(alloc: Global, files: &Files, trouble: Trouble) -> Result<Counts, Fail> {
     let bodies = bodies_in(alloc, &leader(alloc)?.a)?;
     let mut counts = Counts {
@@ -290,7 +290,7 @@ fn what_was_adopted_stands(rt: HostRuntime) -> Result<(), Fail> {
     Ok(())
 }
 
-// The same from a journal without records on, which is told that its shelf follows before it is fed.
+// What was adopted stands so too from a journal without records on, which is told that its shelf follows before it is fed.
 #[test]
 fn a_journal_without_records_that_stops_goes_on(rt: HostRuntime) -> Result<(), Fail> {
     let alloc = rt.alloc();

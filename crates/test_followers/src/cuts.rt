@@ -24,7 +24,7 @@ fn wanted(length: usize) -> (FollowEnd, u64) {
     (FollowEnd::Feed(FeedFault::Cut { place }), records)
 }
 
-// How following the first of so many bytes of the feed ends, which come in pieces of 1 to 13; behind it the whole feed has to be held.
+// How following the first of so many bytes of the feed ends, which come in pieces of 1 to 13; after it the whole feed has to be held.
 fn ended(alloc: Global, feed: &[u8], length: usize) -> Result<(FollowEnd, u64), Fail> {
     let pipes = Pipes {
         reads: &[],

@@ -85,7 +85,7 @@ fn followed_unread(alloc: Global, files: &Files, feed: &[u8], read: u64) -> Resu
     followed_through(alloc, files, feed, &pipes)
 }
 
-// How following ends through such pipes, and how many records are acknowledged. Behind it the whole feed has to be held.
+// How following ends through such pipes, and how many records are acknowledged. After it the whole feed has to be held.
 fn ended_unread(alloc: Global, feed: &[u8], read: u64) -> Result<(FollowEnd, u64), Fail> {
     let Outcome { end, acks, files } = followed_unread(alloc, &nothing(alloc), feed, read)?;
     let _whole = held(alloc, &files, feed, 4)?;
@@ -195,7 +195,7 @@ fn with_second(alloc: Global, feed: &[u8], length: usize, more: &[u8]) -> Result
     with_record(alloc, front(before, 300), &body)
 }
 
-// The second body has 99 bytes. A record that has less than these, or more behind them, differs from it.
+// The second body has 99 bytes. A record that has less than these, or more after them, differs from it.
 #[test]
 fn a_record_of_another_length_differs(rt: HostRuntime) -> Result<(), Fail> {
     let alloc = rt.alloc();
@@ -230,7 +230,7 @@ fn a_record_that_is_cut_is_not_compared(rt: HostRuntime) -> Result<(), Fail> {
     Ok(())
 }
 
-// Bodies that no journal has behind those of the feed: of no byte, of kinds that there are not, cut, with a byte too many, of a first record, of
+// Bodies that no journal has after those of the feed: of no byte, of kinds that there are not, cut, with a byte too many, of a first record, of
 // the number that is drawn next, and of those that tell whether a shelf follows.
 const NO_RECORDS: &[&[u8]] = &[
     b"",
@@ -287,7 +287,7 @@ fn a_journal_begins_with_its_first_record(rt: HostRuntime) -> Result<(), Fail> {
     Ok(())
 }
 
-// The shelf's number stands behind the kind of the first record.
+// The shelf's number stands after the kind of the first record.
 #[test]
 fn the_feed_of_another_shelf_is_told(rt: HostRuntime) -> Result<(), Fail> {
     let alloc = rt.alloc();

@@ -48,7 +48,7 @@ pub fn feed_of(alloc: Global, files: &Files) -> Result<Vec<u8>, Fail> {
     sent(alloc, &mut shelf)
 }
 
-// The body of the record behind the gate at this place of a file; none where the gate is closed.
+// The body of the record after the gate at this place of a file; none where the gate is closed.
 fn body_at(file: &[u8], place: usize) -> Option<&[u8]> {
     if place > file.len() {
         return None;
@@ -65,7 +65,7 @@ fn body_at(file: &[u8], place: usize) -> Option<&[u8]> {
     }
 }
 
-/// Puts a record behind those of a feed.
+/// Puts a record after those of a feed.
 pub fn push_record(feed: &mut Vec<u8>, body: &[u8]) -> Result<(), Fail> {
     let size = u32::try_from(body.len())?;
     feed.extend_from_slice(&size.to_le_bytes())?;

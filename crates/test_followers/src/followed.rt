@@ -99,7 +99,7 @@ pub fn followed_through(
     Ok(Outcome { end, acks, files })
 }
 
-/// The same through pipes that never fail.
+/// What it comes to that the shelf of these files follows this feed through pipes that never fail.
 pub fn followed(alloc: Global, files: &Files, feed: &[u8]) -> Result<Outcome, Fail> {
     followed_through(alloc, files, feed, &FAIR)
 }

@@ -16,7 +16,7 @@ use test_compactions::records::{DRAWN, FORMAT_1, FORMAT_2, FORMAT_3, RENEWED};
 use test_compactions::visits::{Told, Visit, compacted, expect_visits};
 use test_shelves::setup;
 
-// What stands on the disks of a new follower of the shelf of these files, which has so many records. Its feed is its leader's, and behind another
+// What stands on the disks of a new follower of the shelf of these files, which has so many records. Its feed is its leader's, and after another
 // feeding it is still.
 fn follower_of(alloc: Global, leader: &Files, records: u64) -> Result<Files, Fail> {
     let feed = feed_of(alloc, leader)?;
@@ -82,7 +82,7 @@ const ANSWERS: &[Visit] = &[
     },
 ];
 
-// A journal of this format with these records behind the first one, and how many records it has once it is of the newest format.
+// A journal of this format with these records after the first one, and how many records it has once it is of the newest format.
 const OLDER: &[(u8, &[&[&[u8]]])] = &[
     (1, &[FORMAT_1]),
     (2, &[FORMAT_2]),
@@ -192,7 +192,7 @@ const STARTS: &[Visit] = &[
     },
 ];
 
-// And each of their pages is answered.
+// Each page of a start is answered.
 const PAGES: &[Visit] = &[
     Visit {
         path: "/servlets/s;0*0*0*0000000000000000",
@@ -206,7 +206,7 @@ const PAGES: &[Visit] = &[
     },
 ];
 
-// What stands on the disks of these files behind a start of this version.
+// What stands on the disks of these files after a start of this version.
 fn started(alloc: Global, files: &Files, version: usize) -> Result<Files, Fail> {
     let (Some(text), Some(start)) = (VERSIONS.get(version), STARTS.get(version)) else {
         return Err(Fail::from("no such version"));

@@ -10,7 +10,7 @@ use std::test::Fail;
 use test_compactions::files::Files;
 use web_outside::{Failed, Source, TextSink};
 
-/// An input of a front and a block again and again behind it, up to a length.
+/// An input of a front and a block again and again after it, up to a length.
 #[derive(Drop)]
 struct LongSource {
     front: Vec<u8>,
@@ -63,7 +63,7 @@ impl Source for LongSource {
     }
 }
 
-// How following a feed ends that begins so and has zeros behind it, up to this length, how many records are acknowledged, and how many bytes were read.
+// How following a feed ends that begins so and has zeros after it, up to this length, how many records are acknowledged, and how many bytes were read.
 fn ended(
     alloc: Global,
     files: &Files,
@@ -85,7 +85,7 @@ fn front_with(alloc: Global, length: u32) -> Result<Vec<u8>, Fail> {
     Ok(front)
 }
 
-// The first record ends in the byte 2^30 of the feed, or behind it.
+// The first record ends in the byte 2^30 of the feed, or after it.
 #[test]
 fn a_feed_has_at_most_1073741824_bytes(rt: HostRuntime) -> Result<(), Fail> {
     let alloc = rt.alloc();

@@ -18,13 +18,13 @@ use test_shelves::{setup, tried_under};
 // The header of a file.
 const HEADER: &[u8] = b"KSWEB\0\0\x06";
 
-// The record that tells that a shelf follows, behind its gate.
+// The record that tells that a shelf follows, after its gate.
 const FOLLOW: &[u8] = b"\x01\x01\0\0\0\x08";
 
-// The record that tells that a shelf was promoted, behind its gate.
+// The record that tells that a shelf was promoted, after its gate.
 const PROMOTION: &[u8] = b"\x01\x01\0\0\0\x09";
 
-// These bytes, one behind the other.
+// These bytes, one after the other.
 fn joined(alloc: Global, parts: &[&[u8]]) -> Result<Vec<u8>, Fail> {
     let mut bytes = Vec::new(alloc);
     for part in parts {

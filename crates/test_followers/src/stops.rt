@@ -18,7 +18,7 @@ use test_compactions::files::{Files, Place, Trouble, Wrong, disks_of, left_by};
 use test_shelves::MemoryShelf;
 use web_disk::{MemoryDisk, Wreck};
 
-// Behind so many calls of each of its disks a shelf that follows has come to the end of a feed of four records.
+// After so many calls of each of its disks a shelf that follows has come to the end of a feed of four records.
 const MOST_CALLS: u64 = 40;
 
 // How many records of the feed were acknowledged that a journal without records follows, one of whose disks is wrong; and what is left of these.
@@ -52,7 +52,7 @@ fn are_held(alloc: Global, files: &Files, feed: &[u8], acks: u64) -> Result<bool
     Ok(known == least || known == most)
 }
 
-// Refuses a crash behind such a feeding that loses a record that was acknowledged.
+// Refuses a crash after such a feeding that loses a record that was acknowledged.
 fn expect_held(alloc: Global, feed: &[u8], wrong: Wrong) -> Result<(), Fail> {
     for wreck in WRECKS {
         let (acks, disks) = acked_despite(alloc, feed, wrong)?;
@@ -147,14 +147,14 @@ fn may_follow(went: Went, follows: bool) -> bool {
     }
 }
 
-// Whether, behind each such crash, the shelf is promoted or follows as a promotion of these files went with this call.
+// Whether, after each such crash, the shelf is promoted or follows as a promotion of these files went with this call.
 fn is_whole(alloc: Global, files: &Files, wrong: Wrong, wreck: Wreck) -> Result<bool, Fail> {
     let (went, disks) = promoted_despite(alloc, files, wrong)?;
     let left = left_by(disks, wreck);
     Ok(may_follow(went, goes_on(alloc, &left)?))
 }
 
-// Refuses a crash behind which a shelf that was promoted follows, or one that was not leads.
+// Refuses a crash after which a shelf that was promoted follows, or one that was not leads.
 fn expect_whole(alloc: Global, files: &Files, place: Place, trouble: Trouble) -> Result<(), Fail> {
     for call in 0..MOST_CALLS {
         let wrong = Wrong {

@@ -80,7 +80,7 @@ pub fn sums_setup(alloc: Global) -> Result<Setup, Fail>
     setup(alloc, &[("sum", SUM)])
 }
 
-/// What stands on the disks of the shelf of these files behind visits.
+/// What stands on the disks of the shelf of these files after visits.
 pub fn visited_with(
     alloc: Global,
     files: &Files,
@@ -96,13 +96,13 @@ pub fn visited_with(
     files_of(alloc, shelf)
 }
 
-/// The same with the setup of the script that tells sums.
+/// What stands on the disks of the shelf of these files after visits, with the setup of the script that tells sums.
 pub fn visited(alloc: Global, files: &Files, visits: &[Visit]) -> Result<Files, Fail> {
     let setup = sums_setup(alloc)?;
     visited_with(alloc, files, &setup, visits, RULES)
 }
 
-/// What stands on the disks of a leader behind the visits of a sum.
+/// What stands on the disks of a leader after the visits of a sum.
 pub fn leader(alloc: Global) -> Result<Files, Fail> {
     visited(alloc, &nothing(alloc), VISITS)
 }

@@ -52,7 +52,7 @@ impl File {
         self.add(&body)
     }
 
-    // Its bytes, with a closed gate behind the last record.
+    // Its bytes, with a closed gate after the last record.
     fn closed(self) -> Result<Vec<u8>, AllocError> {
         let mut bytes = self.bytes;
         bytes.push(0)?;

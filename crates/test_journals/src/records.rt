@@ -17,7 +17,7 @@ fn told_of_record(alloc: Global, record: &Recorded<'_>, body: &[u8]) -> Result<S
     format!(in alloc; "a record of {length} bytes, the same again: {is_same}\n")
 }
 
-// The same of a record of scripts: of the first one of a shelf of this number, or of a later one.
+// How long a record of scripts is, and whether these bytes are its body: the first one of a shelf of this number, or a later one.
 fn told_of_scripts(
     alloc: Global,
     shelf: Option<u32>,

@@ -37,7 +37,7 @@ impl Rows {
         }
     }
 
-    // The file of the shelf that its first record tells, if it has one, and of the records behind it.
+    // The file of the shelf that its first record tells, if it has one, and of the records after it.
     fn file(&self, alloc: Global, rest: &str) -> Result<File, AllocError> {
         let (shelf, records) = rest.split_once(" | ").unwrap_or((rest, ""));
         let mut file = File::new(alloc)?;
@@ -48,7 +48,7 @@ impl Rows {
         Ok(file)
     }
 
-    // What is written behind a line: `setup` begins another setup, `script NAME TEXT` adds to it, `journal SHELF | WORDS | ..`
+    // What is written after a line: `setup` begins another setup, `script NAME TEXT` adds to it, `journal SHELF | WORDS | ..`
     // reads a journal, and `body WORDS` one record. Any other line says nothing.
     fn told(&mut self, alloc: Global, line: &str) -> Result<String, AllocError> {
         let (word, rest) = line.split_once(' ').unwrap_or((line, ""));
@@ -62,7 +62,7 @@ impl Rows {
         Ok(String::new(alloc))
     }
 
-    /// A line, and what is written behind it.
+    /// A line, and what is written after it.
     pub fn line(&mut self, alloc: Global, line: &str) -> Result<String, AllocError> {
         let told = self.told(alloc, line)?;
         format!(in alloc; "{line}\n{told}")

@@ -1,6 +1,6 @@
 use std::alloc::{AllocError, Global};
 
-// A text of fewer than 65,536 bytes, behind its length.
+// A text of fewer than 65,536 bytes, after its length.
 fn add_text(bytes: &mut Vec<u8>, text: &str) -> Result<(), AllocError> {
     let size = (text.len() % 65_536) as u32;
     bytes.extend_from_slice(&size.to_le_bytes())?;
@@ -23,7 +23,7 @@ fn add_word(bytes: &mut Vec<u8>, word: &str) -> Result<(), AllocError> {
     Ok(())
 }
 
-/// The bytes of words: `q7` is 7 in eight bytes, least first, `d7` in four, `7` in one, and `sab` the text `ab` behind its length in four.
+/// The bytes of words: `q7` is 7 in eight bytes, least first, `d7` in four, `7` in one, and `sab` the text `ab` after its length in four.
 pub fn bytes_of(alloc: Global, words: &str) -> Result<Vec<u8>, AllocError> {
     let mut bytes = Vec::new(alloc);
     for word in words.split_whitespace() {

@@ -23,7 +23,7 @@ enum Call {
     Moves(usize),
 }
 
-// A stream whose calls are told ahead. Behind them each fails.
+// A stream whose calls are told ahead. After them each fails.
 #[derive(Drop)]
 struct Told {
     calls: &'static [Call],
@@ -65,7 +65,7 @@ impl Write for Told {
     }
 }
 
-// What a call gave, and the count of faults behind it.
+// What a call gave, and the count of faults after it.
 type Outcome<T> = (Result<T, Failed>, u64);
 
 fn two_reads(calls: &'static [Call]) -> [Outcome<usize>; 2] {
@@ -121,7 +121,7 @@ fn a_write_of_nothing_is_a_fault(rt: HostRuntime) -> Result<(), Fail> {
     Ok(())
 }
 
-// A listener that fails with these numbers, one behind the other, and then accepts by another.
+// A listener that fails with these numbers, one after the other, and then accepts by another.
 #[derive(Drop)]
 struct FailingListener {
     codes: &'static [i32],
@@ -289,7 +289,7 @@ fn stage_at(place: usize) -> Stage {
     match place {
         // Where the two requests and the third head end.
         29 | 124 | 132 => Stage::Between,
-        // Behind the second head.
+        // After the second head.
         120..=123 => Stage::Body,
         _ => Stage::Head,
     }

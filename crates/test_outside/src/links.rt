@@ -66,7 +66,7 @@ pub fn gives<S: Source>(source: &mut S, wanted: &[u8]) -> bool {
     let mut rest = wanted;
     for _ in 0..wanted.len() {
         let mut piece = [0u8; 64];
-        // What may come behind them is left.
+        // What may come after them is left.
         let most = rest.len().min(64);
         match source.read(&mut piece[..most]) {
             Ok(count) if count > 0 && rest.starts_with(&piece[..count]) => rest = &rest[count..],
@@ -300,7 +300,7 @@ impl<'r> Talk<'r> {
         wrong
     }
 
-    // Gives the link back, behind which the client gets this rest. What was not as wanted.
+    // Gives the link back, after which the client gets this rest. What was not as wanted.
     fn ends_with(self, rest: &str) -> Option<&'static str> {
         let Talk {
             rt,
@@ -395,7 +395,7 @@ fn each_request_has_times_of_its_own(rt: HostRuntime) -> Result<(), Fail> {
     talk.is_over();
     let client = connect(&rt, talk.port)?;
     let mut talk = talk.goes_on(client)?;
-    // A head that trickles behind a reply is given up too.
+    // A head that trickles after a reply is given up too.
     talk.exchanges();
     talk.pauses();
     talk.passes(b"G");
@@ -473,7 +473,7 @@ fn a_body_does_not_hide_what_follows(rt: HostRuntime) -> Result<(), Fail> {
     talk.passes(bytes.as_bytes());
     talk.replies();
     talk.passes_late(&rt, b"TP");
-    // Behind a body alone the link is idle.
+    // After a body alone the link is idle.
     talk.passes(b"/1.1\r\nHost: a\r\n\r\n");
     talk.replies();
     talk.yields();
@@ -492,7 +492,7 @@ fn takes_one(porch: &mut RealPorch<'_>) -> bool {
     }
 }
 
-// Whether a free worker takes a visitor, behind which this client still sends.
+// Whether a free worker takes a visitor, after which this client still sends.
 fn is_visited(
     threads: &impl Threads,
     rt: &HostRuntime,

@@ -1,6 +1,6 @@
 //! Plays rows of scripts and runs of the command, each written back with what the command wrote: for the gate, which compares.
 //!
-//! What stands before a run says how its disks are, which of them are shown behind it, and what else comes to it or fails.
+//! What stands before a run says how its disks are, which of them are shown after it, and what else comes to it or fails.
 #![tactic(auto)]
 
 mod outside;

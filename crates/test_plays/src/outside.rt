@@ -11,7 +11,7 @@ use std::thread::Threads;
 use web_disk::MemoryRack;
 use web_outside::OpenGate;
 
-/// What a command wrote, and what is told behind it: what its links were told, the disks that are shown, and the status that it
+/// What a command wrote, and what is told after it: what its links were told, the disks that are shown, and the status that it
 /// ends with.
 #[derive(Drop)]
 pub struct Outcome {

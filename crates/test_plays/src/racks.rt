@@ -24,9 +24,9 @@ pub struct RackPlan {
     failing: Vec<Word>,
     // The takes that fail, the first being 0.
     takes: Vec<u64>,
-    // What is behind a crash at each place that was written since the last sync; none where it has what was written.
+    // What is after a crash at each place that was written since the last sync; none where it has what was written.
     lost: Option<u8>,
-    // The disks whose bytes are written behind the run.
+    // The disks whose bytes are written after the run.
     shown: Vec<u32>,
 }
 

@@ -101,7 +101,7 @@ fn transcribed<R: Threads + Wait + Sync>(
     told.all()
 }
 
-// The block that begins with this word, if one does, and has this behind it.
+// The block that begins with this word, if one does, and has this after it.
 fn block_of(alloc: Global, word: &str, rest: &str) -> Result<Option<Block>, AllocError> {
     let head = String::from_str(alloc, rest)?;
     let text = String::new(alloc);

@@ -99,7 +99,7 @@ fn tell_link(told: &mut Told, alloc: Global, number: usize, link: &TextLink) {
     told.add(b"\n");
 }
 
-/// Tells what the links were told that were served, one behind the other.
+/// Tells what the links were told that were served, one after the other.
 pub fn tell_links(told: &mut Told, alloc: Global, door: &ListDoor) {
     for porch in door.closed() {
         for (number, link) in porch.served().iter().enumerate() {
@@ -122,7 +122,7 @@ impl Street {
         }
     }
 
-    /// Takes a line: `link TEXT` is one link more, which sends that, and `sends TEXT` what it sends behind that, with ` x COUNT`
+    /// Takes a line: `link TEXT` is one link more, which sends that, and `sends TEXT` what it sends after that, with ` x COUNT`
     /// as in a step; `breaks READ ..` and `takes COUNT` say which of its reads fail, and how many bytes it takes.
     /// `pieces COUNT` is how many bytes a read of a link gives at most, and `nexts CALL ..` which calls for the next link fail.
     /// `clock SECOND`, `unread READ ..`, `draws DRAW ..` and `room COUNT` are of the run. Any other line says nothing.

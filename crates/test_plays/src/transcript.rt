@@ -1,13 +1,13 @@
 use crate::told::Told;
 use std::alloc::{AllocError, Global};
 
-// The number behind ` 200 ` in a line, that of the bytes of the page behind it.
+// The number after ` 200 ` in a line, that of the bytes of the page after it.
 fn page_length(line: &str) -> Option<usize> {
     let (_, length) = line.split_once(" 200 ")?;
     length.parse().ok()
 }
 
-// How many of these bytes the first reply has: its line, and the page behind it with its newline.
+// How many of these bytes the first reply has: its line, and the page after it with its newline.
 fn reply_length(written: &[u8]) -> usize {
     let line = written
         .iter()
@@ -33,7 +33,7 @@ fn replies_to(step: &str, shelves: usize) -> usize {
     }
 }
 
-// How many bytes of a text stand behind a step, with the newline behind them: those of an edit.
+// How many bytes of a text stand after a step, with the newline after them: those of an edit.
 fn text_behind(step: &str) -> usize {
     if !step.starts_with("edit ") {
         return 0;
@@ -44,7 +44,7 @@ fn text_behind(step: &str) -> usize {
     }
 }
 
-/// Each step behind `> `, and so the lines of its text, with its replies below it, and then what else was written.
+/// Each step after `> `, and so the lines of its text, with its replies below it, and then what else was written.
 pub fn transcript(
     alloc: Global,
     steps: &str,

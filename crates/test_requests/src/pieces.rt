@@ -29,7 +29,7 @@ const STREAMS: &[(&[u8], &str)] = &[
         b"POST /servlets/a HTTP/1.0\nContent-Type: application/x-www-form-urlencoded\nContent-Length: 7\n\nx=1&y=2GET / HTTP/1.0\n\n",
         "100: a x=1 y=2",
     ),
-    // So is the body of what is refused.
+    // The body of what is refused is left unread.
     (
         b"POST /servlets/a HTTP/1.0\nContent-Length: 7\n\nx=1&y=2",
         "45: 415 Unsupported Media Type, media-type",

@@ -4,7 +4,7 @@ use std::alloc::Global;
 use std::test::Fail;
 use web_outside::{Sink, TextSink};
 
-// What is written of an answer, behind which the connection closes or not.
+// What is written of an answer, after which the connection closes or not.
 fn sent(alloc: Global, answer: &Answer, closes: bool) -> Result<String, Fail> {
     let mut sink = TextSink::new(alloc, 1_000, Vec::new(alloc))?;
     let whole = write_reply(answer, closes, &mut sink).is_ok();

@@ -4,7 +4,7 @@ use page_names::parse_target;
 use std::alloc::Global;
 use std::test::Fail;
 
-// Bytes, whether the link ended behind them, and what they come to.
+// Bytes, whether the link ended after them, and what they come to.
 const REQUESTS: &[(&[u8], bool, &str)] = &[
     // A link that ended at once asks for nothing yet.
     (b"", true, "unfinished"),
@@ -26,7 +26,7 @@ const REQUESTS: &[(&[u8], bool, &str)] = &[
     ),
     (b"\r\n\r\n", false, "unfinished"),
     (b"\r\n\r\n", true, "400 Bad Request, bad-request"),
-    // What stands behind a request is not looked at.
+    // What stands after a request is not looked at.
     (b"GET /servlets/ten HTTP/1.0\r\n\r\n\0\xff", false, "ten"),
     (
         b"GET /servlets/a HTTP/1.1\r\nhOsT: h\r\n\r\nPUT / HTTP/1.1\r\n\r\n",
@@ -247,7 +247,7 @@ fn a_head_has_at_most_16384_bytes(rt: HostRuntime) -> Result<(), Fail> {
     Ok(())
 }
 
-// A head with so many fields, and these bytes behind them.
+// A head with so many fields, and these bytes after them.
 fn many_fields(alloc: Global, count: usize, last: &[u8]) -> Result<Vec<u8>, Fail> {
     let mut head = b"GET /servlets/a HTTP/1.0\n".to_vec(alloc)?;
     for _ in 0..count {
@@ -323,7 +323,7 @@ fn a_head_tells_the_length_of_its_body(rt: HostRuntime) -> Result<(), Fail> {
     Ok(())
 }
 
-// Requests, how many bytes they have, and whether the connection closes behind them.
+// Requests, how many bytes they have, and whether the connection closes after them.
 const CLOSINGS: &[(&[u8], usize, bool)] = &[
     (b"GET / HTTP/1.0\n\nGET", 16, true),
     (b"\r\nGET / HTTP/1.1\nHost: h\n\n", 26, false),

@@ -1,4 +1,4 @@
-//! Links that carry several requests, one behind the other.
+//! Links that carry several requests, one after the other.
 
 use crate::counter::{Asked, Counter};
 use http_forms::Refused;
@@ -307,7 +307,7 @@ fn a_write_that_fails_leaves_a_front_of_the_replies(rt: HostRuntime) -> Result<(
     Ok(())
 }
 
-// The replies of the first so many of the ten requests, behind the last of which the link closes.
+// The replies of the first so many of the ten requests, after the last of which the link closes.
 fn closing_replies(alloc: Global, requests: usize) -> Result<Vec<u8>, Fail> {
     let mut replies = Vec::new(alloc);
     for (number, (_, kept, last)) in TEN.iter().take(requests).enumerate() {

@@ -52,7 +52,7 @@ fn page_told(alloc: Global, twins: &Twins, state: &Suspended) -> Result<String, 
     told.all()
 }
 
-// The same of a script, whose first page has this URL.
+// What the first segment of a script comes to, whose first page has this URL.
 fn told_of_first(alloc: Global, script: &Script, url: &Str) -> Result<String, AllocError> {
     let twins = first_of(alloc, script, url)?;
     match &twins.machine.outcome {

@@ -7,7 +7,7 @@ use machine_states::{Origin, Outcome, Suspended};
 use script_nodes::Script;
 use std::alloc::{AllocError, Global};
 
-// The state that was kept behind that of the page before, if it is found.
+// The state that was kept after that of the page before, if it is found.
 fn found(
     alloc: Global,
     script: &Script,
@@ -92,7 +92,7 @@ impl Kept {
     }
 }
 
-/// How the states of pages are kept, each behind what was read of the one before: how many links it is from one that is kept by
+/// How the states of pages are kept, each after what was read of the one before: how many links it is from one that is kept by
 /// itself, and in how many bytes.
 pub fn kept_told(alloc: Global, script: &Script, chain: &Chain) -> Result<String, AllocError> {
     let mut kept = Kept {

@@ -27,13 +27,13 @@ fn told_of_pages(
     }
 }
 
-// The same of a question.
+// What is asked of the pages that the script of a question shows.
 fn of_question(alloc: Global, word: &str, asked: &Asked) -> Result<String, AllocError> {
     let chain = chain_of(alloc, &asked.script, asked.answers.as_slice(), asked.fuel)?;
     told_of_pages(alloc, word, asked, &chain)
 }
 
-// The same of a row.
+// What is asked of the pages that the script of a row shows.
 fn of_pages(alloc: Global, word: &str, row: &str) -> Result<String, AllocError> {
     match question_of(alloc, row)? {
         Ok(asked) => of_question(alloc, word, &asked),
@@ -65,7 +65,7 @@ fn told_of_text(alloc: Global, word: &str, asked: &str) -> Result<String, AllocE
     }
 }
 
-// The same of bytes.
+// What is asked of bytes by the word of a row.
 fn told_of_bytes(alloc: Global, word: &str, bytes: &[u8]) -> Result<String, AllocError> {
     if word == "fault" {
         return read::fault_told(alloc, bytes);

@@ -17,7 +17,7 @@ pub fn url(alloc: Global, number: u64) -> Result<Str, AllocError> {
     Ok(Str::new(format!(in alloc; "/{number}")?))
 }
 
-// A segment that ran behind an answer, and read this.
+// A segment that ran after an answer, and read this.
 fn ran_behind(
     alloc: Global,
     number: u64,
@@ -51,7 +51,7 @@ pub fn tape<'t>(
     }
 }
 
-// What a script comes to behind these segments and an answer, over what its instance cells begin with.
+// What a script comes to after these segments and an answer, over what its instance cells begin with.
 fn run_behind(
     alloc: Global,
     script: &Script,
@@ -100,7 +100,7 @@ pub struct Asked {
     pub fuel: u64,
 }
 
-/// What a row asks for, its answers standing behind `<-`, or the first fault of the script or of the answers.
+/// What a row asks for, its answers standing after `<-`, or the first fault of the script or of the answers.
 pub fn question_of(alloc: Global, row: &str) -> Result<Result<Asked, String>, AllocError> {
     let (fuel, row) = fuel_of(row);
     let (text, answers) = row.split_once(" <- ").unwrap_or((row, ""));
@@ -163,7 +163,7 @@ fn with_effects(alloc: Global, run: &RunResult) -> Result<String, AllocError> {
     told.all()
 }
 
-// Names of transactions, behind a word.
+// Names of transactions, after a word.
 fn tell_names(alloc: Global, told: &mut Told, word: &str, names: &[TxName]) {
     told.add(word);
     for name in names {
@@ -209,14 +209,14 @@ pub fn run_told(alloc: Global, word: &str, row: &str) -> Result<String, AllocErr
     }
 }
 
-/// Whether the value of an expression is the datum behind `<-`, or how the script stops.
+/// Whether the value of an expression is the datum after `<-`, or how the script stops.
 pub fn value_told(alloc: Global, row: &str) -> Result<String, AllocError> {
     let (expression, value) = row.split_once(" <- ").unwrap_or((row, ""));
     let text = format!(in alloc; "(if (equal? {expression} '{value}) \"same\" \"other\")")?;
     run_told(alloc, "run", text.as_str())
 }
 
-// A run behind these segments.
+// A run after these segments.
 fn told_behind(alloc: Global, script: &Script, past: &[Answer]) -> Result<String, AllocError> {
     let run = run_behind(alloc, script, past, &Value::Int(0), FUEL)?;
     with_effects(alloc, &run)
@@ -231,7 +231,7 @@ fn copies_of(alloc: Global, past: &[Answer]) -> Result<Vec<Answer>, AllocError> 
     Ok(copies)
 }
 
-// A copy of a run behind copies of these segments.
+// A copy of a run after copies of these segments.
 fn told_of_copies(alloc: Global, script: &Script, past: &[Answer]) -> Result<String, AllocError> {
     let past = copies_of(alloc, past)?;
     let run = run_behind(alloc, script, past.as_slice(), &Value::Int(0), FUEL)?;
@@ -250,7 +250,7 @@ fn over_reads(alloc: Global, script: &Script, reads: Vec<Value>) -> Result<Strin
     told.all()
 }
 
-// The same where the data of a text are what was read.
+// A run whose first segment read the data of a text, and copies of the past and of the run.
 fn over_data(alloc: Global, script: &Script, reads: &str) -> Result<String, AllocError> {
     match data(alloc, reads.as_bytes())? {
         Ok(reads) => over_reads(alloc, script, reads),
@@ -258,7 +258,7 @@ fn over_data(alloc: Global, script: &Script, reads: &str) -> Result<String, Allo
     }
 }
 
-/// How a script stops behind a first segment that read the values behind `<-`; the same of copies.
+/// How a script stops after a first segment that read the values after `<-`; the same of copies.
 pub fn recorded(alloc: Global, row: &str) -> Result<String, AllocError> {
     let (text, reads) = row.split_once(" <- ").unwrap_or((row, ""));
     match script_of(alloc, text)? {

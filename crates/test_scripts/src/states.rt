@@ -35,7 +35,7 @@ pub fn are_alike(alloc: Global, state: &Suspended, other: &Suspended) -> Result<
 pub enum Writing<'a> {
     /// By itself, without the byte of a form.
     Bare,
-    /// In the form that is due: by itself, or behind this state of the page before.
+    /// In the form that is due: by itself, or after this state of the page before.
     Form(Option<&'a Suspended>),
 }
 
@@ -79,7 +79,7 @@ impl Writing<'_> {
     }
 }
 
-/// How a record says the state of the last page: behind the page before, where that has fewer than 32 links.
+/// How a record says the state of the last page: after the page before, where that has fewer than 32 links.
 pub fn writing_of(chain: &Chain) -> Writing<'_> {
     let mut links = 0;
     for _ in chain.segments.iter().skip(1) {
@@ -202,7 +202,7 @@ fn digits_read(alloc: Global, script: &Script, digits: &str) -> Result<&'static 
     )
 }
 
-/// How the bytes behind `<-` are read as a state of the script.
+/// How the bytes after `<-` are read as a state of the script.
 pub fn read_told(alloc: Global, row: &str) -> Result<String, AllocError> {
     let (text, digits) = row.split_once(" <- ").unwrap_or((row, ""));
     match script_of(alloc, text)? {

@@ -38,20 +38,20 @@ impl Told {
         self.put(format!(in self.alloc; "{number}"));
     }
 
-    /// A word, and a number behind it.
+    /// A word, and a number after it.
     pub fn one(&mut self, word: &str, number: u32) {
         self.add(word);
         self.add(" ");
         self.number(number as u64);
     }
 
-    /// A word, and two numbers behind it.
+    /// A word, and two numbers after it.
     pub fn two(&mut self, word: &str, first: u32, second: u32) {
         self.one(word, first);
         self.one("", second);
     }
 
-    /// A word, and numbers behind it.
+    /// A word, and numbers after it.
     pub fn line(&mut self, word: &str, numbers: &[u32]) {
         self.add(word);
         for number in numbers {

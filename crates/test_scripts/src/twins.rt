@@ -38,9 +38,9 @@ pub struct Twins {
 #[derive(Drop)]
 pub struct Chain {
     pub segments: Vec<Twins>,
-    /// The same as the slow engine is told of them.
+    /// The segments as the slow engine is told of them.
     past: Vec<Answer>,
-    /// The instance's cells behind them.
+    /// The instance's cells after them.
     cells: Cells,
     /// Where the next segment begins; none where the last waits for no answer.
     from: Option<Origin>,
@@ -187,7 +187,7 @@ fn counted<L: Ledger>(
     })
 }
 
-// A segment behind an answer, by both engines.
+// A segment after an answer, by both engines.
 fn twins_of(
     alloc: Global,
     script: &Script,
@@ -230,7 +230,7 @@ pub fn first_of(alloc: Global, script: &Script, url: &Str) -> Result<Twins, Allo
     )
 }
 
-// Where the segment behind this one begins, if it waits for an answer.
+// Where the segment after this one begins, if it waits for an answer.
 fn origin_behind(
     alloc: Global,
     script: &Script,

@@ -14,15 +14,15 @@ use std::alloc::Global;
 use std::test::Fail;
 use web_disk::Wreck;
 
-// Behind so many calls of its disk an opening with another setup has come to its end.
+// After so many calls of its disk an opening with another setup has come to its end.
 const MOST_CALLS: u64 = 24;
 
 // In how many crashes the new setup is told.
 #[derive(Clone, Copy)]
 struct Times {
-    // Behind openings whose disk fails at a call.
+    // After openings whose disk fails at a call.
     failed: u64,
-    // Behind openings that come to their end.
+    // After openings that come to their end.
     ended: u64,
 }
 
@@ -34,7 +34,7 @@ fn expect_pages(alloc: Global, shelf: &mut MemoryShelf) -> Result<(), Fail>
     expect_page(alloc, shelf, FIRST, "b")
 }
 
-// The same of a disk of these bytes.
+// Refuses a disk of these bytes where its shelf's page does not go on, or a start is not one of the old setup.
 fn expect_pages_on(alloc: Global, bytes: Vec<u8>, old: &Setup) -> Result<(), Fail>
     requires { IsReadSetup (scripts_of old.now) }
 {
@@ -66,7 +66,7 @@ fn is_told(alloc: Global, left: Vec<u8>, before: usize, old: &Setup) -> Result<b
     tells_both(before, len)
 }
 
-// In how many of these crashes the new setup is told, behind an opening on a disk of these bytes whose call of this number fails.
+// In how many of these crashes the new setup is told, after an opening on a disk of these bytes whose call of this number fails.
 fn times_told(alloc: Global, bytes: &[u8], call: u64, old: &Setup, new: &Setup) -> Result<u64, Fail>
     requires old { IsReadSetup (scripts_of old.now) }
     requires new { IsReadSetup (scripts_of new.now) }
@@ -94,7 +94,7 @@ fn ends(alloc: Global, bytes: &[u8], call: u64, new: &Setup) -> Result<bool, Fai
     }
 }
 
-// In how many crashes behind such openings, each with a fault at another call, the new setup is told.
+// In how many crashes after such openings, each with a fault at another call, the new setup is told.
 fn told(alloc: Global, bytes: &[u8], old: &Setup, new: &Setup) -> Result<Times, Fail>
     requires old { IsReadSetup (scripts_of old.now) }
     requires new { IsReadSetup (scripts_of new.now) }
@@ -115,8 +115,8 @@ fn told(alloc: Global, bytes: &[u8], old: &Setup, new: &Setup) -> Result<Times, 
 }
 
 // The record of a setup is written and synced, and then its gate, which alone tells whether it stands. So where the last sync fails,
-// it is there behind the crash that loses nothing and the one that fills with open gates, and where the write of its gate fails,
-// behind the latter.
+// it is there after the crash that loses nothing and the one that fills with open gates, and where the write of its gate fails,
+// after the latter.
 #[test]
 fn another_text_is_told_or_not(rt: HostRuntime) -> Result<(), Fail> {
     let alloc = rt.alloc();

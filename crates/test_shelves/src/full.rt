@@ -41,7 +41,7 @@ fn empty(alloc: Global) -> RepeatDisk {
     RepeatDisk::new(Vec::new(alloc), Vec::new(alloc), 0, Vec::new(alloc))
 }
 
-/// The disks of a new shelf, of which the first has 1,023 such records of 1,048,576 bytes and this behind them: 1,072,693,350 bytes more than this.
+/// The disks of a new shelf, of which the first has 1,023 such records of 1,048,576 bytes and this after them: 1,072,693,350 bytes more than this.
 pub fn disks_with(alloc: Global, setup: &Setup, last: Vec<u8>) -> Result<Disks<RepeatDisk>, Fail>
     requires { IsReadSetup (scripts_of setup.now) }
 {
@@ -116,7 +116,7 @@ fn five_told(alloc: Global, shelf: &mut LongShelf) -> Result<[Option<u64>; 5], F
     ])
 }
 
-// The same on a new shelf of these disks.
+// What a start is told, its page for three texts, and a sweep, on a new shelf of these disks.
 fn five_told_at_the_end(alloc: Global, setup: &Setup) -> Result<[Option<u64>; 5], Fail>
     requires { IsReadSetup (scripts_of setup.now) }
 {
@@ -143,7 +143,7 @@ fn a_shelf_writes_up_to_1073741824_bytes(rt: HostRuntime) -> Result<(), Fail> {
     Ok(())
 }
 
-// What a shelf on such disks, whose journal is full, is told of a compaction: how long its file is then; and of the page behind it.
+// What a shelf on such disks, whose journal is full, is told of a compaction: how long its file is then; and of the page after it.
 fn shortened(alloc: Global, setup: &Setup) -> Result<(u64, Option<u64>), Fail>
     requires { IsReadSetup (scripts_of setup.now) }
 {

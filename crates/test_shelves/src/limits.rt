@@ -48,7 +48,7 @@ struct Later {
 
 const SECOND: &str = "/servlets/s;7*0*1*0000000000000001";
 
-// The pages that the visits 1, 2, 3 and 5 showed, behind another answer to the first page where at most three are kept.
+// The pages that the visits 1, 2, 3 and 5 showed, after another answer to the first page where at most three are kept.
 const LATER: &[Later] = &[
     Later {
         path: SECOND,
@@ -98,7 +98,7 @@ fn gone_for(reply: &Reply) -> Result<Option<u64>, Fail> {
     }
 }
 
-// The same of the page of a path.
+// For which page the page of a path went; none where it is still there.
 fn gone(alloc: Global, shelf: &mut MemoryShelf, path: &str) -> Result<Option<u64>, Fail>
     requires { IsInOrder trio_view true shelf.old }
     ensures { IsInOrder trio_view true shelf.new }
@@ -131,7 +131,7 @@ fn visit_all(alloc: Global, shelf: &mut MemoryShelf) -> Result<(), Fail>
     Ok(())
 }
 
-// What stands on the disk of a new shelf behind the visits, under a limit of 64 pages, which none of them reaches.
+// What stands on the disk of a new shelf after the visits, under a limit of 64 pages, which none of them reaches.
 fn visited(alloc: Global, setup: &Setup) -> Result<Vec<u8>, Fail>
     requires { IsReadSetup (scripts_of setup.now) }
 {

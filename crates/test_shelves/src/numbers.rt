@@ -8,7 +8,7 @@ use script_nodes::Setup;
 use std::alloc::Global;
 use std::test::Fail;
 
-// What stands behind the closed gate of a new shelf: a record of a last page of segment 2^62 - 2, and of 2^62 - 1, which is the
+// What stands after the closed gate of a new shelf: a record of a last page of segment 2^62 - 2, and of 2^62 - 1, which is the
 // last one. They answered a page of an instance that is not there.
 const LAST_BUT_ONE: &[u8] = &[
     1, 38, 0, 0, 0, 3, 254, 255, 255, 255, 255, 255, 255, 63, 9, 0, 0, 0, 0, 0, 0, 0, 8, 0, 0, 0,

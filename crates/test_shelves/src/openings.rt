@@ -51,7 +51,7 @@ pub fn tried_under<F: Disk + Drop>(
     }
 }
 
-/// The same under the rules of these tests.
+/// The shelf of three disks under the rules of these tests; or why it was not opened, and the disks.
 pub fn tried<F: Disk + Drop>(
     alloc: Global,
     disks: Disks<F>,
@@ -97,7 +97,7 @@ pub fn reopened_under(
     }
 }
 
-/// The same under the rules of these tests.
+/// The shelf of disks whose first has these bytes, under the rules of these tests, which has to be opened.
 pub fn reopened(alloc: Global, bytes: Vec<u8>, setup: &Setup) -> Result<MemoryShelf, Fail>
     requires { IsReadSetup (scripts_of setup.now) }
     ensures { IfOk result (IsInOrder trio_view true) }

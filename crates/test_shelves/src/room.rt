@@ -29,7 +29,7 @@ fn last_part(alloc: Global, size: u32) -> Result<Vec<u8>, Fail>
     Ok(bytes)
 }
 
-// What an opening answers: none where the shelf is opened, and the first disk behind it.
+// What an opening answers: none where the shelf is opened, and the first disk after it.
 fn answer(
     alloc: Global,
     disks: Disks<RepeatDisk>,
@@ -46,7 +46,7 @@ fn answer(
     }
 }
 
-// What stands on a disk behind all that cannot be written.
+// What stands on a disk after all that cannot be written.
 fn written(alloc: Global, disk: &mut RepeatDisk) -> Result<Vec<u8>, Fail> {
     let len = disk.len()?;
     let size = len.checked_sub(START).ok_or("a shorter disk")?;
@@ -55,7 +55,7 @@ fn written(alloc: Global, disk: &mut RepeatDisk) -> Result<Vec<u8>, Fail> {
     Ok(bytes)
 }
 
-// What an opening answers on a disk of another setup with this last part, and what the last part is behind it.
+// What an opening answers on a disk of another setup with this last part, and what the last part is after it.
 fn opened_on(
     alloc: Global,
     old: &Setup,
@@ -83,7 +83,7 @@ fn another_text_that_has_no_room_is_refused(rt: HostRuntime) -> Result<(), Fail>
     Ok(())
 }
 
-// Nor is there room for another record of the old setup, which is told already.
+// There is no room for another record of the old setup either, which is told already.
 #[test]
 fn the_same_text_needs_no_room(rt: HostRuntime) -> Result<(), Fail> {
     let alloc = rt.alloc();

@@ -12,10 +12,10 @@ use script_value::Reply;
 use std::alloc::Global;
 use std::test::Fail;
 
-/// A script with a page behind another.
+/// A script with a page after another.
 pub const OLD: &str = "(begin (send/suspend (lambda (u) \"a\")) (send/suspend (lambda (u) \"b\")))";
 
-/// The same, with other pages.
+/// A script with other pages, one after the other.
 pub const NEW: &str = "(begin (send/suspend (lambda (u) \"c\")) (send/suspend (lambda (u) \"d\")))";
 
 /// The path of a start.
@@ -45,7 +45,7 @@ pub fn expect_page(
     }
 }
 
-/// What stands on the disk of a new shelf of this setup behind a start.
+/// What stands on the disk of a new shelf of this setup after a start.
 pub fn started(alloc: Global, setup: &Setup) -> Result<Vec<u8>, Fail>
     requires { IsReadSetup (scripts_of setup.now) }
 {

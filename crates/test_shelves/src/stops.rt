@@ -1,4 +1,4 @@
-//! Shelves whose disk stops, or fails once, at each of its calls, and which are opened again behind a crash.
+//! Shelves whose disk stops, or fails once, at each of its calls, and which are opened again after a crash.
 ghost use Rattle.std.specs.Prelude.{true};
 ghost use Rattle.script_nodes.specs.Views.{scripts_of};
 ghost use Rattle.setup_reader.specs.Texts.{IsReadSetup};
@@ -108,7 +108,7 @@ const SHOWN: &[Shown] = &[
     },
 ];
 
-// Behind so many calls of its disk a run of these visits has come to its end.
+// After so many calls of its disk a run of these visits has come to its end.
 const MOST_CALLS: u64 = 48;
 
 // Refuses a shelf that is not down.
@@ -161,7 +161,7 @@ fn visits_told(alloc: Global, shelf: &mut MemoryShelf) -> Result<usize, Fail>
     Ok(VISITS.len())
 }
 
-// What disks whose first has these bytes are behind a run on them, and how many visits were told.
+// What disks whose first has these bytes are after a run on them, and how many visits were told.
 fn ran(
     alloc: Global,
     setup: &Setup,
@@ -233,7 +233,7 @@ fn visits_in(alloc: Global, shelf: &mut MemoryShelf) -> Result<u64, Fail>
     Ok(visits)
 }
 
-// The same of a disk of these bytes.
+// How many visits the shelf of a disk of these bytes tells of.
 fn visits_of(alloc: Global, setup: &Setup, bytes: &[u8]) -> Result<u64, Fail>
     requires { IsReadSetup (scripts_of setup.now) }
 {
@@ -243,7 +243,7 @@ fn visits_of(alloc: Global, setup: &Setup, bytes: &[u8]) -> Result<u64, Fail>
     visits
 }
 
-// How many visits more than were told a crash behind such a run leaves. They are still there behind crashes of two openings
+// How many visits more than were told a crash after such a run leaves. They are still there after crashes of two openings
 // that stop at the same call.
 fn more_than_told(
     alloc: Global,
@@ -270,7 +270,7 @@ fn more_than_told(
     )
 }
 
-// How many visits more than were told these crashes behind such a run leave, all together: one each at most.
+// How many visits more than were told these crashes after such a run leave, all together: one each at most.
 fn in_doubt(alloc: Global, setup: &Setup, bytes: &[u8], trouble: Trouble) -> Result<u64, Fail>
     requires { IsReadSetup (scripts_of setup.now) }
 {
@@ -294,7 +294,7 @@ fn new_disk(alloc: Global, setup: &Setup) -> Result<Vec<u8>, Fail>
 }
 
 // A visit makes four calls: its record is written and synced, and then its gate, which alone tells whether it happened. So where
-// the last sync is not made, it is there behind the crash that loses nothing and the one that fills with open gates.
+// the last sync is not made, it is there after the crash that loses nothing and the one that fills with open gates.
 #[test]
 fn a_run_that_stops_at_each_call_is_recovered(rt: HostRuntime) -> Result<(), Fail> {
     let alloc = rt.alloc();
@@ -311,7 +311,8 @@ fn a_run_that_stops_at_each_call_is_recovered(rt: HostRuntime) -> Result<(), Fai
     Ok(())
 }
 
-// The same; and where the write of its gate fails, a visit is there behind the crash that fills with open gates.
+// A visit whose last sync fails is there so too. And where the write of its gate fails, it is there after the crash that fills with open
+// gates.
 #[test]
 fn a_run_with_a_fault_at_each_call_is_recovered(rt: HostRuntime) -> Result<(), Fail> {
     let alloc = rt.alloc();

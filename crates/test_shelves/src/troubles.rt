@@ -40,14 +40,14 @@ pub const WRECKS: &[Wreck] = &[
 /// What is wrong with the calls of a disk.
 #[derive(Clone, Copy, Debug)]
 pub enum Trouble {
-    /// It stops behind so many.
+    /// It stops after so many.
     Stop(u64),
     /// The one of this number fails.
     Fault(u64),
 }
 
 impl Trouble {
-    /// Where four openings behind it stop. An opening makes two calls for a record that a visit made four for, and then it mends
+    /// Where four openings after it stop. An opening makes two calls for a record that a visit made four for, and then it mends
     /// the end of the disk: these are the calls by which it does.
     pub fn stops(self) -> [u64; 4] {
         let half = match self {

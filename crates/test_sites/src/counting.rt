@@ -23,7 +23,7 @@ pub fn count_once<R: Wait>(
     lock.turn(rt, pass, |c: &mut Counter| c.count(Count { caller, turn }))
 }
 
-/// So many turns of the pass, one behind the other.
+/// So many turns of the pass, one after the other.
 pub fn count_up<R: Wait>(
     rt: &R,
     lock: &ShelfLock<Counter>,

@@ -137,7 +137,7 @@ fn starts_well<R: Wait>(
     Ok(matches!(started(rt, alloc, site, pass)?, Some(0 | 1)))
 }
 
-// Where there is no memory to begin a site, one is begun with what is handed back once there is some. A start behind it for
+// Where there is no memory to begin a site, one is begun with what is handed back once there is some. A start after it for
 // which there is none spends a number at most.
 #[test]
 fn what_a_site_was_not_begun_with_begins_one(rt: HostRuntime) -> Result<(), Fail> {

@@ -47,7 +47,7 @@ const PATH: &str = r#"(let* ((first (send/suspend (lambda (u) `(a ((href ,u)) "f
 /// A script whose item is sold once, and one that keeps what was said.
 pub const SHOP_AND_NOTE: &[(&str, &str)] = &[("shop", SHOP), ("note", NOTE)];
 
-/// The same, when all is sold.
+/// A script whose item is sold out, and one that keeps what was said.
 pub const EMPTY_SHOP_AND_NOTE: &[(&str, &str)] = &[("shop", EMPTY_SHOP), ("note", NOTE)];
 
 /// A script that counts, and one with three pages in a row.

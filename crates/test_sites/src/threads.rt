@@ -19,10 +19,10 @@ use std::test::Fail;
 use std::thread::Threads;
 use visitors::{TURNS, VISITORS, Visitor, visit_all, visitors_of};
 
-/// How many rounds of visits there are behind the starts.
+/// How many rounds of visits there are after the starts.
 const ROUNDS: u64 = 5;
 
-// Puts what visitors noted behind what was noted before.
+// Puts what visitors noted after what was noted before.
 fn gather(alloc: Global, visitors: &[Visitor], notes: &mut Vec<Note>) -> Result<(), Fail> {
     for visitor in visitors {
         visitor.end?;
@@ -50,7 +50,7 @@ fn rounds<R: Threads + Wait + Sync>(
     Ok(notes)
 }
 
-// What sixteen visitors are told by a site of so many shelves, in 10,000 visits behind their starts.
+// What sixteen visitors are told by a site of so many shelves, in 10,000 visits after their starts.
 fn noted<R: Threads + Wait + Sync>(rt: &R, alloc: Global, shelves: u32) -> Result<Vec<Note>, Fail>
     requires { (1 ≤ shelves) × (shelves ≤ 16) }
 {

@@ -26,7 +26,7 @@ fn freed<R: Wait>(
     }
 }
 
-// What three ticks free behind three starts, of which two are of the second pass.
+// What three ticks free after three starts, of which two are of the second pass.
 fn swept<R: Wait>(
     rt: &R,
     alloc: Global,

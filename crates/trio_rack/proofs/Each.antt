@@ -77,7 +77,7 @@ module _ {D : Type 0} {G : Ghosts D} where
             taken.behind number (λ k lt. none k (omega (arith, lt, size))) image (others number (none count (omega (arith, size))) image h);
       }
 
-  -- the disks behind these were given back
+  -- the disks after these were given back
   pub record GivesLast (before now : RackView) (all front : List (Disks D G)) : Type 0 where
     pub to : (k : ℕ) (d : Disks D G) → length front ≤ k → slice_get all k ≡ Some d → AreGivenTo now k d
     pub behind : LeavesDisksBehind (length all) before now

@@ -16,7 +16,7 @@ root_number shelf = 32 + shelf
 abbrev pub is_shelf : ℕ → Bool
 is_shelf n = nat_lt n 16
 
--- the number of a disk behind those of the shelves, where all numbers behind those of the shelves stand for these disks in order
+-- the number of a disk after those of the shelves, where all numbers after those of the shelves stand for these disks in order
 abbrev pub number_behind : ℕ → ℕ
 number_behind n = 32 + n
 

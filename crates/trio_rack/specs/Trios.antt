@@ -30,7 +30,7 @@ failed_by true rack n = rack.failed (file_number A n) + rack.failed (file_number
 failed_by false rack n = rack.failed (number_behind n)
 
 -- What contracts see of a rack whose disks are taken three at a time: the three disks of a shelf are one disk of the number of the shelf, which
--- is out where one of them is. The disks behind them have the numbers behind those of the shelves. What was asked for is told by the
+-- is out where one of them is. The disks after them have the numbers after those of the shelves. What was asked for is told by the
 -- numbers of the disks themselves.
 abbrev pub shelves_of : RackView → RackView
 shelves_of rack = record {
@@ -63,7 +63,7 @@ pub record MayBeBare (rack : RackView) (shelf : ℕ) : Type 0 where
   pub b : rack.holds (file_number B shelf) []
   pub root : rack.holds (root_number shelf) []
 
--- what the disks of other shelves, and those behind all shelves, may hold they might hold before
+-- what the disks of other shelves, and those after all shelves, may hold they might hold before
 abbrev pub LeavesOtherDisks : (shelf : ℕ) → (old new : RackView) → Type 0
 LeavesOtherDisks shelf old new = (number : ℕ) → IsNoneOf shelf number → AreAmong (new.holds number) (old.holds number)
 

@@ -1,4 +1,4 @@
--- A list whose count no fewer bytes stand behind is none, where each item has a byte.
+-- A list whose count no fewer bytes stand after is none, where each item has a byte.
 use Rattle.std.proofs.Common.{◌≡◌, ap, sym, subst, ℕ, ◌<◌, ◌≤◌, Bool, true, false, nat_le, if◌then◌else◌, List, [], ◌∷◌, length, Option, Some, None, refl, arith}
 use Rattle.std.proofs.lemmas.Bool.Decides.{nat_tests}
 use Rattle.std.proofs.lemmas.List.{length-append}
@@ -57,7 +57,7 @@ pub counted_is : (o : Option (ℕ × List ℕ)) (n : ℕ) (rest : List ℕ) → 
 counted_is None n rest e = absurd cc
 counted_is (Some (m, bytes)) n rest e = counted_by m bytes n rest (nat_le m (length bytes)) refl e
 
--- where there is a count that is none, it is above the bytes behind it
+-- where there is a count that is none, it is above the bytes after it
 over_by : (m : ℕ) (bytes : List ℕ) (b : Bool) → nat_le m (length bytes) ≡ b → kept b m bytes ≡ None → length bytes < m
 over_by m bytes true t e = absurd cc
 over_by m bytes false t e = grind (arith, nat_tests, t)

@@ -44,7 +44,7 @@ take_are_bytes n bytes small i =
 drop_are_bytes : (n : ℕ) (bytes : List ℕ) → AreBytes bytes → AreBytes (drop n bytes)
 drop_are_bytes n bytes small i = rw get_or-drop (small (n + i))
 
--- what is left behind a front
+-- what is left after a front
 pub rest_are_bytes : (bytes front rest : List ℕ) → bytes ≡ front ++ rest → AreBytes bytes → AreBytes rest
 rest_are_bytes bytes front rest whole small =
     subst AreBytes (drop_at front rest (length front) refl) (drop_are_bytes (length front) (front ++ rest) (subst AreBytes whole small))

@@ -12,7 +12,7 @@ pub record Spells {A : Type 0} (spelled : A → List ℕ) (fits : A → Type 0) 
   pub whole : bytes ≡ spelled x ++ rest
   pub fit : fits x
 
--- What is written is read back, and what stands behind it is left; what is read is spelled so, and has a spelling.
+-- What is written is read back, and what stands after it is left; what is read is spelled so, and has a spelling.
 pub record IsExact {A : Type 0} (spelled : A → List ℕ) (fits : A → Type 0) (read : Reader A) : Type 0 where
   pub back : (x : A) (rest : List ℕ) → fits x → read (spelled x ++ rest) ≡ Some (x, rest)
   pub exact : (bytes : List ℕ) (x : A) (rest : List ℕ) → AreBytes bytes → read bytes ≡ Some (x, rest) → Spells spelled fits bytes x rest

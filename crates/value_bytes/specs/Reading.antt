@@ -1,4 +1,4 @@
--- How values are read: what stands at the front, and what is left behind it.
+-- How values are read: what stands at the front, and what is left after it.
 use Rattle.std.specs.Prelude.{ℕ, zero, suc, ◌==◌, ℤ, true, false, List, [], ◌∷◌, Option, Some, None, option_map, if◌then◌else◌}
 use Rattle.std.specs.Int.{w64, cast_signed}
 use Rattle.std.specs.Str.{is_utf8}
@@ -7,7 +7,7 @@ use Rattle.script_value.specs.Pieces.{◌>>=◌}
 use Rattle.wire_bytes.specs.Reading.{read_u32, read_u64, read_bytes}
 use Rattle.value_bytes.specs.Spelling.{most_levels}
 
--- a reader of an A: the one in front, and the bytes that are left behind it; none where none stands there
+-- a reader of an A: the one in front, and the bytes that are left after it; none where none stands there
 abbrev pub Reader : Type 0 → Type 0
 Reader A = List ℕ → Option (A × List ℕ)
 
@@ -15,7 +15,7 @@ Reader A = List ℕ → Option (A × List ℕ)
 abbrev pub seen_as : {A B : Type 0} → (A → B) → Option (A × List ℕ) → Option (B × List ℕ)
 seen_as view outcome = option_map (λ read. (view read.0, read.1)) outcome
 
--- reads so many items, one behind the other
+-- reads so many items, one after the other
 abbrev pub read_several : {A : Type 0} → Reader A → ℕ → Reader (List A)
 read_several read zero bytes = Some ([], bytes)
 read_several read (suc n) bytes = do

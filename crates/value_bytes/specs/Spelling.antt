@@ -14,7 +14,7 @@ i64_bytes n = u64_bytes (cast_unsigned w64 n)
 abbrev pub count_of : Vals → ℕ
 count_of vs = length (items_of vs)
 
--- a value: a byte for its kind, and what it contains; the items of a list stand behind their count
+-- a value: a byte for its kind, and what it contains; the items of a list stand after their count
 abbrev mutual
   pub value_bytes : Val → List ℕ
   value_bytes (number n) = 0 ∷ i64_bytes n
@@ -24,7 +24,7 @@ abbrev mutual
   value_bytes (symbol s) = 4 ∷ byte_string s
   value_bytes (list vs) = 5 ∷ (u32_bytes (count_of vs) ++ all_bytes vs)
 
-  -- values, one behind the other
+  -- values, one after the other
   pub all_bytes : Vals → List ℕ
   all_bytes no_vals = []
   all_bytes (val v vs) = value_bytes v ++ all_bytes vs

@@ -14,11 +14,11 @@ abbrev pub Reads : {X Y : Type 0} → (X → Y) → Result X Unread → (left : 
 Reads view (Ok x) left read = read ≡ Some (view x, left)
 Reads view (Err e) left read = Stops e read
 
--- the count in front of these bytes, if there is one, is at most the bytes behind it
+-- the count in front of these bytes, if there is one, is at most the bytes after it
 abbrev pub HasCount : List ℕ → Type 0
 HasCount bytes = IfSome (read_u32 bytes) (λ count. count.0 ≤ length count.1)
 
--- memory runs out for a list only where its count is at most the bytes behind it: a larger count makes nothing grow
+-- memory runs out for a list only where its count is at most the bytes after it: a larger count makes nothing grow
 abbrev pub GrowsWithin : {X : Type 0} → Result X Unread → List ℕ → Type 0
 GrowsWithin (Ok x) bytes = ⊤
 GrowsWithin (Err Memory) bytes = HasCount bytes

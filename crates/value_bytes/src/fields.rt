@@ -1,4 +1,4 @@
-//! The fields of a format, read one behind the other: each leaves what stands behind it. Behind an `Err` the cursor may stand anywhere.
+//! The fields of a format, read one after the other: each leaves what stands after it. After an `Err` the cursor may stand anywhere.
 
 ghost use Rattle.std.specs.Prelude.{◌≡◌, ◌<◌, IfErr};
 ghost use Rattle.wire_bytes.specs.Reading.{AreBytes, read_u8, read_u32, read_u64, read_bytes, read_count};
@@ -31,7 +31,7 @@ pub fn number_32(cursor: &mut Cursor<'_>) -> Result<u32, Unread>
     }
 }
 
-/// How many there are of a list, each of which has a byte at least. One that fewer bytes stand behind is none, so that no count
+/// How many there are of a list, each of which has a byte at least. One that fewer bytes stand after is none, so that no count
 /// makes anything grow beyond what is left. It takes no memory.
 pub fn count(cursor: &mut Cursor<'_>) -> Result<u32, Unread>
     ensures read { Reads (λ n. n) result cursor.new (read_count cursor.old) }

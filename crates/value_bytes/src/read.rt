@@ -16,7 +16,7 @@ pub const MOST_LEVELS: u32 = 200;
 
 /// Reads the value that stands at the cursor; none where no spelling of one stands there.
 ///
-/// It recurses at most as deep as values nest. The cursor is then behind the value; where none is read, it may stand anywhere.
+/// It recurses at most as deep as values nest. The cursor is then after the value; where none is read, it may stand anywhere.
 pub fn read_value(alloc: Global, cursor: &mut Cursor<'_>) -> Result<Option<Value>, AllocError>
     ensures value { IfOk result (λ found. option_map meaning found ≡ value_of (spec.read_value cursor.old)) }
     ensures rest { IfOk result (λ found. IfSome found (λ v. spec.read_value cursor.old ≡ Some (meaning v, cursor.new))) }
@@ -30,7 +30,7 @@ pub fn read_value(alloc: Global, cursor: &mut Cursor<'_>) -> Result<Option<Value
 
 /// Reads the list of values that stands at the cursor, its count first; none where no spelling of one stands there.
 ///
-/// The cursor is then behind the list; where none is read, it may stand anywhere. Memory runs out only where no more values are
+/// The cursor is then after the list; where none is read, it may stand anywhere. Memory runs out only where no more values are
 /// told than bytes are left.
 pub fn read_values(alloc: Global, cursor: &mut Cursor<'_>) -> Result<Option<Items>, AllocError>
     ensures value { IfOk result (λ found. option_map (λ vs. vs) found ≡ value_of (spec.read_values cursor.old)) }

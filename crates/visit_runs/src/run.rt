@@ -41,7 +41,7 @@ fn uncounted<L: Ledger>(
     )
 }
 
-/// Runs a segment of a script behind an answer, over these cells, from what it goes on from. Nobody asks how many steps it takes.
+/// Runs a segment of a script after an answer, over these cells, from what it goes on from. Nobody asks how many steps it takes.
 pub fn run_from(
     alloc: Global,
     script: &Script,

@@ -59,7 +59,7 @@ first_not_below x y ys h e = by_cell (y.0 == x.0) refl e
 some_same : (v w : Val) → Some v ≡ Some w → v ≡ w
 some_same v w e = cc
 
--- behind the same first binding
+-- after the same first binding
 same_rest : (x y : ℕ × Val) (xs ys : Bindings) → x.0 ≡ y.0 → AreAbove x.0 xs → AreAbove y.0 ys
     → ((c : ℕ) → binding c (x ∷ xs) ≡ binding c (y ∷ ys)) → (c : ℕ) → binding c xs ≡ binding c ys
 same_rest x y xs ys same hx hy e c = by_cell (x.0 == c) refl (e c)
@@ -101,7 +101,7 @@ abbrev or_that : Option Val → Option Val → Option Val
 or_that None found = found
 or_that (Some v) found = Some v
 
--- a page's own bindings, and behind them its parent's
+-- a page's own bindings, and after them its parent's
 found_with : (p ss own : Bindings) (c : ℕ) → Rise ss → IsOwn p ss own → last_shadow c own (binding c p) ≡ or_that (binding c ss) (binding c p)
 found_with p [] own c h i = rw i refl
 found_with p (s ∷ ss) own c h (inl i) = by_cell (s.0 == c) refl (found_with p ss own c h.1 i.1)

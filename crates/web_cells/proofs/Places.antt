@@ -9,7 +9,7 @@ use Rattle.web_cells.specs.Views.{pair_of}
 use Rattle.web_cells.specs.Places.{Below, NotBelow, IsAt}
 use Rattle.web_cells.specs.declared.shades.Shadow.{Shadow}
 
--- behind the bindings of lower cells
+-- after the bindings of lower cells
 behind : (s x : Shadow) (rest : List (ℕ × Val)) → x.cell < s.cell → bound_to s.cell (meaning s.value) (pair_of x ∷ rest) ≡ pair_of x ∷ bound_to s.cell (meaning s.value) rest
 behind s x rest h =
     let less : nat_lt s.cell x.cell ≡ false = grind (arith, nat_tests) in

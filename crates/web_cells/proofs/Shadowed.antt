@@ -10,7 +10,7 @@ pub shadowed : AShadowBindsItsCell
 shadowed c d v [] = refl
 shadowed c d v (s ∷ ss) = by_less (nat_lt c s.0) refl (shadowed c d v ss)
   where
-    -- behind the place of the cell
+    -- after the place of the cell
     behind : (t : Bool) → (s.0 == d) ≡ t → (c == s.0) ≡ false → binding d (bound_to c v ss) ≡ (if c == d then Some v else binding d ss)
         → (if t then Some s.1 else binding d (bound_to c v ss)) ≡ (if c == d then Some v else (if t then Some s.1 else binding d ss))
     behind true e other later = let no : (c == d) ≡ false = grind (arith, nat_tests) in rw no refl

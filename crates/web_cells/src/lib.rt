@@ -15,7 +15,7 @@ pub fn a_shadow_binds_its_cell()
     ensures { AShadowBindsItsCell }
 {}
 
-/// Behind any shadows, a web cell is bound to its last one, or else to what it was bound to before.
+/// After any shadows, a web cell is bound to its last one, or else to what it was bound to before.
 pub fn the_last_shadow_binds()
     ensures { TheLastShadowBinds }
 {}

@@ -59,7 +59,7 @@ same_as_front (x ∷ buf) (y ∷ bytes) le each =
 pub copied : (buf bytes : List ℕ) (place : ℕ) → place + length buf ≤ length bytes → ((k : ℕ) → k < length buf → slice_get buf k ≡ slice_get bytes (place + k)) → buf ≡ take (length buf) (drop place bytes)
 copied buf bytes place le each = same_as_front buf (drop place bytes) (omega (arith, le, length-drop place bytes)) (λ k lt. each k lt ∙ sym (slice_get_drop bytes place (place + k) k refl))
 
--- a write and a cut behind the front
+-- a write and a cut after the front
 pub holds_behind : (front old piece new : List ℕ) (start place : ℕ) → length front ≡ start → start ≤ place → Holds old (place - start) piece new → Holds (front ++ old) place piece (front ++ new)
 holds_behind front old piece new start place long le holds =
     let n : ℕ = place - start in

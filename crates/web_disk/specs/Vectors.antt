@@ -5,7 +5,7 @@ use Rattle.web_disk.specs.Fates.{has_stopped}
 use Rattle.web_disk.specs.Wrecks.{sound_end}
 use Rattle.web_disk.specs.declared.wreck.Wreck.{Wreck}
 
--- a write over the last byte and behind it
+-- a write over the last byte and after it
 written : (replayed (Put 2 (7 ∷ 8 ∷ []) ∷ []) (fresh (1 ∷ 2 ∷ 3 ∷ []))).seen ≡ 1 ∷ 2 ∷ 7 ∷ 8 ∷ []
 written = refl
 

@@ -45,7 +45,7 @@ pub trait Disk {
         ensures images { Spoils place (place + length piece.now) (view self.old) (view self.new) }
         ensures call { IsCall (length piece.now) (view self.old) (view self.new) result };
 
-    /// Leaves the first `len` bytes. Until a sync, a crash may leave any bytes behind them; so it may where the call fails.
+    /// Leaves the first `len` bytes. Until a sync, a crash may leave any bytes after them; so it may where the call fails.
     fn cut(&mut self, len: u64) -> Result<(), Failed>
         requires inside { IsTrue tells → len ≤ length (view self.old).seen }
         requires ready { 0 < (view self.old).ready }

@@ -8,7 +8,7 @@ use crate::trace::overwrite;
 use std::alloc::AllocError;
 use web_outside::Failed;
 
-/// A disk of a first part, a block that stands so many times behind it, and a last part, the only one that can be written. It keeps one block, so a long disk takes little memory. What a read gives is told of it alone, and nothing of what a crash leaves.
+/// A disk of a first part, a block that stands so many times after it, and a last part, the only one that can be written. It keeps one block, so a long disk takes little memory. What a read gives is told of it alone, and nothing of what a crash leaves.
 #[derive(Drop)]
 pub struct RepeatDisk {
     first: Vec<u8>,

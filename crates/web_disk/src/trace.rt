@@ -35,7 +35,7 @@ pub struct Trace {
     pub first: Vec<u8>,
     /// The calls since then.
     pub calls: Vec<Call>,
-    /// The pieces of the writes among them, one behind the other.
+    /// The pieces of the writes among them, one after the other.
     pub pieces: Vec<u8>,
 }
 

@@ -42,7 +42,7 @@ impl Clock for SetClock {
     }
 }
 
-/// A clock in memory that goes on by itself: each reading is so many seconds behind the one before. Since readings share it,
+/// A clock in memory that goes on by itself: each reading is so many seconds after the one before. Since readings share it,
 /// no clause knows what it shows.
 #[derive(Drop)]
 pub struct TickingClock {
@@ -51,7 +51,7 @@ pub struct TickingClock {
 }
 
 impl TickingClock {
-    /// A clock whose first reading is `first`, and each later one `step` seconds behind the one before.
+    /// A clock whose first reading is `first`, and each later one `step` seconds after the one before.
     pub fn new(first: u64, step: u64) -> TickingClock
         ensures { result.step ≡ step }
     {

@@ -18,7 +18,7 @@ pub trait Nonces {
         ensures { (k : ℕ) → nonce result k ≡ nonce self.now k };
 }
 
-/// The nonces 0, 1, 2 and so on; behind the last number of 64 bits it begins at 0 again.
+/// The nonces 0, 1, 2 and so on; after the last number of 64 bits it begins at 0 again.
 #[derive(Clone, Copy, Debug, PartialEq, Eq)]
 pub struct Counting {
     next: u64,

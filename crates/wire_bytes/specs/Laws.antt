@@ -3,7 +3,7 @@ use Rattle.std.specs.Prelude.{◌≡◌, ℕ, ◌<◌, ◌^◌, List, ◌∷◌,
 use Rattle.wire_bytes.specs.Spelling.{u32_bytes, u64_bytes, byte_string}
 use Rattle.wire_bytes.specs.Reading.{read_u8, read_u32, read_u64, read_bytes}
 
--- what is written is read back, and what stands behind it is left
+-- what is written is read back, and what stands after it is left
 pub record IsReadBack : Type 0 where
   pub byte : (byte : ℕ) (rest : List ℕ) → read_u8 (byte ∷ rest) ≡ Some (byte, rest)
   pub short : (number : ℕ) (rest : List ℕ) → number < 2 ^ 32 → read_u32 (u32_bytes number ++ rest) ≡ Some (number, rest)

@@ -1,4 +1,4 @@
--- How numbers and byte strings are read: what stands at the front, and what is left behind it.
+-- How numbers and byte strings are read: what stands at the front, and what is left after it.
 use Rattle.std.specs.Prelude.{ℕ, ◌<◌, List, [], ◌∷◌, length, take, drop, get_or, Option, Some, None, option_map, if◌then◌else◌, nat_le}
 use Rattle.std.specs.Int.{w32, w64, from_le_bytes}
 
@@ -19,12 +19,12 @@ read_u32 bytes = if nat_le 4 (length bytes) then Some (from_le_bytes w32 (take 4
 abbrev pub read_u64 : List ℕ → Option (ℕ × List ℕ)
 read_u64 bytes = if nat_le 8 (length bytes) then Some (from_le_bytes w64 (take 8 bytes), drop 8 bytes) else None
 
--- a count that was read, where no fewer bytes stand behind it
+-- a count that was read, where no fewer bytes stand after it
 abbrev pub counted : Option (ℕ × List ℕ) → Option (ℕ × List ℕ)
 counted None = None
 counted (Some (count, bytes)) = if nat_le count (length bytes) then Some (count, bytes) else None
 
--- a count of 32 bits, where no fewer bytes stand behind it
+-- a count of 32 bits, where no fewer bytes stand after it
 abbrev pub read_count : List ℕ → Option (ℕ × List ℕ)
 read_count bytes = counted (read_u32 bytes)
 

@@ -15,7 +15,7 @@ greatest = refl
 eight_bytes : u64_bytes 50 ≡ 50 ∷ 0 ∷ 0 ∷ 0 ∷ 0 ∷ 0 ∷ 0 ∷ 0 ∷ []
 eight_bytes = refl
 
--- "hi", behind its length
+-- "hi", after its length
 a_string : byte_string (104 ∷ 105 ∷ []) ≡ 2 ∷ 0 ∷ 0 ∷ 0 ∷ 104 ∷ 105 ∷ []
 a_string = refl
 

@@ -5,7 +5,7 @@ ghost use Rattle.wire_bytes.specs.Reading.{AreBytes, read_u8, read_u32, read_u64
 use crate::{u32_from_wire, u64_from_wire};
 use std::marker::Model;
 
-/// Reads numbers and byte strings, one behind the other. Where too few bytes are left, it stays where it is.
+/// Reads numbers and byte strings, one after the other. Where too few bytes are left, it stays where it is.
 #[derive(Drop)]
 pub struct Cursor<'a> {
     rest: &'a [u8],

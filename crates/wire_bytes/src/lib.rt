@@ -11,7 +11,7 @@ pub use cursor::Cursor;
 pub use number::{u32_from_wire, u32_to_wire, u64_from_wire, u64_to_wire};
 pub use writer::Writer;
 
-/// What is written is read back, and what stands behind it is left.
+/// What is written is read back, and what stands after it is left.
 pub fn spellings_are_read_back()
     ensures { IsReadBack }
 {}

@@ -6,7 +6,7 @@ use script_value::Bytes;
 use std::alloc::{AllocError, Global};
 use std::marker::Model;
 
-/// Writes numbers and byte strings, one behind the other. Where there is no memory, nothing is written.
+/// Writes numbers and byte strings, one after the other. Where there is no memory, nothing is written.
 #[derive(Drop)]
 pub struct Writer {
     bytes: Vec<u8>,

@@ -92,7 +92,7 @@ NoTag t = (lacks 60 t ≡ true) × (lacks 62 t ≡ true)
 no_tag_behind : (a b : List ℕ) → NoTag a → NoTag b → NoTag (a ++ b)
 no_tag_behind a b h k = (lacks-append 60 a b h.0 k.0, lacks-append 62 a b h.1 k.1)
 
--- what stands behind a tag's name: nothing, or a space first
+-- what stands after a tag's name: nothing, or a space first
 abbrev IsBehindName : List ℕ → Type 0
 IsBehindName [] = Unit {0}
 IsBehindName (b ∷ bs) = b ≡ 32

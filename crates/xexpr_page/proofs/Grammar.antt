@@ -146,7 +146,7 @@ attributes_found (val v vs) bytes h =
     attributes_as (val v vs) (j.first ++ j.others) bytes j.parts
     (attribute_found v vs j.first j.others j.is_first (attributes_found vs j.others j.is_others))
 
--- the parts of an element and those behind the first of them
+-- the parts of an element and those after the first of them
 abbrev AreFound : Vals → Type 0
 AreFound vs = (bytes : List ℕ) → children_of vs ≡ Some bytes → Children vs bytes
 

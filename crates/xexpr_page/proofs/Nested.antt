@@ -17,7 +17,7 @@ attributes_shaped (attribute n t vs others named more) =
 markup_as : (a b : List ℕ) → a ≡ b → IsMarkup a → IsMarkup b
 markup_as a b e h = subst (λ c. IsMarkup c) e h
 
--- markup behind markup
+-- markup after markup
 behind : {a : List ℕ} (b : List ℕ) → IsMarkup a → IsMarkup b → IsMarkup (a ++ b)
 behind b empty k = k
 behind b (characters t others i more) k = markup_as _ _ (sym (append_assoc t others b)) (characters t (others ++ b) i (behind b more k))
@@ -28,7 +28,7 @@ behind b (an_element n attributes inner others named a i more) k =
     markup_as _ _ (sym (append_assoc (start_tag n attributes ++ inner ++ end_tag n) others b))
     (an_element n attributes inner (others ++ b) named a i (behind b more k))
 
--- a piece with nothing behind it
+-- a piece with nothing after it
 alone : (a : List ℕ) → IsMarkup (a ++ []) → IsMarkup a
 alone a h = markup_as _ _ (append-nil a) h
 

@@ -1,4 +1,4 @@
--- Pieces of a page, one behind the other.
+-- Pieces of a page, one after the other.
 use Rattle.std.proofs.Common.{◌≡◌, ◌<◌, ◌≤◌, ◌+◌, ◌-◌, take, ℕ, List, [], ◌∷◌, ◌++◌, map, length, drop, get_or, add-one, true, false, subst, Option, Some, None, option_map, refl, sym, ap, ◌∙◌, append_assoc, arith}
 use Rattle.std.proofs.Math.Seq.{drop-cons}
 use Rattle.std.proofs.lemmas.Bool.{cond-true, cond-false}

@@ -13,7 +13,7 @@ pub not_there : (p : Option (List ℕ)) → is_some p ≡ false → p ≡ None
 not_there None h = refl
 not_there (Some a) h = absurd (cc)
 
--- behind a piece that is there, it all rests on the others
+-- after a piece that is there, it all rests on the others
 pub some_behind : (p q : Option (List ℕ)) → is_some p ≡ true → is_some (join p q) ≡ is_some q
 some_behind None q h = absurd (cc)
 some_behind (Some a) None h = refl

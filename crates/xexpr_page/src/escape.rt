@@ -25,7 +25,7 @@ fn push_attribute_byte(page: &mut Vec<u8>, byte: u8) -> Result<(), AllocError>
     push_text_byte(page, byte)
 }
 
-/// Puts a text behind the page, with `&`, `<` and `>` as entities.
+/// Puts a text after the page, with `&`, `<` and `>` as entities.
 pub fn push_text(page: &mut Vec<u8>, text: &str) -> Result<(), AllocError>
     ensures { OnOk result (page.new.items ≡ page.old.items ++ spec.escaped_text text.now) }
 {
@@ -35,7 +35,7 @@ pub fn push_text(page: &mut Vec<u8>, text: &str) -> Result<(), AllocError>
     Ok(())
 }
 
-/// Puts an attribute's text behind the page, with `&`, `<`, `>` and `"` as entities.
+/// Puts an attribute's text after the page, with `&`, `<`, `>` and `"` as entities.
 pub fn push_attribute_text(page: &mut Vec<u8>, text: &str) -> Result<(), AllocError>
     ensures { OnOk result (page.new.items ≡ page.old.items ++ spec.escaped_attribute text.now) }
 {

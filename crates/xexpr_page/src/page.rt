@@ -40,7 +40,7 @@ pub fn render(alloc: Global, value: &Value) -> Result<Bytes, RenderFault>
     Ok(Bytes::new(page))
 }
 
-// Puts a value behind the page.
+// Puts a value after the page.
 #[cycle(page)]
 fn push_page(page: &mut Vec<u8>, value: &Value) -> Result<(), RenderFault>
     ensures { Pushes result page.old.items page.new.items (page_of (meaning value.now)) }
@@ -56,7 +56,7 @@ fn push_page(page: &mut Vec<u8>, value: &Value) -> Result<(), RenderFault>
     }
 }
 
-// Puts the element that a list is behind the page.
+// Puts the element that a list is after the page.
 #[cycle(page)]
 fn push_list(page: &mut Vec<u8>, items: &[Value]) -> Result<(), RenderFault>
     ensures { Pushes result page.old.items page.new.items (page_of (list (meanings items.now))) }
@@ -67,7 +67,7 @@ fn push_list(page: &mut Vec<u8>, items: &[Value]) -> Result<(), RenderFault>
     }
 }
 
-// Puts the element that the first item of a list names behind the page.
+// Puts the element that the first item of a list names after the page.
 #[cycle(page)]
 fn push_named(page: &mut Vec<u8>, first: &Value, parts: &[Value]) -> Result<(), RenderFault>
     ensures { Pushes result page.old.items page.new.items (page_of (spec.listed first.now parts.now)) }
@@ -86,7 +86,7 @@ fn push_named(page: &mut Vec<u8>, first: &Value, parts: &[Value]) -> Result<(), 
     }
 }
 
-// Puts an element of this name behind the page; its attributes, if there are any, are the first of its parts.
+// Puts an element of this name after the page; its attributes, if there are any, are the first of its parts.
 #[cycle(page)]
 fn push_element(page: &mut Vec<u8>, name: &Str, parts: &[Value]) -> Result<(), RenderFault>
     ensures { Pushes result page.old.items page.new.items (element_of name.now (meanings parts.now)) }
@@ -101,7 +101,7 @@ fn push_element(page: &mut Vec<u8>, name: &Str, parts: &[Value]) -> Result<(), R
     Ok(())
 }
 
-// Puts children behind the page, one after another.
+// Puts children after the page, one after another.
 #[cycle(page)]
 fn push_children(page: &mut Vec<u8>, children: &[Value]) -> Result<(), RenderFault>
     ensures { Pushes result page.old.items page.new.items (children_of (meanings children.now)) }
@@ -112,7 +112,7 @@ fn push_children(page: &mut Vec<u8>, children: &[Value]) -> Result<(), RenderFau
     Ok(())
 }
 
-// Puts `&NAME;` behind the page.
+// Puts `&NAME;` after the page.
 fn push_entity(page: &mut Vec<u8>, name: &Str) -> Result<(), RenderFault>
     ensures { Pushes result page.old.items page.new.items (spec.entity_of name.now) }
 {
@@ -125,7 +125,7 @@ fn push_entity(page: &mut Vec<u8>, name: &Str) -> Result<(), RenderFault>
     Ok(())
 }
 
-// Puts the void element of this name behind the page: its start tag, since it has no children and no end tag.
+// Puts the void element of this name after the page: its start tag, since it has no children and no end tag.
 fn push_void(page: &mut Vec<u8>, name: &Str, parts: &[Value]) -> Result<(), RenderFault>
     ensures { Pushes result page.old.items page.new.items (spec.void_of name.now (meanings parts.now)) }
 {
@@ -139,7 +139,7 @@ fn push_void(page: &mut Vec<u8>, name: &Str, parts: &[Value]) -> Result<(), Rend
     }
 }
 
-// Puts `<NAME`, the attributes and `>` behind the page.
+// Puts `<NAME`, the attributes and `>` after the page.
 fn push_start(page: &mut Vec<u8>, name: &Str, attributes: &[Value]) -> Result<(), RenderFault>
     ensures { Pushes result page.old.items page.new.items (spec.start_of name.now (meanings attributes.now)) }
 {
@@ -150,7 +150,7 @@ fn push_start(page: &mut Vec<u8>, name: &Str, attributes: &[Value]) -> Result<()
     Ok(())
 }
 
-// Puts `</NAME>` behind the page.
+// Puts `</NAME>` after the page.
 fn push_end(page: &mut Vec<u8>, name: &Str) -> Result<(), AllocError>
     ensures { OnOk result (page.new.items ≡ page.old.items ++ end_tag name.now) }
 {
@@ -169,7 +169,7 @@ fn push_attributes(page: &mut Vec<u8>, attributes: &[Value]) -> Result<(), Rende
     Ok(())
 }
 
-// Puts ` NAME="TEXT"` behind the page.
+// Puts ` NAME="TEXT"` after the page.
 fn push_attribute(page: &mut Vec<u8>, attribute: &Value) -> Result<(), RenderFault>
     ensures { Pushes result page.old.items page.new.items (spec.attribute_of (meaning attribute.now)) }
 {

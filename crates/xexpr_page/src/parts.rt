@@ -5,7 +5,7 @@ ghost use Rattle.page_spec.specs.Page as spec;
 
 use script_value::Value;
 
-/// The attributes that a value behind an element's name is.
+/// The attributes that a value after an element's name is.
 pub fn attributes_in(value: &Value) -> Option<&[Value]>
     ensures { option_map (λ items. meanings items.now) result ≡ spec.attributes_in (meaning value.now) }
 {
@@ -35,7 +35,7 @@ fn are_attributes(items: &[Value]) -> bool
     }
 }
 
-/// The attributes and the children among the parts behind an element's name.
+/// The attributes and the children among the parts after an element's name.
 pub fn split_attributes(parts: &[Value]) -> (&[Value], &[Value])
     ensures split { spec.AreSplit (meanings parts.now) (meanings result.0.now) (meanings result.1.now) }
     ensures within { depth_all (meanings result.1.now) ≤ depth_all (meanings parts.now) }

@@ -64,7 +64,7 @@ impl<'a, 'c> Reader<'a, 'c> {
         self.read_let_of(in_page, &names, bindings, body)
     }
 
-    /// The same, the names of the bindings being these.
+    /// Bindings at once, which have these names, and their body.
     #[cycle(read)]
     fn read_let_of(
         &mut self,

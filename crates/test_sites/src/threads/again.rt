@@ -60,7 +60,7 @@ fn tape_of<'t>(past: &'t [Answer], answer: &'t Value, url: &'t Str, cells: &'t C
 }
 
 impl Again<'_> {
-    // The visit of this place, as one that lies behind others.
+    // The visit of this place, as one that lies after others.
     fn answer_at(&self, alloc: Global, place: usize) -> Result<Answer, Fail> {
         let note = self.notes.get(place).ok_or("no note")?;
         let Some(Some(reads)) = self.reads.get(place) else {
@@ -180,7 +180,7 @@ fn order_behind(
     }
 }
 
-/// Runs all visits again, each instance's in an order that the replies tell and in which none stands behind one of a later
+/// Runs all visits again, each instance's in an order that the replies tell and in which none stands after one of a later
 /// round. It fails where one is told another page than was noted.
 pub fn run_again(alloc: Global, setup: &Setup, notes: &[Note]) -> Result<(), Fail> {
     let mut reads = Vec::new(alloc);

@@ -6,7 +6,7 @@ use std::alloc::{AllocError, Global};
 /// A visit: what it asked for, and what it was told.
 #[derive(Drop)]
 pub struct Note {
-    /// The round in which it was made; each begins behind the end of the one before it.
+    /// The round in which it was made; each begins after the end of the one before it.
     pub round: u64,
     /// The place among the notes of the visit that was shown the page that this one answers; none of a start.
     pub behind: Option<usize>,
@@ -61,7 +61,7 @@ pub struct Asked {
     pub target: Target,
 }
 
-/// What the next visit behind the note of this place asks for: the page that it was shown, or once more what it asked for.
+/// What the next visit after the note of this place asks for: the page that it was shown, or once more what it asked for.
 pub fn next_behind(notes: &[Note], place: usize) -> Option<Asked> {
     let note = notes.get(place)?;
     match note.url() {

@@ -66,7 +66,7 @@ pub fn counted(alloc: Global, notes: &[Note], visits: &[usize]) -> Result<Vec<us
     all_of(alloc, &order)
 }
 
-/// Whether no visit of this order stands behind one of a later round.
+/// Whether no visit of this order stands after one of a later round.
 pub fn are_by_rounds(notes: &[Note], order: &[usize]) -> bool {
     let mut latest = 0;
     for place in order {

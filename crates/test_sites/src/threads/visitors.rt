@@ -84,7 +84,7 @@ fn visit<R: Wait>(
     Ok(())
 }
 
-// The place of the note behind which a visitor visits in this turn. In every other turn all visitors choose the same.
+// The place of the note after which a visitor visits in this turn. In every other turn all visitors choose the same.
 fn choice(worker: u64, round: u64, turn: u64, count: u64) -> u64
     requires { 0 < count }
 {
@@ -101,7 +101,7 @@ fn choice(worker: u64, round: u64, turn: u64, count: u64) -> u64
     (mixed >> 3) % count
 }
 
-// The visits of one visitor in a round: where nothing is known yet, the starts; and else behind what was noted.
+// The visits of one visitor in a round: where nothing is known yet, the starts; and else after what was noted.
 fn visit_in_turn<R: Wait>(
     rt: &R,
     alloc: Global,

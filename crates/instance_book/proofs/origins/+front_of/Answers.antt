@@ -21,11 +21,11 @@ found : (o : Option stored.Suspended) (e : stored.Suspended) (d : Suspended) →
 found o e d is back = sym (same_Some (suspended_of e) d (ap (λ (x : Option stored.Suspended). option_map suspended_of x) (sym is) ∙ back))
 
 module _ (n : Need) (p d : Suspended) (o : Option Found) where
-  -- behind a parent's state the front itself is found
+  -- after a parent's state the front itself is found
   front_found : (e : stored.Suspended) → o ≡ Some (kept.Front e) → Makes n p d o → front n d ≡ suspended_of e
   front_found e is makes = sym (subst (λ (x : Option Found). Makes n p d x) is makes)
 
-  -- or what it has behind that of the parent's
+  -- or what it has after that of the parent's
   difference_found : (x : Delta) (shared : Need) (q e : Suspended) → o ≡ Some (kept.Difference x) → shared ≡ shared_need (delta_of x) → front shared p ≡ q
       → e ≡ joined q (delta_of x) → Makes n p d o → front n d ≡ e
   difference_found x shared q e is need read join makes =
@@ -84,7 +84,7 @@ front_of-requires t c =
       ),
     )
 
--- and so is one that is kept behind its parent's
+-- and so is one that is kept after its parent's
 pub unreachable-requires-in-None : goal.unreachable-requires-in-None
 unreachable-requires-in-None t c =
     let law = c.each_page_has_one_state.ensures in

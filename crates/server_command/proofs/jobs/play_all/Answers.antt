@@ -190,7 +190,7 @@ returns-in-Reopen-clause-asked g c =
     (asked_through c.rules_of-rules.result.shelves rack.before (g.R.Rack.view c.open_desk.new.rack) (g.R.Rack.view c.play-end.new.devices) rack.after c.in-Ok.ensures.asked c.in-Reopen.ensures.asked c.close.ensures.asked) in
     unopened_asked rack c.args.options.now.shelves c.in-Reopen.shelf _ c.tell_unopened-in-Reopen.result _ c.tell_unopened-in-Reopen.ensures.tells (inr all)
 
--- ---- the rack behind it
+-- ---- the rack after it
 
 pub returns-in-Done-clause-back : goal.returns-in-Done-clause-back
 returns-in-Done-clause-back g c =

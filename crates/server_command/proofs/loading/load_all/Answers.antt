@@ -129,7 +129,7 @@ returns-in-Err-Reopen-clause-leaves g c =
     (λ t place e. c.load-end.ensures.other t shelf place (error_is c.load-end.result shelf why (again.Other place) is e))
     (subst (λ w. TellsUnopened shelf w c.tell_unopened-in-Err-Reopen.result (sinks_of old new)) c.of-why.ensures c.tell_unopened-in-Err-Reopen.ensures.tells)
 
--- ---- the rack behind it
+-- ---- the rack after it
 
 pub returns-in-Ok-end-clause-back : goal.returns-in-Ok-end-clause-back
 returns-in-Ok-end-clause-back g c =

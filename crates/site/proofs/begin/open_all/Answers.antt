@@ -127,7 +127,7 @@ none_left : {A : Type 0} (xs : List A) → length xs ≡ 0 → xs ≡ []
 none_left [] e = refl
 none_left (x ∷ xs) e = absurd (omega (arith, e))
 
--- behind the last shelf no disk and no source is left
+-- after the last shelf no disk and no source is left
 pub returns-clause-gone : goal.returns-clause-gone
 returns-clause-gone g c =
     let end : c.args.rules.shelves ≤ c.loop-number.number = (let test : _ = c.loop-number-test.false in search (rules, arith)) in

@@ -61,7 +61,7 @@ returns-in-Err-clause-door g c = λ is.
     failed_by (Rose (g.A.Door.view c.args.door.now).faults (g.A.Door.view c.listen.new.self).faults) c.in-Err.why
     (λ e. c.in-Err.ensures.failed (ap (λ x. Err x) e)) (sym c.fault_of.ensures ∙ same)
 
--- a porch failed, behind a door that listened
+-- a porch failed, after a door that listened
 pub returns-in-Failed-clause-door : goal.returns-in-Failed-clause-door
 returns-in-Failed-clause-door g c = λ is.
     let rose = c.serve_porches-disks.ensures.failed c.in-Failed.is in

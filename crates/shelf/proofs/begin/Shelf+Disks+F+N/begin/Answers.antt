@@ -176,7 +176,7 @@ returns-in-Ok-open-clause-fits g c = λ told.
     let first = c.in-Ok.ensures in
     fits_there trio_view c.args.rules.number (trio_view c.args.disks) c.in-Ok.journal c.migrated.new.journal (first.intact told) (first.records told) (first.format told) (c.in-Ok-migrated.ensures.migrates.moved told)
 
--- ---- it was not, behind a journal that was
+-- ---- it was not, after a journal that was
 
 pub returns-in-Err-open-clause-any_moment : goal.returns-in-Err-open-clause-any_moment
 returns-in-Err-open-clause-any_moment g c = λ told now. let whole = newer g (goal.at.returns-in-Err-open-clause-any_moment g c).After-open told now in rw c.close.ensures whole
@@ -253,7 +253,7 @@ returns-in-Err-migrated-clause-full g c = λ told len is.
     let still = anew_still trio_view (scripts_of c.args.setup.now) c.args.rules.number j c.migrated.new.journal len (first.settled told) quiet long in
     rw c.close-in-Err-migrated.ensures still
 
--- why it was not, behind a journal that was opened
+-- why it was not, after a journal that was opened
 
 pub returns-in-Err-open-clause-refused : goal.returns-in-Err-open-clause-refused
 returns-in-Err-open-clause-refused g c = λ told.

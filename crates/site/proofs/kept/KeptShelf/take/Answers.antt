@@ -30,7 +30,7 @@ given_told : {E : Type 0} (es : List KeptEntry) (e : KeptEntry) (r : Result Tick
 given_told es e (Ok u) behind gave is = subst (λ (l : List KeptEntry). IsGivenIn l u) (sym is) (given_now es e u (gave u refl))
 given_told es e (Err x) behind gave is = tt
 
--- the history behind the take
+-- the history after the take
 grown : (g : _) (c : goal.After-push g) → entries_of c.push.new.self ≡ entries_of c.args.self.now.history ++ entry c.args.by (step.take (target_of c.args.target.now) (meaning c.args.answer)) (taken_of c.take-told.result) ∷ []
 grown g c =
     ap entries_of c.push.ensures.behind

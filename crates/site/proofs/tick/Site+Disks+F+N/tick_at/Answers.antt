@@ -5,7 +5,7 @@ use Rattle.site.specs.Passes.{Swept, Compacted, Follows, Ticked, has_freed}
 use Rattle.site.proofs.Ticks.{at_both, at_alone}
 use Rattle.site.proofs.tick.Site+Disks+F+N.tick_at.Goals as goal
 
--- the sweep freed an instance, and the turn behind it was made
+-- the sweep freed an instance, and the turn after it was made
 pub returns-then-has_freed-clause-ticked : goal.returns-then-has_freed-clause-ticked
 returns-then-has_freed-clause-ticked g c =
     let tells = g.F.Disk.tells in
