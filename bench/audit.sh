@@ -111,5 +111,5 @@ timed() {
 
 "$here/hovgyelit" check -- "$here/examples/sum.scm" >/dev/null || exit 1
 setup >"$work/setup"
-timed 1000 first "each behind the first of its instance"
+timed 1000 first "each after the first of its instance"
 timed 10 before "ten in a row"

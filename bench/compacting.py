@@ -27,7 +27,7 @@ def target(instance, page):
 
 def steps():
     """Visits of which each shows a page, in two halves: the instances of the first have no page that lives at the end of it. A
-    compaction stands behind every few of them. With them the pages of the halves, in the order in which they are told."""
+    compaction stands after every few of them. With them the pages of the halves, in the order in which they are told."""
     lines, pages = [b"steps", b"tick %d" % (NOW - 4000)], ([], [])
     number = 0
     for half in (0, 1):

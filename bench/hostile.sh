@@ -1,6 +1,6 @@
 #!/bin/sh
 # Starts `serve` through the launcher on a free port of this machine, and lets each client of docs/OPERATING.md at it,
-# one after the other: that each meets what the table says, and that a visitor who comes behind it is served in time. It
+# one after the other: that each meets what the table says, and that a visitor who comes after it is served in time. It
 # takes about eight minutes. Words pick clients by their names in hostile.py. No part of the gate. Needs python3.
 
 here=$(CDPATH='' cd -- "$(dirname -- "$0")/.." && pwd) || exit 1

@@ -1,6 +1,6 @@
 #!/bin/sh
 # Visits `serve --journal` until a journal has 2^29 bytes and instances expire, so that a tick compacts it (long.py). It looks
-# that the file is compacted then and not before, that the pages which can be answered go on, and that they do so behind a
+# that the file is compacted then and not before, that the pages which can be answered go on, and that they do so after a
 # KILL and a start, with an audit and without. The journal is in this folder, or in the one that a first word names: it takes
 # up to 1.1 GB there. It takes some minutes. No part of the gate. Needs python3.
 

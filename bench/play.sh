@@ -7,11 +7,11 @@
 # many short ones, at the same cost: where none is slower than its operands' size, the ratio is near 1. Then the reading of
 # scripts: with twice the names and references the ratio is near 2, and with ten times the levels of a template of one size
 # near 1. Then a loop, and questions, with tasks and without them at one cost: where a call takes no longer than a `let`, the ratio
-# is near 1; and how many bytes of a journal each page of these questions takes. Then 9,000 answers to pages with few and with many pages behind them, of a walk, which keeps nothing of its answers, and
+# is near 1; and how many bytes of a journal each page of these questions takes. Then 9,000 answers to pages with few and with many pages before them, of a walk, which keeps nothing of its answers, and
 # of a quiz, which keeps them: a visit goes on from what is kept of its page, so they take the same time, but for the size of
 # that. A page 32 deep is 32 links from one whose state is kept by itself,
 # and one 33 deep is such a page. Last, how many bytes a started instance takes with its page, and one page more of an instance,
-# behind few and many pages and behind a short and a long answer.
+# after few and many pages and after a short and a long answer.
 
 here=$(CDPATH='' cd -- "$(dirname -- "$0")/.." && pwd) || exit 1
 # The program by itself: the launcher looks at the sources first, and is a process with a peak of its own.
@@ -214,7 +214,7 @@ reading() {
     }'
 }
 
-# Five visits of a loop of 1,000,000 turns, each of which does this behind these definitions, at the fuel that is named, and at
+# Five visits of a loop of 1,000,000 turns, each of which does this after these definitions, at the fuel that is named, and at
 # one less by none of them; leaves the time of the first in `took`.
 turns() {
     setup_with turns "$1 \`(p ,(number->string (length (for/list ((j 1000)) (length (for/list ((i 1000)) $2))))))" >"$work/in"
@@ -354,12 +354,12 @@ peak_deep() {
     peak=$(($(tail -n 1 "$work/peak") * 1024))
 }
 
-# What 600 more pages of one instance take, each shown behind a page of this depth.
+# What 600 more pages of one instance take, each shown after a page of this depth.
 bytes_of_a_page() {
     peak_deep "$1" 300
     few=$peak
     peak_deep "$1" 900
-    echo "bytes of a page behind one $1 deep: $(((peak - few) / 600))"
+    echo "bytes of a page after one $1 deep: $(((peak - few) / 600))"
 }
 
 # So many answers with this query to the first page of an example, of which the first so many find the page, and the others
@@ -389,7 +389,7 @@ bytes_of_answers() {
     peak_of_answers "$1" "$3" $(($3 / 3)) "$4"
     few=$peak
     peak_of_answers "$1" "$3" "$3" "$4"
-    echo "bytes of a page behind the first of $1, with $2: $(((peak - few) / ($3 - $3 / 3)))"
+    echo "bytes of a page after the first of $1, with $2: $(((peak - few) / ($3 - $3 / 3)))"
 }
 
 # A query of so many names without a value.
@@ -405,7 +405,7 @@ twice shop 5305 10625
 twice booking 5600 11200
 twice texts 10000 20000
 
-# The first run behind those may wait for what they wrote.
+# The first run after those may wait for what they wrote.
 visit 10 >/dev/null
 for turns in 10 100 1000 9000; do visit "$turns"; done
 

@@ -49,7 +49,7 @@ end_server() {
     rm -rf "$work/journal"
 }
 
-# The URL of the second page of `sum` behind a start: who answers it gets a last page, which leaves a record and no page.
+# The URL of the second page of `sum` after a start: who answers it gets a last page, which leaves a record and no page.
 second_page() {
     first=$(curl -s --max-time 30 "http://$host/servlets/sum" | sed -n 's/.*<form action="\([^"]*\)".*/\1/p')
     curl -s --max-time 30 "http://$host$first?n=3" | sed -n 's/.*<form action="\([^"]*\)".*/\1/p'
@@ -115,7 +115,7 @@ for count in 1 2 4 16; do
     printf '%7s %27s %10s %32s %10s %11s\n' "$count" $row "$rate"
 done
 
-# A turn at the one shelf takes two seconds: sixteen visits wait for it, one behind the other.
+# A turn at the one shelf takes two seconds: sixteen visits wait for it, one after the other.
 journal=$work/journal
 start_server 16 1 env
 second=$(second_page)
