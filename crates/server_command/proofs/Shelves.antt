@@ -62,7 +62,7 @@ nothing_added k old new held reads among (inr (intact, inl h)) left is =
 nothing_added k old new held reads among (inr (intact, inr (none, h))) left is = inr (reads, intact, inl (as_read old.seen left new h is))
 
 -- the limits that were asked for, with the number of a shelf
-asked_rules : (o : Options) (r : Rules) (k : ℕ) → AreAsked o r → rules_of (site.rules_for r k) ≡ rules_for o k
+asked_rules : (o : Options) (r : Rules) (k : ℕ) → AreAsked o r → rules_of (site.numbered r k) ≡ rules_for o k
 asked_rules o r k a = λ at. record (rules_for o k) { fuel = a.fuel at; life = a.life at; instances = a.instances at; pages = a.pages at }
 
 module _ {D N : Type 0} (view : D → View) (tells : Bool) (told : Type 0) (nonce : N → ℕ → ℕ) (o : Options) (scripts : List Named) (rules : Rules) where
