@@ -8,7 +8,6 @@ use Rattle.script_value.specs.declared.outcome.Reply.{Reply}
 use Rattle.script_value.specs.declared.outcome.Reply.TheVariants as replies
 use Rattle.script_value.specs.declared.outcome.Refusal.TheVariants as refusals
 use Rattle.page_names.specs.Names.{Destination}
-use Rattle.page_names.specs.Placing.{shelf_for}
 use Rattle.replay_spec.specs.Step as step
 use Rattle.site.specs.Shelves.{Ticket, ticket_of, reply_of, compacted_of}
 use Rattle.history_spec.specs.Histories.{Entry, own_of}
@@ -30,7 +29,7 @@ use Rattle.site.specs.declared.site.Site.{Site}
 use Rattle.site.specs.Entries.{entry}
 use Rattle.site.specs.Sound.{IsNoTicket}
 use Rattle.site.specs.Passes.{Known, Spots, seen_by, has_freed, GoesFrom, Took, Published, Swept, Compacted, Follows, Ticked}
-use Rattle.site.specs.Sites.{TakesOn, VisitsAt, Ticks}
+use Rattle.site.specs.Sites.{shelf_for, TakesOn, VisitsAt, Ticks}
 use Rattle.site.specs.Rules.{TicksAs, site_rules}
 use Rattle.site_serving.specs.Pages.{page_count, pages_in}
 

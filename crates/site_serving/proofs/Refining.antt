@@ -12,7 +12,6 @@ use Rattle.script_value.specs.declared.outcome.Reply.{Reply}
 use Rattle.script_value.specs.declared.outcome.Reply.TheVariants as replies
 use Rattle.script_value.specs.declared.outcome.Refusal.TheVariants as refusals
 use Rattle.page_names.specs.Names.{Destination, page, start}
-use Rattle.page_names.specs.Placing.{shelf_for}
 use Rattle.replay_spec.specs.Step as step
 use Rattle.site.specs.Shelves.{Ticket, ticket_of, reply_of, compacted_of}
 use Rattle.http_forms.specs.Passes as passes
@@ -32,7 +31,7 @@ use Rattle.site.specs.Opened.{Opened}
 use Rattle.site.specs.Openings.{IsOwnOpening, book_then, count_of, opened_of, source_of, start_of}
 use Rattle.site.specs.Passes.{Compacted, Follows, GoesFrom, Known, Published, Spots, Swept, Ticked, Took, has_freed, seen_by}
 use Rattle.site.specs.Rules.{TicksAs, site_rules}
-use Rattle.site.specs.Sites.{PublishesAt, TakesOn, VisitsAt}
+use Rattle.site.specs.Sites.{PublishesAt, TakesOn, VisitsAt, shelf_for}
 use Rattle.site_serving.specs.Serving.{AreSeenBy, opened_as, openings_of}
 use Rattle.site_serving.proofs.Moving.{worked}
 use Rattle.site_serving.specs.Visits.{AreSwept, HappensAt, IsCompacted, IsFollowed, IsSwept, IsTicked, IsVisited, IsWorn, Makes, Seen, SweepsOn, VisitsOn, history_rules, nothing_seen, unseen}

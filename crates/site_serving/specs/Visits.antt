@@ -5,7 +5,6 @@ use Rattle.script_value.specs.declared.outcome.Reply.{Reply}
 use Rattle.script_value.specs.declared.outcome.Reply.TheVariants.{Refused, Worn}
 use Rattle.script_value.specs.declared.outcome.Refusal.TheVariants.{Unknown}
 use Rattle.page_names.specs.Names.{Destination}
-use Rattle.page_names.specs.Placing.{shelf_for}
 use Rattle.replay_spec.specs.Next.{Ticket}
 use Rattle.replay_spec.specs.Step.{take, sweep, compact, swept}
 use Rattle.site.specs.Shelves.{reply_of, compacted_of}
@@ -16,6 +15,7 @@ use Rattle.history_spec.specs.Passes.{publish_of}
 use Rattle.site.specs.Entries.{compacted_from, entry}
 use Rattle.site.specs.Opened.{Opened, book_then}
 use Rattle.site.specs.Passes.{has_freed}
+use Rattle.site.specs.Sites.{shelf_for}
 use Rattle.site.specs.Sound.{IsNoTicket}
 
 -- What a worker has seen of a shelf when a call of it is over: a beginning of the shelf's history; and the tick of its last sweep
