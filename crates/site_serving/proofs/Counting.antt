@@ -29,7 +29,7 @@ use Rattle.site.specs.declared.site.Site.{Site}
 use Rattle.site.specs.Entries.{entry}
 use Rattle.site.specs.Sound.{IsNoTicket}
 use Rattle.site.specs.Passes.{Known, Spots, seen_by, has_freed, GoesFrom, Took, Published, Swept, Compacted, Follows, Ticked}
-use Rattle.site.specs.Sites.{shelf_for, TakesOn, VisitsAt, Ticks}
+use Rattle.site.specs.Sites.{place_for, TakesOn, VisitsAt, Ticks}
 use Rattle.site.specs.Rules.{TicksAs, site_rules}
 use Rattle.site_serving.specs.Pages.{page_count, pages_in}
 
@@ -198,12 +198,12 @@ module _ {D N : Type 0} (view : D → View) (tells : Bool) (coming : N → ℕ �
       → Adds old new (visited reply).pages
   visits_adds old new target answer reply (inl (t, middle, took, published)) =
       adds_both old middle new 0 (visited reply).pages (visited reply).pages
-      (takes_adds (shelf_for (length old) (caller_at old) target) old middle target answer (Ok t) took)
+      (takes_adds (place_for (length old) (caller_at old) target) old middle target answer (Ok t) took)
       (at_adds published.0 (visited reply).pages (λ v w. Published view tells coming v t reply w) middle new published.2
       (λ v w p. published_adds v w t reply p))
       (omega arith)
   visits_adds old new target answer reply (inr took) =
-      let place = shelf_for (length old) (caller_at old) target in
+      let place = place_for (length old) (caller_at old) target in
       subst (Adds old new) (sym (takes_counts place old new target answer reply took)) (takes_adds place old new target answer (Err reply) took)
 
   ticks_adds : (old new : Spots D N) (tick : ℕ) (answers : List (Result ℕ Reply)) → Ticks view tells coming old tick answers new → Adds old new 0

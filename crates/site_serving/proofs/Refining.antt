@@ -1,6 +1,6 @@
 -- What a pass of a site knows, and what a worker has seen: the one stands for the other.
 use Rattle.std.proofs.Common.{◌≡◌, ◌⊎◌, inl, inr, ◌∙◌, ◌≤◌, ◌<◌, ◌==◌, ℕ, zero, suc, Bool, true, false, cond, List, [], ◌∷◌, ◌++◌, map, length, Option, Some, None, Result, Ok, Err, slice_get, set, length-append, refl, ap, sym, subst, arith}
-use Rattle.std.specs.Prelude.{⊤}
+use Rattle.std.specs.Prelude.{⊤, nat_lt, if◌then◌else◌}
 use Rattle.std.proofs.lemmas.Bool.Decides.{nat_tests}
 use Rattle.std.proofs.lemmas.List.Elements.{filter-append}
 use Rattle.web_disk.specs.View.{View}
@@ -11,7 +11,8 @@ use Rattle.script_value.specs.Val.{Val}
 use Rattle.script_value.specs.declared.outcome.Reply.{Reply}
 use Rattle.script_value.specs.declared.outcome.Reply.TheVariants as replies
 use Rattle.script_value.specs.declared.outcome.Refusal.TheVariants as refusals
-use Rattle.page_names.specs.Names.{Destination, page, start}
+use Rattle.page_names.specs.Names.{Destination}
+use Rattle.page_names.specs.Placing.{shelf_for}
 use Rattle.replay_spec.specs.Step as step
 use Rattle.site.specs.Shelves.{Ticket, ticket_of, reply_of, compacted_of}
 use Rattle.http_forms.specs.Passes as passes
@@ -31,7 +32,7 @@ use Rattle.site.specs.Opened.{Opened}
 use Rattle.site.specs.Openings.{IsOwnOpening, book_then, count_of, opened_of, source_of, start_of}
 use Rattle.site.specs.Passes.{Compacted, Follows, GoesFrom, Known, Published, Spots, Swept, Ticked, Took, has_freed, seen_by}
 use Rattle.site.specs.Rules.{TicksAs, site_rules}
-use Rattle.site.specs.Sites.{PublishesAt, TakesOn, VisitsAt, shelf_for}
+use Rattle.site.specs.Sites.{PublishesAt, TakesOn, VisitsAt, place_for}
 use Rattle.site_serving.specs.Serving.{AreSeenBy, opened_as, openings_of}
 use Rattle.site_serving.proofs.Moving.{worked}
 use Rattle.site_serving.specs.Visits.{AreSwept, HappensAt, IsCompacted, IsFollowed, IsSwept, IsTicked, IsVisited, IsWorn, Makes, Seen, SweepsOn, VisitsOn, history_rules, nothing_seen, unseen}
@@ -45,6 +46,11 @@ own_one e c is = let yes : (e.caller == c) ≡ true = grind (arith, nat_tests) i
 is_none : {A : Type 0} (xs : List A) → length xs ≡ 0 → xs ≡ []
 is_none [] e = refl
 is_none (x ∷ xs) e = absurd (omega (arith, e))
+
+-- among no shelves none has a place
+none_of_none : (n : ℕ) → ◌≡◌ {A = Option ℕ} (if nat_lt n 0 then Some n else None) None
+none_of_none zero = refl
+none_of_none (suc n) = refl
 
 -- what stands between is of others, where the caller has no more entries than those added
 others_only : (c : ℕ) (seen between added : List Entry) → own_of c added ≡ added → own_of c ((seen ++ between) ++ added) ≡ own_of c seen ++ added
@@ -288,19 +294,18 @@ module _ {D N : Type 0} (view : D → View) (tells : Bool) (coming : N → ℕ �
   as_many (o ∷ openings) (a ∷ pass) (s ∷ seen) all = ap suc (as_many openings pass seen all.1)
 
   -- a pass and its worker find the same shelf for a target
-  no_place : (target : Destination) → shelf_for 0 0 target ≡ shelf_for 0 worker target
-  no_place (start name) = refl
-  no_place (page name n) = refl
+  no_place : (target : Destination) → place_for 0 0 target ≡ place_for 0 worker target
+  no_place target = none_of_none (shelf_for 0 0 target) ∙ sym (none_of_none (shelf_for 0 worker target))
 
   same_place : (openings : List (Opening D N)) (pass : Spots D N) (seen : List Seen) (target : Destination) → KnowsAll openings pass seen
-      → shelf_for (length pass) (caller_at pass) target ≡ shelf_for (length seen) worker target
+      → place_for (length pass) (caller_at pass) target ≡ place_for (length seen) worker target
   same_place [] [] [] target all = no_place target
   same_place [] [] (s ∷ seen) target all = absurd all
   same_place [] (a ∷ pass) seen target all = absurd all
   same_place (o ∷ openings) [] seen target all = absurd all
   same_place (o ∷ openings) (a ∷ pass) [] target all = absurd all
   same_place (o ∷ openings) (a ∷ pass) (s ∷ seen) target all =
-      ap (λ c. shelf_for (length (a ∷ pass)) c target) all.0.caller ∙ ap (λ n. shelf_for n worker target) (all_length (o ∷ openings) (a ∷ pass) (s ∷ seen) all)
+      ap (λ c. place_for (length (a ∷ pass)) c target) all.0.caller ∙ ap (λ n. place_for n worker target) (all_length (o ∷ openings) (a ∷ pass) (s ∷ seen) all)
 
   module _ (openings : List (Opening D N)) where
     abbrev Visited : Option ℕ → Destination → Val → Reply → List Seen → List Seen → Type 0
@@ -318,16 +323,16 @@ module _ {D N : Type 0} (view : D → View) (tells : Bool) (coming : N → ℕ �
 
     -- a visit with a ticket
     visits_taken : (place : Option ℕ) (p middle p' : Spots D N) (q : List Seen) (target : Destination) (answer : Val) (t : Ticket) (reply : Reply)
-        → place ≡ shelf_for (length p) (caller_at p) target → KnowsAll openings p q
+        → place ≡ place_for (length p) (caller_at p) target → KnowsAll openings p q
         → TakesOn view tells coming place p target answer (Ok t) middle → PublishesAt view tells coming middle t reply p'
         → (q' : List Seen) × KnowsAll openings p' q' × Visited place target answer reply q q'
     visits_taken None p middle p' q target answer t reply is all took published = absurd (let e = took.0 in let no : ⊥ = cc e in no)
     visits_taken (Some k) p middle p' q target answer t reply is all took (j, j_is, at) =
         let one = happens (λ v w. Took view tells coming v target answer (Ok t) w) (TakesTicket target answer t) (taken target answer t) k openings p middle q all took in
         let many : length one.0 ≡ length q = as_many openings middle one.0 one.1 ∙ sym (as_many openings p q all) in
-        let there : Some j ≡ shelf_for (length q) worker target =
+        let there : Some j ≡ place_for (length q) worker target =
         sym j_is ∙ (same_place openings middle one.0 (ticket_of t).target one.1
-        ∙ (ap (λ n. shelf_for n worker (ticket_of t).target) many ∙ ap (λ d. shelf_for (length q) worker d) took.4.target_is)) in
+        ∙ (ap (λ n. place_for n worker (ticket_of t).target) many ∙ ap (λ d. place_for (length q) worker d) took.4.target_is)) in
         let same : j ≡ k = one_of (there ∙ sym (is ∙ same_place openings p q target all)) in
         let two = happens (λ v w. Published view tells coming v t reply w) (Publishes t reply) (published t reply) k openings middle p' one.0 one.1
         (subst (λ i. At i (λ v w. Published view tells coming v t reply w) middle p') same at) in
@@ -339,13 +344,13 @@ module _ {D N : Type 0} (view : D → View) (tells : Bool) (coming : N → ℕ �
         )
 
     visits : (p p' : Spots D N) (q : List Seen) (target : Destination) (answer : Val) (reply : Reply) → KnowsAll openings p q
-        → VisitsAt view tells coming p target answer reply p' → (q' : List Seen) × KnowsAll openings p' q' × Visited (shelf_for (length q) worker target) target answer reply q q'
+        → VisitsAt view tells coming p target answer reply p' → (q' : List Seen) × KnowsAll openings p' q' × Visited (place_for (length q) worker target) target answer reply q q'
     visits p p' q target answer reply all (inl (t, middle, took, published)) =
         subst (λ place. (q' : List Seen) × KnowsAll openings p' q' × Visited place target answer reply q q') (same_place openings p q target all)
-        (visits_taken (shelf_for (length p) (caller_at p) target) p middle p' q target answer t reply refl all took published)
+        (visits_taken (place_for (length p) (caller_at p) target) p middle p' q target answer t reply refl all took published)
     visits p p' q target answer reply all (inr took) =
         subst (λ place. (q' : List Seen) × KnowsAll openings p' q' × Visited place target answer reply q q') (same_place openings p q target all)
-        (visits_untaken (shelf_for (length p) (caller_at p) target) p p' q target answer reply all took)
+        (visits_untaken (place_for (length p) (caller_at p) target) p p' q target answer reply all took)
 
   -- each shelf was swept
   all_swept : (tick : ℕ) (openings : List (Opening D N)) (old new : Spots D N) (seen : List Seen) (answers : List (Result ℕ Reply)) → KnowsAll openings old seen

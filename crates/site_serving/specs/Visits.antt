@@ -15,7 +15,7 @@ use Rattle.history_spec.specs.Passes.{publish_of}
 use Rattle.site.specs.Entries.{compacted_from, entry}
 use Rattle.site.specs.Opened.{Opened, book_then}
 use Rattle.site.specs.Passes.{has_freed}
-use Rattle.site.specs.Sites.{shelf_for}
+use Rattle.site.specs.Sites.{place_for}
 use Rattle.site.specs.Sound.{IsNoTicket}
 
 -- What a worker has seen of a shelf when a call of it is over: a beginning of the shelf's history; and the tick of its last sweep
@@ -120,6 +120,6 @@ SweepsOn openings worker tick (Err e) old new = new ≡ old
 abbrev pub history_rules : List Opened → (worker : ℕ) → PassRules (List Seen)
 history_rules openings worker = record {
   IsOwn = λ seen. ⊤;
-  Visits = λ old target answer reply new. VisitsOn (shelf_for (length old) worker target) openings worker target answer reply old new;
+  Visits = λ old target answer reply new. VisitsOn (place_for (length old) worker target) openings worker target answer reply old new;
   Ticks = λ old tick swept new. SweepsOn openings worker tick swept old new;
 }
