@@ -1,6 +1,6 @@
 -- What a pass of a site knows, and what a worker has seen: the one stands for the other.
-use Rattle.std.proofs.Common.{◌≡◌, ◌⊎◌, inl, inr, ◌∙◌, ◌≤◌, ◌<◌, ◌==◌, ℕ, zero, suc, Bool, true, false, cond, List, [], ◌∷◌, ◌++◌, map, length, Option, Some, None, Result, Ok, Err, slice_get, set, length-append, refl, ap, sym, subst, arith}
-use Rattle.std.specs.Prelude.{⊤, nat_lt, if◌then◌else◌}
+use Rattle.std.proofs.Common.{◌≡◌, ◌⊎◌, inl, inr, ◌∙◌, ◌≤◌, ◌<◌, ◌==◌, ℕ, zero, suc, Bool, true, false, cond, List, [], ◌∷◌, ◌++◌, map, length, Option, Some, None, Result, Ok, Err, slice_get, set, length-append, refl, ap, sym, subst, arith, le-ltb}
+use Rattle.std.specs.Prelude.{⊤}
 use Rattle.std.proofs.lemmas.Bool.Decides.{nat_tests}
 use Rattle.std.proofs.lemmas.List.Elements.{filter-append}
 use Rattle.web_disk.specs.View.{View}
@@ -48,9 +48,10 @@ is_none [] e = refl
 is_none (x ∷ xs) e = absurd (omega (arith, e))
 
 -- among no shelves none has a place
-none_of_none : (n : ℕ) → ◌≡◌ {A = Option ℕ} (if nat_lt n 0 then Some n else None) None
-none_of_none zero = refl
-none_of_none (suc n) = refl
+none_of_none : (worker : ℕ) (target : Destination) → place_for 0 worker target ≡ None
+none_of_none worker target =
+    let k = shelf_for 0 worker target in
+    ap (λ (b : Bool). cond b (Some k) None) (le-ltb k 0 (omega arith))
 
 -- what stands between is of others, where the caller has no more entries than those added
 others_only : (c : ℕ) (seen between added : List Entry) → own_of c added ≡ added → own_of c ((seen ++ between) ++ added) ≡ own_of c seen ++ added
@@ -295,7 +296,7 @@ module _ {D N : Type 0} (view : D → View) (tells : Bool) (coming : N → ℕ �
 
   -- a pass and its worker find the same shelf for a target
   no_place : (target : Destination) → place_for 0 0 target ≡ place_for 0 worker target
-  no_place target = none_of_none (shelf_for 0 0 target) ∙ sym (none_of_none (shelf_for 0 worker target))
+  no_place target = none_of_none 0 target ∙ sym (none_of_none worker target)
 
   same_place : (openings : List (Opening D N)) (pass : Spots D N) (seen : List Seen) (target : Destination) → KnowsAll openings pass seen
       → place_for (length pass) (caller_at pass) target ≡ place_for (length seen) worker target
