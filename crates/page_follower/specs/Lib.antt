@@ -1,4 +1,5 @@
 pub mod Acks
+pub mod Calls
 pub mod Causes
 pub mod Comparing
 pub mod Computed

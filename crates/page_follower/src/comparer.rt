@@ -1,5 +1,6 @@
 ghost use Rattle.std.specs.Prelude.{◌≡◌, ◌≤◌, ◌<◌, ◌+◌, ◌^◌, None};
-ghost use Rattle.page_follower.specs.Comparing.{Compares, HoldsTheSame, Tells, progress};
+ghost use Rattle.page_follower.specs.Calls.{ComparesHeld};
+ghost use Rattle.page_follower.specs.Comparing.{HoldsTheSame, Tells, progress};
 
 use crate::fault::FollowEnd;
 use crate::reader::{Compared, FeedReader};
@@ -38,8 +39,7 @@ impl<S: Source, O: Sink> Comparer<'_, S, O> {
         requires room { self.old.acks < 2 ^ 63 }
         requires goes_on { self.old.ending ≡ None }
         ensures same { HoldsTheSame self.old self.new }
-        ensures compares { Compares (progress S.view O.view self.old)
-            (progress S.view O.view self.new) body.now self.new.ending }
+        ensures compares { ComparesHeld S.view O.view self.old body.now self.new }
         ensures acks { self.new.acks ≤ self.old.acks + 1 }
     {
         let place = self.reader.place();

@@ -1,11 +1,10 @@
 ghost use Rattle.std.specs.Prelude.{◌≡◌, IsTrue, OnOk};
 ghost use Rattle.shelf.specs.WebOutside.Pieces.{HandsOn};
 ghost use Rattle.shelf.specs.PageJournal.Scanned.{IsQuiet};
-ghost use Rattle.shelf.specs.PageJournal.Settled.{bodies_in, view_of};
+ghost use Rattle.shelf.specs.PageJournal.Settled.{view_of};
 ghost use Rattle.shelf.specs.Following.{IsReadable};
 ghost use Rattle.shelf.specs.Views.{IsInOrder};
-ghost use Rattle.page_follower.specs.Causes.{HasExportCauses};
-ghost use Rattle.page_follower.specs.Exporting.{Exports, SendsAll};
+ghost use Rattle.page_follower.specs.Calls.{ExportsRecords, FailsExporting, SendsRecords};
 ghost use Rattle.page_follower.specs.declared.exporting.ExportFault.TheVariants as fault;
 
 use crate::sender::Sender;
@@ -35,11 +34,11 @@ impl From<Failed> for ExportFault {
 // Writes the records of a journal as those of a feed, as far as writes go.
 fn send_all<D: Disk, N, O: Sink>(shelf: &mut Shelf<D, N>, sink: &mut O) -> Result<(), ExportFault>
     requires { IsReadable D.view D.tells shelf.old }
-    ensures sends { IsTrue D.tells → SendsAll (O.view sink.old) (O.view sink.new)
-        (bodies_in D.view shelf.old.journal) result }
+    ensures sends { IsTrue D.tells →
+        SendsRecords D.view O.view shelf.old sink.old sink.new result }
     // So it is on any disk, also on one that does not tell its bytes.
-    ensures causes { HasExportCauses (O.view sink.old) (O.view sink.new)
-        (view_of D.view shelf.old.journal) (view_of D.view shelf.new.journal) result }
+    ensures causes { FailsExporting D.view O.view
+        shelf.old sink.old shelf.new sink.new result }
     ensures quiet { IsQuiet (view_of D.view shelf.old.journal) (view_of D.view shelf.new.journal) }
     ensures readable { IsReadable D.view D.tells shelf.new }
     ensures in_order { IsInOrder D.view D.tells shelf.old → IsInOrder D.view D.tells shelf.new }
@@ -59,11 +58,11 @@ fn send_all<D: Disk, N, O: Sink>(shelf: &mut Shelf<D, N>, sink: &mut O) -> Resul
 /// Writes the feed of a shelf's records, and hands it on. Nothing is written on its disk.
 pub fn export<D: Disk, N, O: Sink>(shelf: &mut Shelf<D, N>, sink: &mut O) -> Result<(), ExportFault>
     requires { IsReadable D.view D.tells shelf.old }
-    ensures exports { IsTrue D.tells → Exports (O.view sink.old) (O.view sink.new)
-        (bodies_in D.view shelf.old.journal) result }
+    ensures exports { IsTrue D.tells →
+        ExportsRecords D.view O.view shelf.old sink.old sink.new result }
     // So it is on any disk, also on one that does not tell its bytes.
-    ensures causes { HasExportCauses (O.view sink.old) (O.view sink.new)
-        (view_of D.view shelf.old.journal) (view_of D.view shelf.new.journal) result }
+    ensures causes { FailsExporting D.view O.view
+        shelf.old sink.old shelf.new sink.new result }
     ensures handed { OnOk result (HandsOn (O.view sink.new).written (O.view sink.new).handed) }
     ensures quiet { IsQuiet (view_of D.view shelf.old.journal) (view_of D.view shelf.new.journal) }
     ensures readable { IsReadable D.view D.tells shelf.new }

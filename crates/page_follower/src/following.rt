@@ -1,12 +1,10 @@
 ghost use Rattle.std.specs.Prelude.{◌≡◌, ◌≤◌, ◌<◌, None, Some, false, true, IsTrue};
-ghost use Rattle.shelf.specs.PageJournal.Settled.{bodies_in, view_of};
 ghost use Rattle.shelf.specs.Views.{follows_in};
 ghost use Rattle.shelf.specs.Following.{CanBeFed, IsInOrderIfFed, IsReadable};
-ghost use Rattle.page_follower.specs.Causes.{HasCauses, faults_at, faults_of};
+ghost use Rattle.page_follower.specs.Calls.{FailsFeeding, FailsFor, FailsGoingOn, FailsIfFed, FeedsAll, FeedsNext, FeedsRest, FollowsFeed, StaysUnfed};
 ghost use Rattle.page_follower.specs.Comparing.{HoldsTheSame, progress};
 ghost use Rattle.page_follower.specs.Ends.{end_for};
-ghost use Rattle.page_follower.specs.Held.{Adopting, AdoptsNext, Begins, Feeds, HasFollowed};
-ghost use Rattle.page_follower.specs.Moments.{HasFed};
+ghost use Rattle.page_follower.specs.Held.{Begins};
 ghost use Rattle.page_follower.specs.Keeping.{IsBookOfHeld, IsKept};
 
 use crate::comparer::Comparer;
@@ -61,14 +59,10 @@ impl<S: Source, O: Sink> Comparer<'_, S, O> {
         requires can { CanBeFed shelf.old }
         requires in_order { IsInOrderIfFed D.view D.tells shelf.old }
         ensures same { HoldsTheSame self.old self.new }
-        ensures adopts { IsTrue D.tells → AdoptsNext D.view (progress S.view O.view self.old)
-            (progress S.view O.view self.new) shelf.old.journal.disk shelf.new.journal.disk
-            (bodies_in D.view shelf.old.journal) (bodies_in D.view shelf.new.journal)
-            self.new.ending }
-        ensures causes { HasCauses
-            (faults_at (progress S.view O.view self.old) (view_of D.view shelf.old.journal))
-            (faults_at (progress S.view O.view self.new) (view_of D.view shelf.new.journal))
-            self.new.ending }
+        ensures adopts { IsTrue D.tells →
+            FeedsNext S.view O.view D.view self.old shelf.old self.new shelf.new }
+        ensures causes { FailsFeeding S.view O.view D.view
+            self.old shelf.old self.new shelf.new self.new.ending }
         ensures kept { IsKept shelf.old shelf.new self.new.ending }
         ensures in_order { IsInOrderIfFed D.view D.tells shelf.new }
         ensures nearer { self.new.ending ≡ None → self.old.reader.place < self.new.reader.place }
@@ -94,15 +88,10 @@ impl<S: Source, O: Sink> Comparer<'_, S, O> {
         ensures ending { self.new.ending ≡ Some result }
         ensures ended { (self.old.ending ≡ None → ⊥) →
             (self.new ≡ self.old) × (shelf.new ≡ shelf.old) }
-        ensures adopts { IsTrue D.tells → self.old.ending ≡ None → Adopting D.view
-            (progress S.view O.view self.old) (progress S.view O.view self.new)
-            shelf.old.journal.disk shelf.new.journal.disk
-            (bodies_in D.view shelf.old.journal) (bodies_in D.view shelf.new.journal)
-            self.new.ending }
-        ensures causes { self.old.ending ≡ None → HasCauses
-            (faults_at (progress S.view O.view self.old) (view_of D.view shelf.old.journal))
-            (faults_at (progress S.view O.view self.new) (view_of D.view shelf.new.journal))
-            (Some result) }
+        ensures adopts { IsTrue D.tells →
+            FeedsRest S.view O.view D.view self.old shelf.old self.new shelf.new }
+        ensures causes { FailsGoingOn S.view O.view D.view
+            self.old shelf.old self.new shelf.new (Some result) }
         ensures kept { self.old.ending ≡ None → IsKept shelf.old shelf.new (Some result) }
         ensures in_order { IsInOrderIfFed D.view D.tells shelf.new }
     {
@@ -122,15 +111,10 @@ impl<S: Source, O: Sink> Comparer<'_, S, O> {
         requires can { CanBeFed shelf.old }
         requires in_order { IsInOrderIfFed D.view D.tells shelf.old }
         ensures same { HoldsTheSame self.old self.new }
-        ensures feeds { IsTrue D.tells → Feeds
-            (HasFed D.view (bodies_in D.view shelf.old.journal)
-            shelf.old.journal.disk shelf.new.journal.disk)
-            (progress S.view O.view self.old) (progress S.view O.view self.new)
-            (bodies_in D.view shelf.old.journal) (bodies_in D.view shelf.new.journal) result }
-        ensures causes { HasCauses
-            (faults_at (progress S.view O.view self.old) (view_of D.view shelf.old.journal))
-            (faults_at (progress S.view O.view self.new) (view_of D.view shelf.new.journal))
-            (Some result) }
+        ensures feeds { IsTrue D.tells →
+            FeedsAll S.view O.view D.view self.old shelf.old self.new shelf.new result }
+        ensures causes { FailsFeeding S.view O.view D.view
+            self.old shelf.old self.new shelf.new (Some result) }
         ensures kept { IsKept shelf.old shelf.new (Some result) }
         ensures in_order { IsInOrderIfFed D.view D.tells shelf.new }
     {
@@ -151,15 +135,10 @@ fn follow_on<D: Disk, N, S: Source, O: Sink>(
     requires readable { IsReadable D.view D.tells shelf.old }
     requires can { CanBeFed shelf.old }
     requires in_order { IsInOrderIfFed D.view D.tells shelf.old }
-    ensures follows { IsTrue D.tells → HasFollowed
-        (HasFed D.view (bodies_in D.view shelf.old.journal)
-        shelf.old.journal.disk shelf.new.journal.disk)
-        (S.view source.old) (S.view source.new) (O.view sink.old) (O.view sink.new)
-        (bodies_in D.view shelf.old.journal) (bodies_in D.view shelf.new.journal) result }
-    ensures causes { HasCauses
-        (faults_of (S.view source.old) (O.view sink.old) (view_of D.view shelf.old.journal))
-        (faults_of (S.view source.new) (O.view sink.new) (view_of D.view shelf.new.journal))
-        (Some result) }
+    ensures follows { IsTrue D.tells → FollowsFeed S.view O.view D.view
+        source.old sink.old shelf.old source.new sink.new shelf.new result }
+    ensures causes { FailsFor S.view O.view D.view
+        source.old sink.old shelf.old source.new sink.new shelf.new result }
     ensures kept { IsKept shelf.old shelf.new (Some result) }
     ensures in_order { IsInOrderIfFed D.view D.tells shelf.new }
 {
@@ -183,18 +162,13 @@ pub fn follow<D: Disk, N, S: Source, O: Sink>(
     requires can { follows_in shelf.old ≡ true → CanBeFed shelf.old }
     requires in_order { IsInOrderIfFed D.view D.tells shelf.old }
     ensures leads { follows_in shelf.old ≡ false → result ≡ FollowEnd.Promoted }
-    ensures same { follows_in shelf.old ≡ false →
-        (shelf.new ≡ shelf.old) × ((source.new ≡ source.old) × (sink.new ≡ sink.old)) }
-    ensures follows { follows_in shelf.old ≡ true → IsTrue D.tells → HasFollowed
-        (HasFed D.view (bodies_in D.view shelf.old.journal)
-        shelf.old.journal.disk shelf.new.journal.disk)
-        (S.view source.old) (S.view source.new) (O.view sink.old) (O.view sink.new)
-        (bodies_in D.view shelf.old.journal) (bodies_in D.view shelf.new.journal) result }
+    ensures same { StaysUnfed source.old sink.old shelf.old source.new sink.new shelf.new }
+    ensures follows { follows_in shelf.old ≡ true → IsTrue D.tells →
+        FollowsFeed S.view O.view D.view
+        source.old sink.old shelf.old source.new sink.new shelf.new result }
     // So it is on any disk, also on one that does not tell its bytes.
-    ensures causes { follows_in shelf.old ≡ true → HasCauses
-        (faults_of (S.view source.old) (O.view sink.old) (view_of D.view shelf.old.journal))
-        (faults_of (S.view source.new) (O.view sink.new) (view_of D.view shelf.new.journal))
-        (Some result) }
+    ensures causes { FailsIfFed S.view O.view D.view
+        source.old sink.old shelf.old source.new sink.new shelf.new result }
     ensures kept { follows_in shelf.old ≡ true → IsKept shelf.old shelf.new (Some result) }
     ensures book { IsTrue D.tells → IsBookOfHeld D.view shelf.new }
     ensures in_order { IsInOrderIfFed D.view D.tells shelf.new }
