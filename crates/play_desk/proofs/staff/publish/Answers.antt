@@ -49,8 +49,8 @@ place_is view xs count place worker t len is o =
     (same, subst (λ k. k < length xs) same low)
 
 -- the place of a ticket's shelf, where its worker's number is another number's
-placed : {count place number worker : ℕ} (t : Ticket) → place ≡ place_of count number t → number ≡ worker → place ≡ place_of count worker t
-placed {count} t is same = is ∙ ap (λ w. place_of count w t) same
+placed : (count place number worker : ℕ) (t : Ticket) → place ≡ place_of count number t → number ≡ worker → place ≡ place_of count worker t
+placed count place number worker t is same = is ∙ ap (λ w. place_of count w t) same
 
 pub shelf_for-place-requires : goal.shelf_for-place-requires
 shelf_for-place-requires g c =
@@ -62,7 +62,7 @@ pub index_mut-shelf-requires : goal.index_mut-shelf-requires
 index_mut-shelf-requires g c =
     let s = c.args.staff.now in
     let o = c.requires.fit.unspent c.args.worker c.in-Some.ticket c.in-Some.ensures.ticket in
-    let at = place_is g.D.Disk.view s.shelves.items c.len.result _ c.args.worker c.in-Some.ticket (c.len.ensures ∙ s.shelves.ok.0) (placed c.in-Some.ticket c.shelf_for-place.ensures c.from.ensures) o in
+    let at = place_is g.D.Disk.view s.shelves.items c.len.result _ c.args.worker c.in-Some.ticket (c.len.ensures ∙ s.shelves.ok.0) (placed c.len.result c.shelf_for-place.result c.from.result c.args.worker c.in-Some.ticket c.shelf_for-place.ensures c.from.ensures) o in
     omega (arith, at.1, s.shelves.ok)
 
 -- the ticket is unspent on the shelf in its place
@@ -80,7 +80,7 @@ segment_of-segment-requires-clause-fits g c =
     let t = c.in-Some.ticket in
     subst (λ (l : Library). IsRunnable (library_of l).all t) (sym c.library.ensures)
     (held_there_so g.D.Disk.view g.D.Disk.tells s.shelves.items s.tickets c.len.result c.shelf_for-place.result c.args.worker x x t c.requires.fit
-    c.in-Some.ensures.ticket (c.len.ensures ∙ s.shelves.ok.0) (placed c.in-Some.ticket c.shelf_for-place.ensures c.from.ensures) c.index_mut-shelf.ensures.value).runs
+    c.in-Some.ensures.ticket (c.len.ensures ∙ s.shelves.ok.0) (placed c.len.result c.shelf_for-place.result c.from.result c.args.worker c.in-Some.ticket c.shelf_for-place.ensures c.from.ensures) c.index_mut-shelf.ensures.value).runs
 
 pub publish-requires-clause-in_order : goal.publish-requires-clause-in_order
 publish-requires-clause-in_order g c =
@@ -88,7 +88,7 @@ publish-requires-clause-in_order g c =
     let x = c.index_mut-shelf.result.now in
     let k = c.shelf_for-place.result in
     let o = c.requires.fit.unspent c.args.worker c.in-Some.ticket c.in-Some.ensures.ticket in
-    let at = place_is g.D.Disk.view s.shelves.items c.len.result k c.args.worker c.in-Some.ticket (c.len.ensures ∙ s.shelves.ok.0) (placed c.in-Some.ticket c.shelf_for-place.ensures c.from.ensures) o in
+    let at = place_is g.D.Disk.view s.shelves.items c.len.result k c.args.worker c.in-Some.ticket (c.len.ensures ∙ s.shelves.ok.0) (placed c.len.result c.shelf_for-place.result c.from.result c.args.worker c.in-Some.ticket c.shelf_for-place.ensures c.from.ensures) o in
     c.requires.fit.in_order k x (at_index s.shelves.items k x x at.1 c.index_mut-shelf.ensures.value)
 
 pub publish-requires-clause-out : goal.publish-requires-clause-out
@@ -96,28 +96,28 @@ publish-requires-clause-out g c =
     let s = c.args.staff.now in
     let x = c.index_mut-shelf.result.now in
     (held_there_so g.D.Disk.view g.D.Disk.tells s.shelves.items s.tickets c.len.result c.shelf_for-place.result c.args.worker x x c.in-Some.ticket
-    c.requires.fit c.in-Some.ensures.ticket (c.len.ensures ∙ s.shelves.ok.0) (placed c.in-Some.ticket c.shelf_for-place.ensures c.from.ensures) c.index_mut-shelf.ensures.value).out
+    c.requires.fit c.in-Some.ensures.ticket (c.len.ensures ∙ s.shelves.ok.0) (placed c.len.result c.shelf_for-place.result c.from.result c.args.worker c.in-Some.ticket c.shelf_for-place.ensures c.from.ensures) c.index_mut-shelf.ensures.value).out
 
 pub publish-requires-clause-runs : goal.publish-requires-clause-runs
 publish-requires-clause-runs g c =
     let s = c.args.staff.now in
     let x = c.index_mut-shelf.result.now in
     (held_there_so g.D.Disk.view g.D.Disk.tells s.shelves.items s.tickets c.len.result c.shelf_for-place.result c.args.worker x x c.in-Some.ticket
-    c.requires.fit c.in-Some.ensures.ticket (c.len.ensures ∙ s.shelves.ok.0) (placed c.in-Some.ticket c.shelf_for-place.ensures c.from.ensures) c.index_mut-shelf.ensures.value).runs
+    c.requires.fit c.in-Some.ensures.ticket (c.len.ensures ∙ s.shelves.ok.0) (placed c.len.result c.shelf_for-place.result c.from.result c.args.worker c.in-Some.ticket c.shelf_for-place.ensures c.from.ensures) c.index_mut-shelf.ensures.value).runs
 
 pub publish-requires-clause-script : goal.publish-requires-clause-script
 publish-requires-clause-script g c =
     let s = c.args.staff.now in
     let x = c.index_mut-shelf.result.now in
     (held_there_so g.D.Disk.view g.D.Disk.tells s.shelves.items s.tickets c.len.result c.shelf_for-place.result c.args.worker x x c.in-Some.ticket
-    c.requires.fit c.in-Some.ensures.ticket (c.len.ensures ∙ s.shelves.ok.0) (placed c.in-Some.ticket c.shelf_for-place.ensures c.from.ensures) c.index_mut-shelf.ensures.value).script
+    c.requires.fit c.in-Some.ensures.ticket (c.len.ensures ∙ s.shelves.ok.0) (placed c.len.result c.shelf_for-place.result c.from.result c.args.worker c.in-Some.ticket c.shelf_for-place.ensures c.from.ensures) c.index_mut-shelf.ensures.value).script
 
 pub publish-requires-clause-goes : goal.publish-requires-clause-goes
 publish-requires-clause-goes g c =
     let s = c.args.staff.now in
     let x = c.index_mut-shelf.result.now in
     (held_there_so g.D.Disk.view g.D.Disk.tells s.shelves.items s.tickets c.len.result c.shelf_for-place.result c.args.worker x x c.in-Some.ticket
-    c.requires.fit c.in-Some.ensures.ticket (c.len.ensures ∙ s.shelves.ok.0) (placed c.in-Some.ticket c.shelf_for-place.ensures c.from.ensures) c.index_mut-shelf.ensures.value).goes
+    c.requires.fit c.in-Some.ensures.ticket (c.len.ensures ∙ s.shelves.ok.0) (placed c.len.result c.shelf_for-place.result c.from.result c.args.worker c.in-Some.ticket c.shelf_for-place.ensures c.from.ensures) c.index_mut-shelf.ensures.value).goes
 
 -- a ticket of an own shelf that is published is for the visit of its target
 visits : {D : Type 0} (view : D → View) (tells : Bool) (xs : List (Shelf D Counting)) (ts : List (Option Ticket)) (k worker : ℕ)
@@ -139,7 +139,7 @@ returns-clause-step g c own scripts =
     let t = c.in-Some.ticket in
     let e = c.publish.result in
     let o = c.requires.fit.unspent c.args.worker t c.in-Some.ensures.ticket in
-    let at = place_is g.D.Disk.view xs c.len.result k c.args.worker t (c.len.ensures ∙ s.shelves.ok.0) (placed t c.shelf_for-place.ensures c.from.ensures) o in
+    let at = place_is g.D.Disk.view xs c.len.result k c.args.worker t (c.len.ensures ∙ s.shelves.ok.0) (placed c.len.result c.shelf_for-place.result c.from.result c.args.worker t c.shelf_for-place.ensures c.from.ensures) o in
     let here = at_index xs k x x at.1 c.index_mut-shelf.ensures.value in
     let visit = visits view g.D.Disk.tells xs s.tickets k c.args.worker x t c.tickets_go_on_to_fit.ensures own here c.in-Some.ensures.ticket at.0 in
     let h = happens view x y _ (reply_of e) (c.publish.ensures.event visit) in
@@ -162,7 +162,7 @@ returns-clause-fit g c =
     let k = c.shelf_for-place.result in
     let t = c.in-Some.ticket in
     let o = c.requires.fit.unspent c.args.worker t c.in-Some.ensures.ticket in
-    let at = place_is g.D.Disk.view xs c.len.result k c.args.worker t (c.len.ensures ∙ s.shelves.ok.0) (placed t c.shelf_for-place.ensures c.from.ensures) o in
+    let at = place_is g.D.Disk.view xs c.len.result k c.args.worker t (c.len.ensures ∙ s.shelves.ok.0) (placed c.len.result c.shelf_for-place.result c.from.result c.args.worker t c.shelf_for-place.ensures c.from.ensures) o in
     let here = at_index xs k x x at.1 c.index_mut-shelf.ensures.value in
     subst (λ (ts : List (Option Ticket)). AreFit view g.D.Disk.tells (slice_set xs k y) ts) (sym c.in-Some.ensures.without)
     (fit_publish view g.D.Disk.tells xs s.tickets k c.args.worker x y t c.requires.fit here c.in-Some.ensures.ticket at.0
@@ -179,7 +179,7 @@ returns-clause-own g c own =
     let t = c.in-Some.ticket in
     let e = c.publish.result in
     let o = c.requires.fit.unspent c.args.worker t c.in-Some.ensures.ticket in
-    let at = place_is g.D.Disk.view xs c.len.result k c.args.worker t (c.len.ensures ∙ s.shelves.ok.0) (placed t c.shelf_for-place.ensures c.from.ensures) o in
+    let at = place_is g.D.Disk.view xs c.len.result k c.args.worker t (c.len.ensures ∙ s.shelves.ok.0) (placed c.len.result c.shelf_for-place.result c.from.result c.args.worker t c.shelf_for-place.ensures c.from.ensures) o in
     let here = at_index xs k x x at.1 c.index_mut-shelf.ensures.value in
     let unspent = of_held (IsUnspent view) xs s.tickets k c.args.worker x t c.requires.fit.unspent here c.in-Some.ensures.ticket at.0 in
     let visit = visits view g.D.Disk.tells xs s.tickets k c.args.worker x t c.tickets_go_on_to_fit.ensures own here c.in-Some.ensures.ticket at.0 in
@@ -196,7 +196,7 @@ returns-clause-there g c =
     let k = c.shelf_for-place.result in
     let t = c.in-Some.ticket in
     let o = c.requires.fit.unspent c.args.worker t c.in-Some.ensures.ticket in
-    let at = place_is g.D.Disk.view xs c.len.result k c.args.worker t (c.len.ensures ∙ s.shelves.ok.0) (placed t c.shelf_for-place.ensures c.from.ensures) o in
+    let at = place_is g.D.Disk.view xs c.len.result k c.args.worker t (c.len.ensures ∙ s.shelves.ok.0) (placed c.len.result c.shelf_for-place.result c.from.result c.args.worker t c.shelf_for-place.ensures c.from.ensures) o in
     let here = at_index xs k x x at.1 c.index_mut-shelf.ensures.value in
     record {
       numbers = numbers_set xs k x y here c.publish.ensures.rules;
