@@ -13,7 +13,7 @@ use shelf::{AdoptFault, BeginFault};
 use std::alloc::Global;
 use std::test::Fail;
 use test_compactions::files::{Files, Place, Trouble, Wrong, disks_of, left_by};
-use test_shelves::MemoryShelf;
+use test_shelves::{MemoryShelf, put_away};
 use web_disk::{MemoryDisk, Wreck};
 
 /// The disks of a shelf.
@@ -48,8 +48,8 @@ pub const WRECKS: &[Wreck] = &[
     },
 ];
 
-// After so many calls of each of its disks a shelf is opened that follows, and was fed four records.
-const MOST_CALLS: u64 = 40;
+// Each disk makes fewer calls until a shelf is opened that follows, and was fed four records.
+const MOST_CALLS: u64 = 100;
 
 // What a shelf answers to a record.
 fn adopted(
@@ -74,7 +74,9 @@ fn answer(
     body: &[u8],
 ) -> Result<Result<(), AdoptFault>, Fail> {
     let mut shelf = opened_bare(alloc, files, opening)?;
-    adopted(alloc, &mut shelf, body)
+    let answer = adopted(alloc, &mut shelf, body);
+    put_away(shelf);
+    answer
 }
 
 // A record that no journal has, and one that each has after its first one.
@@ -233,7 +235,7 @@ impl Counts {
     }
 }
 
-// Counts how feeding went after which such a crash came. What is held then is what was adopted, or one record more; the whole feed goes on from there.
+// Counts how feeding went after which such a crash came, and tells it. What is held then is what was adopted, or one record more; the whole feed goes on from there.
 fn count_crash(
     alloc: Global,
     files: &Files,
@@ -241,7 +243,7 @@ fn count_crash(
     wrong: Wrong,
     wreck: Wreck,
     counts: &mut Counts,
-) -> Result<(), Fail> {
+) -> Result<Went, Fail> {
     let (went, disks) = fed_despite(alloc, files, bodies, wrong)?;
     let left = left_by(disks, wreck);
     let count = held_of(alloc, &left, bodies)?;
@@ -251,7 +253,45 @@ fn count_crash(
     let feed = feed_with(alloc, bodies)?;
     let _whole = held(alloc, &left, &feed, bodies.len() as u64)?;
     counts.count(went, more_held(went, count));
-    Ok(())
+    Ok(went)
+}
+
+// Counts how feeding goes with this call wrong, and each of these crashes after it; and tells whether all records are adopted.
+fn count_crashes(
+    alloc: Global,
+    files: &Files,
+    bodies: &[Vec<u8>],
+    wrong: Wrong,
+    counts: &mut Counts,
+) -> Result<bool, Fail> {
+    let mut ended = false;
+    for wreck in WRECKS {
+        let went = count_crash(alloc, files, bodies, wrong, *wreck, counts)?;
+        ended = matches!(went, Went::Ended);
+    }
+    Ok(ended)
+}
+
+// Counts how feeding goes where a call of this disk is wrong, each in turn, up to one that is not made.
+fn count_calls(
+    alloc: Global,
+    files: &Files,
+    bodies: &[Vec<u8>],
+    place: Place,
+    trouble: Trouble,
+    counts: &mut Counts,
+) -> Result<(), Fail> {
+    for call in 0..MOST_CALLS {
+        let wrong = Wrong {
+            place,
+            trouble,
+            call,
+        };
+        if count_crashes(alloc, files, bodies, wrong, counts)? {
+            return Ok(());
+        }
+    }
+    Err(Fail::from("more calls"))
 }
 
 // How feeding goes where a call of one of the disks is wrong, each of those in turn, and after each of these crashes.
@@ -263,16 +303,7 @@ fn counted(alloc: Global, files: &Files, trouble: Trouble) -> Result<Counts, Fai
         more: 0,
     };
     for place in PLACES {
-        for call in 0..MOST_CALLS {
-            let wrong = Wrong {
-                place: *place,
-                trouble,
-                call,
-            };
-            for wreck in WRECKS {
-                count_crash(alloc, files, &bodies, wrong, *wreck, &mut counts)?;
-            }
-        }
+        count_calls(alloc, files, &bodies, *place, trouble, &mut counts)?;
     }
     Ok(counts)
 }

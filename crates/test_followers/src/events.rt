@@ -81,7 +81,7 @@ fn expect_following(alloc: Global, shelf: &mut MemoryShelf, clock: u64) -> Resul
     expect_no_visits(alloc, shelf)?;
     expect_clock(alloc, shelf, clock)?;
     match shelf.compact(alloc) {
-        Err(Reply::Following) => Ok(()),
+        Err(Reply::Following) if shelf.follows() => Ok(()),
         _ => Err(Fail::from("a compaction of a shelf that follows")),
     }
 }
@@ -92,9 +92,6 @@ fn asked(alloc: Global, files: &Files, setup: &Setup, clock: u64) -> Result<File
 {
     let mut shelf = opened(alloc, files, setup, RULES)?;
     expect_following(alloc, &mut shelf, clock)?;
-    if !shelf.follows() {
-        return Err(Fail::from("a shelf that leads"));
-    }
     files_of(alloc, shelf)
 }
 

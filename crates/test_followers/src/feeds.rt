@@ -8,7 +8,7 @@ use page_follower::export;
 use std::alloc::Global;
 use std::test::Fail;
 use test_compactions::files::Files;
-use test_shelves::MemoryShelf;
+use test_shelves::{MemoryShelf, put_away};
 use web_outside::TextSink;
 
 /// The bytes that a feed begins with.
@@ -45,7 +45,9 @@ fn sent(alloc: Global, shelf: &mut MemoryShelf) -> Result<Vec<u8>, Fail>
 /// The feed of the shelf of these files.
 pub fn feed_of(alloc: Global, files: &Files) -> Result<Vec<u8>, Fail> {
     let mut shelf = opened_bare(alloc, files, Opening::AsItIs)?;
-    sent(alloc, &mut shelf)
+    let feed = sent(alloc, &mut shelf);
+    put_away(shelf);
+    feed
 }
 
 // The body of the record after the gate at this place of a file; none where the gate is closed.

@@ -123,11 +123,22 @@ pub fn waiting(alloc: Global) -> Result<Files, Fail> {
     held(alloc, &nothing(alloc), HEAD, 0)
 }
 
+// Promotes a shelf, which has to tell whether it followed; it follows no longer.
+fn expect_promotion(alloc: Global, shelf: &mut MemoryShelf, followed: bool) -> Result<(), Fail>
+    requires { IsInOrderIfFed trio_view true shelf.old }
+{
+    let Ok(told) = shelf.promote(alloc) else {
+        return Err(Fail::from("no promotion"));
+    };
+    if told == followed && !shelf.follows() {
+        return Ok(());
+    }
+    Err(Fail::from("another promotion"))
+}
+
 /// What stands on the disks of these files once they are promoted, which has to tell whether they followed; they follow no longer.
 pub fn promoted(alloc: Global, files: &Files, followed: bool) -> Result<Files, Fail> {
     let mut shelf = opened_bare(alloc, files, Opening::AsItIs)?;
-    match shelf.promote(alloc) {
-        Ok(told) if told == followed && !shelf.follows() => files_of(alloc, shelf),
-        _ => Err(Fail::from("another promotion")),
-    }
+    expect_promotion(alloc, &mut shelf, followed)?;
+    files_of(alloc, shelf)
 }

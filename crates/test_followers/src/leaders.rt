@@ -1,6 +1,9 @@
 //! Feeds of journals that were compacted, of an older format, and of several setups; and what a follower of each goes on with once it is promoted.
+ghost use Rattle.std.specs.Prelude.{true};
 ghost use Rattle.script_nodes.specs.Views.{scripts_of};
 ghost use Rattle.setup_reader.specs.Texts.{IsReadSetup};
+ghost use Rattle.disk_trio.specs.Trio.{trio_view};
+ghost use Rattle.shelf.specs.Views.{IsInOrder};
 
 use crate::feeds::{bodies_in, feed_of, feed_with};
 use crate::followed::{followed, follower, held, promoted};
@@ -14,7 +17,7 @@ use test_compactions::files::{Files, files_of};
 use test_compactions::old::{SCRIPTS, file_of, files_with};
 use test_compactions::records::{DRAWN, FORMAT_1, FORMAT_2, FORMAT_3, RENEWED};
 use test_compactions::visits::{Told, Visit, compacted, expect_visits};
-use test_shelves::setup;
+use test_shelves::{MemoryShelf, setup};
 
 // What stands on the disks of a new follower of the shelf of these files, which has so many records. Its feed is its leader's, and after another
 // feeding it is still.
@@ -139,9 +142,20 @@ fn compacted_behind(
     requires { IsReadSetup (scripts_of setup.now) }
 {
     let mut shelf = opened(alloc, files, setup, RULES)?;
-    expect_visits(alloc, &mut shelf, visits)?;
-    let _length = compacted(alloc, &mut shelf)?;
+    let _length = visited_and_compacted(alloc, &mut shelf, visits)?;
     files_of(alloc, shelf)
+}
+
+// How long the file is that a compaction makes after these visits.
+fn visited_and_compacted(
+    alloc: Global,
+    shelf: &mut MemoryShelf,
+    visits: &[Visit],
+) -> Result<u64, Fail>
+    requires { IsInOrder trio_view true shelf.old }
+{
+    expect_visits(alloc, shelf, visits)?;
+    compacted(alloc, shelf)
 }
 
 // A compaction leaves out the last visit. Behind the first record stands the number that is drawn next.

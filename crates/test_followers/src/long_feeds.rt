@@ -1,4 +1,8 @@
 //! The greatest length of a feed.
+ghost use Rattle.std.specs.Prelude.{◌≡◌, true};
+ghost use Rattle.disk_trio.specs.Trio.{trio_view};
+ghost use Rattle.shelf.specs.Following.{CanBeFed, IsInOrderIfFed, IsReadable};
+ghost use Rattle.shelf.specs.Views.{follows_in};
 
 use crate::feeds::HEAD;
 use crate::followed::{acks_in, follower};
@@ -8,6 +12,7 @@ use page_follower::{FeedFault, FollowEnd, follow};
 use std::alloc::Global;
 use std::test::Fail;
 use test_compactions::files::Files;
+use test_shelves::{MemoryShelf, put_away};
 use web_outside::{Failed, Source, TextSink};
 
 /// An input of a front and a block again and again after it, up to a length.
@@ -70,12 +75,42 @@ fn ended(
     front: &[u8],
     length: u64,
 ) -> Result<(FollowEnd, u64, u64), Fail> {
-    let mut shelf = opened_bare(alloc, files, Opening::ToFollow)?;
-    let zeros = vec![in alloc; 0u8; 4_096]?;
+    let zeros = zeros(alloc, 4_096)?;
     let mut source = LongSource::new(front.to_vec(alloc)?, zeros, length);
+    let (end, acks) = followed_by(alloc, files, &mut source)?;
+    Ok((end, acks, source.place))
+}
+
+// So many zeros.
+fn zeros(alloc: Global, count: usize) -> Result<Vec<u8>, Fail> {
+    Ok(vec![in alloc; 0u8; count]?)
+}
+
+// How following such a feed ends, and how many records are acknowledged, on the shelf of these files.
+fn followed_by(
+    alloc: Global,
+    files: &Files,
+    source: &mut LongSource,
+) -> Result<(FollowEnd, u64), Fail> {
+    let mut shelf = opened_bare(alloc, files, Opening::ToFollow)?;
+    let told = fed_from(alloc, &mut shelf, source);
+    put_away(shelf);
+    told
+}
+
+// How following such a feed ends, and how many records are acknowledged.
+fn fed_from(
+    alloc: Global,
+    shelf: &mut MemoryShelf,
+    source: &mut LongSource,
+) -> Result<(FollowEnd, u64), Fail>
+    requires readable { IsReadable trio_view true shelf.old }
+    requires can { follows_in shelf.old ≡ true → CanBeFed shelf.old }
+    requires in_order { IsInOrderIfFed trio_view true shelf.old }
+{
     let mut sink = TextSink::new(alloc, 100, Vec::new(alloc))?;
-    let end = follow(alloc, &mut shelf, &mut source, &mut sink);
-    Ok((end, acks_in(alloc, sink.bytes())?, source.place))
+    let end = follow(alloc, shelf, source, &mut sink);
+    Ok((end, acks_in(alloc, sink.bytes())?))
 }
 
 // The front of a feed whose first record has this length.

@@ -235,14 +235,17 @@ fn is_damage(alloc: Global, file: Vec<u8>, place: u64) -> Result<bool, Fail> {
     is_fault(alloc, &files, RULES, BeginFault::Damaged { place })
 }
 
-// A record that tells that a shelf follows, or was promoted, behind the records of a leader.
+// Whether a record that tells a shelf's role is damage after the records of a leader.
+fn is_damage_after(alloc: Global, leader: &Files, record: &[u8]) -> Result<bool, Fail> {
+    let file = joined(alloc, &[before_gate(&leader.a), record, b"\0"])?;
+    is_damage(alloc, file, 618)
+}
+
 #[test]
 fn behind_records_of_a_leader_they_are_damage(rt: HostRuntime) -> Result<(), Fail> {
     let alloc = rt.alloc();
     let leader = leader(alloc)?;
-    for record in [FOLLOW, PROMOTION] {
-        let file = joined(alloc, &[before_gate(&leader.a), record, b"\0"])?;
-        assert!(rt; is_damage(alloc, file, 618)?);
-    }
+    assert!(rt; is_damage_after(alloc, &leader, FOLLOW)?);
+    assert!(rt; is_damage_after(alloc, &leader, PROMOTION)?);
     Ok(())
 }

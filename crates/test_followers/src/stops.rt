@@ -1,7 +1,8 @@
 //! Following and promoting over disks that stop or fail at each of their calls.
-ghost use Rattle.std.specs.Prelude.{true};
+ghost use Rattle.std.specs.Prelude.{◌≡◌, true};
 ghost use Rattle.disk_trio.specs.Trio.{trio_view};
-ghost use Rattle.shelf.specs.Following.{IsInOrderIfFed};
+ghost use Rattle.shelf.specs.Following.{CanBeFed, IsInOrderIfFed, IsReadable};
+ghost use Rattle.shelf.specs.Views.{follows_in};
 
 use crate::adoptions::{PLACES, WRECKS};
 use crate::feeds::{bodies_in, feed_of, feed_with, first_of};
@@ -15,11 +16,24 @@ use shelf::BeginFault;
 use std::alloc::Global;
 use std::test::Fail;
 use test_compactions::files::{Files, Place, Trouble, Wrong, disks_of, left_by};
-use test_shelves::MemoryShelf;
-use web_disk::{MemoryDisk, Wreck};
+use test_shelves::{MemoryShelf, put_away};
+use web_disk::MemoryDisk;
 
-// After so many calls of each of its disks a shelf that follows has come to the end of a feed of four records.
-const MOST_CALLS: u64 = 40;
+// Each disk makes fewer calls until a shelf that follows has come to the end of a feed of four records, or is promoted.
+const MOST_CALLS: u64 = 100;
+
+// How many records of the feed are acknowledged, which is held, or ends where the disk fails.
+fn acked(alloc: Global, shelf: &mut MemoryShelf, feed: &[u8]) -> Result<u64, Fail>
+    requires readable { IsReadable trio_view true shelf.old }
+    requires can { follows_in shelf.old ≡ true → CanBeFed shelf.old }
+    requires in_order { IsInOrderIfFed trio_view true shelf.old }
+{
+    let (end, acks) = fed(alloc, shelf, feed, &FAIR)?;
+    match end {
+        FollowEnd::Held | FollowEnd::DiskFault => Ok(acks),
+        _ => Err(Fail::from("another end")),
+    }
+}
 
 // How many records of the feed were acknowledged that a journal without records follows, one of whose disks is wrong; and what is left of these.
 fn acked_despite(
@@ -30,12 +44,9 @@ fn acked_despite(
     let disks = disks_of(alloc, &bare(alloc)?, Some(wrong))?;
     match tried_bare(alloc, disks, Opening::ToFollow, RULES) {
         Ok(mut shelf) => {
-            let (end, acks) = fed(alloc, &mut shelf, feed, &FAIR)?;
+            let acks = acked(alloc, &mut shelf, feed)?;
             let (disks, _nonces) = shelf.close();
-            match end {
-                FollowEnd::Held | FollowEnd::DiskFault => Ok((acks, disks)),
-                _ => Err(Fail::from("another end")),
-            }
+            Ok((acks, disks))
         }
         Err((BeginFault::DiskFault, disks)) => Ok((0, disks)),
         Err(_) => Err(Fail::from("another fault")),
@@ -52,16 +63,33 @@ fn are_held(alloc: Global, files: &Files, feed: &[u8], acks: u64) -> Result<bool
     Ok(known == least || known == most)
 }
 
-// Refuses a crash after such a feeding that loses a record that was acknowledged.
-fn expect_held(alloc: Global, feed: &[u8], wrong: Wrong) -> Result<(), Fail> {
+// How many records are acknowledged with this call wrong; refuses a crash after such a feeding that loses one of them.
+fn acked_and_held(alloc: Global, feed: &[u8], wrong: Wrong) -> Result<u64, Fail> {
+    let mut most: u64 = 0;
     for wreck in WRECKS {
         let (acks, disks) = acked_despite(alloc, feed, wrong)?;
         let left = left_by(disks, *wreck);
         if !are_held(alloc, &left, feed, acks)? {
             return Err(Fail::from("a record that was acknowledged is gone"));
         }
+        most = most.max(acks);
     }
-    Ok(())
+    Ok(most)
+}
+
+// Refuses such a crash where a call of this disk is wrong, each in turn, up to one that is not made.
+fn expect_held(alloc: Global, feed: &[u8], place: Place, trouble: Trouble) -> Result<(), Fail> {
+    for call in 0..MOST_CALLS {
+        let wrong = Wrong {
+            place,
+            trouble,
+            call,
+        };
+        if acked_and_held(alloc, feed, wrong)? == 4 {
+            return Ok(());
+        }
+    }
+    Err(Fail::from("more calls"))
 }
 
 #[test]
@@ -69,16 +97,8 @@ fn what_was_acknowledged_is_held(rt: HostRuntime) -> Result<(), Fail> {
     let alloc = rt.alloc();
     let feed = sums_feed(alloc)?;
     for place in PLACES {
-        for trouble in [Trouble::Stops, Trouble::Fails] {
-            for call in 0..MOST_CALLS {
-                let wrong = Wrong {
-                    place: *place,
-                    trouble,
-                    call,
-                };
-                expect_held(alloc, &feed, wrong)?;
-            }
-        }
+        expect_held(alloc, &feed, *place, Trouble::Stops)?;
+        expect_held(alloc, &feed, *place, Trouble::Fails)?;
     }
     Ok(())
 }
@@ -127,7 +147,9 @@ fn promoted_despite(
 // Whether the shelf of these files follows.
 fn follows(alloc: Global, files: &Files) -> Result<bool, Fail> {
     let shelf = opened_bare(alloc, files, Opening::AsItIs)?;
-    Ok(shelf.follows())
+    let follows = shelf.follows();
+    put_away(shelf);
+    Ok(follows)
 }
 
 // Whether the shelf follows of these files, which such a crash left of a promotion. It goes on with its visits, once it is promoted where it follows.
@@ -147,14 +169,21 @@ fn may_follow(went: Went, follows: bool) -> bool {
     }
 }
 
-// Whether, after each such crash, the shelf is promoted or follows as a promotion of these files went with this call.
-fn is_whole(alloc: Global, files: &Files, wrong: Wrong, wreck: Wreck) -> Result<bool, Fail> {
-    let (went, disks) = promoted_despite(alloc, files, wrong)?;
-    let left = left_by(disks, wreck);
-    Ok(may_follow(went, goes_on(alloc, &left)?))
+// Whether a shelf of these files is promoted with this call wrong; refuses a crash after which one that was promoted follows, or one that was not leads.
+fn promoted_whole(alloc: Global, files: &Files, wrong: Wrong) -> Result<bool, Fail> {
+    let mut told = false;
+    for wreck in WRECKS {
+        let (went, disks) = promoted_despite(alloc, files, wrong)?;
+        let left = left_by(disks, *wreck);
+        if !may_follow(went, goes_on(alloc, &left)?) {
+            return Err(Fail::from("a promotion in part"));
+        }
+        told = matches!(went, Went::Promoted);
+    }
+    Ok(told)
 }
 
-// Refuses a crash after which a shelf that was promoted follows, or one that was not leads.
+// Refuses such a crash where a call of this disk is wrong, each in turn, up to one that is not made.
 fn expect_whole(alloc: Global, files: &Files, place: Place, trouble: Trouble) -> Result<(), Fail> {
     for call in 0..MOST_CALLS {
         let wrong = Wrong {
@@ -162,13 +191,11 @@ fn expect_whole(alloc: Global, files: &Files, place: Place, trouble: Trouble) ->
             trouble,
             call,
         };
-        for wreck in WRECKS {
-            if !is_whole(alloc, files, wrong, *wreck)? {
-                return Err(Fail::from("a promotion in part"));
-            }
+        if promoted_whole(alloc, files, wrong)? {
+            return Ok(());
         }
     }
-    Ok(())
+    Err(Fail::from("more calls"))
 }
 
 #[test]
