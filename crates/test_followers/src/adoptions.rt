@@ -235,7 +235,8 @@ impl Counts {
     }
 }
 
-// Counts how feeding went after which such a crash came, and tells it. What is held then is what was adopted, or one record more; the whole feed goes on from there.
+// Counts how feeding went after which such a crash came, and tells it. What is held then is what was adopted, or one record more; the whole feed goes
+// on from there.
 fn count_crash(
     alloc: Global,
     files: &Files,
