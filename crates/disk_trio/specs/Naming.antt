@@ -23,6 +23,10 @@ abbrev pub byte_of : Side → ℕ
 byte_of A = 0
 byte_of B = 1
 
+-- Each of these images of a root names this file.
+abbrev pub AllName : (List ℕ → Type 0) → Side → Type 0
+AllName images side = (bytes : List ℕ) → images bytes → names bytes ≡ side
+
 -- where it is known which file is the current one, whatever a crash leaves of the root names this one
 abbrev pub IsNamed : {D : Type 0} → (tells : Bool) → (D → View) → (known : Bool) → Side → (root : D) → Type 0
-IsNamed tells view known side root = known ≡ true → IsTrue tells → (bytes : List ℕ) → (view root).images bytes → names bytes ≡ side
+IsNamed tells view known side root = known ≡ true → IsTrue tells → AllName (view root).images side

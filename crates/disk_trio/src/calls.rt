@@ -1,5 +1,6 @@
-ghost use Rattle.std.specs.Prelude.{◌≡◌, ◌+◌, ◌<◌, ◌≤◌, ◌∷◌, List, ℕ, length, take, drop, true, false, IsTrue, IfOk, OnOk, OnErr};
-ghost use Rattle.web_disk.specs.View.{View, Only, Spoils, Cuts, NoNewImage, Holds, Elapses, IsCall};
+ghost use Rattle.std.specs.Prelude.{◌≡◌, ◌+◌, ◌<◌, ◌≤◌, ◌∷◌, length, false, IsTrue, IfOk, OnOk};
+ghost use Rattle.web_disk.specs.View.{Only, Spoils, Cuts, NoNewImage, Elapses, IsCall};
+ghost use Rattle.disk_trio.specs.Calls.{CutsTo, ReadsAt, WritesAt};
 ghost use Rattle.disk_trio.specs.Trio.{before_in, three, IsOnCurrent, IsOnOther, IsOnRoot};
 
 use crate::side::Side;
@@ -52,8 +53,7 @@ impl<D: Disk> Disks<D> {
             place + length buf.old ≤ length (D.view self.old.current).seen }
         ensures alone { IsOnCurrent self.old self.new }
         ensures bytes { IsTrue D.tells →
-            OnOk result (buf.new
-            ≡ take (length buf.old) (drop place (D.view self.old.current).seen)) }
+            ReadsAt (D.view self.old.current) place buf.old buf.new result }
         ensures seen { (D.view self.new.current).seen ≡ (D.view self.old.current).seen }
         ensures images { NoNewImage (D.view self.old.current) (D.view self.new.current) }
         ensures call { IsCall 0 (D.view self.old.current) (D.view self.new.current) result }
@@ -75,9 +75,8 @@ impl<D: Disk> Disks<D> {
         requires left { length piece.now ≤ (D.view self.old.current).left }
         requires ready { 0 < (D.view self.old.current).ready }
         ensures alone { IsOnCurrent self.old self.new }
-        ensures written { IsTrue D.tells →
-            OnOk result (Holds (D.view self.old.current).seen place piece.now
-            (D.view self.new.current).seen) }
+        ensures written { IsTrue D.tells → WritesAt place piece.now
+            (D.view self.old.current) (D.view self.new.current) result }
         ensures images { Spoils place (place + length piece.now)
             (D.view self.old.current) (D.view self.new.current) }
         ensures call { IsCall (length piece.now)
@@ -98,8 +97,7 @@ impl<D: Disk> Disks<D> {
         requires ready { 0 < (D.view self.old.current).ready }
         ensures alone { IsOnCurrent self.old self.new }
         ensures cut { IsTrue D.tells →
-            OnOk result ((D.view self.new.current).seen
-            ≡ take len (D.view self.old.current).seen) }
+            CutsTo len (D.view self.old.current) (D.view self.new.current) result }
         ensures images { Cuts len (D.view self.old.current) (D.view self.new.current) }
         ensures call { IsCall 0 (D.view self.old.current) (D.view self.new.current) result }
     {
@@ -177,9 +175,8 @@ impl<D: Disk> Disks<D> {
         requires left { length piece.now ≤ (D.view self.old.other).left }
         requires ready { 0 < (D.view self.old.other).ready }
         ensures alone { IsOnOther self.old self.new }
-        ensures written { IsTrue D.tells →
-            OnOk result (Holds (D.view self.old.other).seen place piece.now
-            (D.view self.new.other).seen) }
+        ensures written { IsTrue D.tells → WritesAt place piece.now
+            (D.view self.old.other) (D.view self.new.other) result }
         ensures images { Spoils place (place + length piece.now)
             (D.view self.old.other) (D.view self.new.other) }
         ensures call { IsCall (length piece.now)
@@ -200,8 +197,7 @@ impl<D: Disk> Disks<D> {
         requires ready { 0 < (D.view self.old.other).ready }
         ensures alone { IsOnOther self.old self.new }
         ensures cut { IsTrue D.tells →
-            OnOk result ((D.view self.new.other).seen
-            ≡ take len (D.view self.old.other).seen) }
+            CutsTo len (D.view self.old.other) (D.view self.new.other) result }
         ensures images { Cuts len (D.view self.old.other) (D.view self.new.other) }
         ensures call { IsCall 0 (D.view self.old.other) (D.view self.new.other) result }
     {
@@ -277,8 +273,7 @@ impl<D: Disk> Disks<D> {
         requires { IsTrue D.tells → place + length buf.old ≤ length (D.view self.old.root).seen }
         ensures alone { IsOnRoot self.old self.new }
         ensures bytes { IsTrue D.tells →
-            OnOk result (buf.new
-            ≡ take (length buf.old) (drop place (D.view self.old.root).seen)) }
+            ReadsAt (D.view self.old.root) place buf.old buf.new result }
         ensures seen { (D.view self.new.root).seen ≡ (D.view self.old.root).seen }
         ensures images { NoNewImage (D.view self.old.root) (D.view self.new.root) }
         ensures call { IsCall 0 (D.view self.old.root) (D.view self.new.root) result }
@@ -301,9 +296,8 @@ impl<D: Disk> Disks<D> {
         requires ready { 0 < (D.view self.old.root).ready }
         requires known { self.old.known ≡ false }
         ensures alone { IsOnRoot self.old self.new }
-        ensures written { IsTrue D.tells →
-            OnOk result (Holds (D.view self.old.root).seen place piece.now
-            (D.view self.new.root).seen) }
+        ensures written { IsTrue D.tells → WritesAt place piece.now
+            (D.view self.old.root) (D.view self.new.root) result }
         ensures images { Spoils place (place + length piece.now)
             (D.view self.old.root) (D.view self.new.root) }
         ensures call { IsCall (length piece.now)

@@ -1,6 +1,6 @@
 ghost use Rattle.std.specs.Prelude.{◌≡◌, ◌⊎◌, [], ◌+◌, ◌<◌, ◌≤◌, List, ℕ, length, true, false, IsTrue, IfOk, OnOk, OnErr, IsErrOf};
 ghost use Rattle.web_disk.specs.View.{View, Only, LeavesOnly, NoNewImage, Elapses};
-ghost use Rattle.disk_trio.specs.Naming.{names, other_side};
+ghost use Rattle.disk_trio.specs.Naming.{AllName, other_side};
 ghost use Rattle.disk_trio.specs.Trio.{trio_view, HasFailed, three_of, before, before_in, read_side, IsReadAlone, AreSameFiles, AreSameDisks};
 ghost use Rattle.disk_trio.specs.Filling.{HasRoomToFill, HasRoomToSwitch, IsFilled, KeepsFiles, IsSwitched, MayBeEither, KeepsOther};
 
@@ -75,8 +75,7 @@ impl<D: Disk> Disks<D> {
 
     // Whatever a crash leaves of the root names the current file.
     pub(crate) fn learn(&mut self)
-        requires named { IsTrue D.tells → (bytes : List ℕ) → (D.view self.old.root).images bytes
-            → names bytes ≡ self.old.side }
+        requires named { IsTrue D.tells → AllName (D.view self.old.root).images self.old.side }
         ensures same { AreSameDisks self.old self.new }
         ensures known { self.new.known ≡ true }
     {
@@ -124,8 +123,8 @@ impl<D: Disk> Disks<D> {
         requires room { HasRoomToSwitch self.old }
         ensures keeps { KeepsOther self.old self.new }
         ensures switched { OnOk result (IsSwitched self.old self.new) }
-        ensures named { IsTrue D.tells → OnOk result ((bytes : List ℕ) →
-            (D.view self.new.root).images bytes → names bytes ≡ other_side self.old.side) }
+        ensures named { IsTrue D.tells →
+            OnOk result (AllName (D.view self.new.root).images (other_side self.old.side)) }
         ensures unknown { OnErr result (self.new.known ≡ false) }
         ensures any_moment { LeavesOnly (trio_view self.old) (trio_view self.new)
             (MayBeEither self.old) }
