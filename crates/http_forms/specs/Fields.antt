@@ -61,3 +61,7 @@ is_close option = str_eq_ignore_ascii_case option (codes "close")
 -- one of these values of Connection has the option `close`, in any case
 abbrev pub say_close : List (List ℕ) → Bool
 say_close values = list_any (λ value. list_any is_close (options value)) values
+
+-- A field Connection of a head says that the connection closes.
+abbrev pub fields_say_close : (fields : List (List ℕ × List ℕ)) → Bool
+fields_say_close fields = say_close (values_of (codes "Connection") fields)

@@ -1,6 +1,7 @@
 -- What the code's verdict on a head stands for.
-use Rattle.std.specs.Prelude.{◌≡◌, ℕ, List, Bool, Option, Result, Ok, Err}
-use Rattle.httparse.specs.Spans.{span_bytes}
+use Rattle.std.specs.Prelude.{◌≡◌, ℕ, List, Bool, Option, Result, Ok, Err, map}
+use Rattle.httparse.specs.Spans.{header_bytes, span_bytes}
+use Rattle.httparse.specs.declared.spans.HeaderSpan.{HeaderSpan}
 use Rattle.httparse.specs.declared.spans.Span.{Span}
 use Rattle.http_forms.specs.Found.{IsFound}
 use Rattle.http_forms.specs.declared.fields.Found.{Found}
@@ -34,3 +35,8 @@ abbrev pub JudgesBody : (method : List ℕ) → Span → Found → (closes : Boo
 JudgesBody method target types closes announced result =
     (lines : List ℕ) (values : List (List ℕ)) → IsFound values types
     → judged_of lines result ≡ spec.body_verdict method (span_bytes lines target) values closes announced
+
+-- The answer is that of the rows on the fields, where a head's target and its fields stand in these lines.
+abbrev pub JudgesFields : (minor : ℕ) → (method : List ℕ) → Span → (lines : List ℕ) → List HeaderSpan → Result Asked Refused → Type 0
+JudgesFields minor method target lines headers result =
+    judged_of lines result ≡ spec.fields_verdict minor method (span_bytes lines target) (map (header_bytes lines) headers)

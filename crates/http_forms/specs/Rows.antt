@@ -3,7 +3,7 @@ use Rattle.std.specs.Prelude.{◌≡◌, ℕ, ◌==◌, ◌&&◌, ◌||◌, not,
 use Rattle.httparse.specs.Grammar.{RequestHead, ReadsRequest}
 use Rattle.httparse.specs.Spans.{name_and_value}
 use Rattle.http_forms.specs.Head.{without_blank, field_lines}
-use Rattle.http_forms.specs.Fields.{values_of, is_one, is_none, announced, is_form, say_close}
+use Rattle.http_forms.specs.Fields.{values_of, is_one, is_none, announced, is_form, fields_say_close}
 use Rattle.http_forms.specs.declared.refused.Refused.{Refused}
 use Rattle.http_forms.specs.declared.refused.Refused.TheVariants.{BadRequest, Head, Chunked, Method, Length, TooLarge, MediaType}
 
@@ -39,7 +39,7 @@ length_verdict method target types closes (Err refused) = Err refused
 
 -- the connection closes after a request of version 1.0, and after one that says so
 abbrev pub closes_by : (minor : ℕ) → (fields : List (List ℕ × List ℕ)) → Bool
-closes_by minor fields = minor == 0 || say_close (values_of (codes "Connection") fields)
+closes_by minor fields = minor == 0 || fields_say_close fields
 
 -- a head of version 1.1 lacks a Host: it has none, or more than one
 abbrev pub lacks_host : (minor : ℕ) → (fields : List (List ℕ × List ℕ)) → Bool

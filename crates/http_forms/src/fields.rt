@@ -1,4 +1,4 @@
-ghost use Rattle.std.specs.Prelude.{◌≡◌, ◌<◌, ◌-◌, ◌^◌, ◌++◌, ◌∷◌, [], ℕ, List, All, codes, length, IfSome, min, true, map};
+ghost use Rattle.std.specs.Prelude.{◌≡◌, ◌<◌, ◌-◌, ◌^◌, ◌++◌, ◌∷◌, [], ℕ, List, All, length, IfSome, min, true, map};
 ghost use Rattle.std.specs.Char.{is_ascii_digit};
 ghost use Rattle.std.specs.List.{list_all, list_any, position};
 ghost use Rattle.std.specs.Str.Parse.{digits_value};
@@ -172,8 +172,7 @@ fn has_close(value: &[u8]) -> bool
 /// Source: RFC 9110, section 7.6.1, and RFC 9112, section 9.6.
 pub(crate) fn says_close(lines: &[u8], headers: &[HeaderSpan]) -> bool
     requires { All (IsHeaderWithin (length lines.now)) headers.now }
-    ensures { result ≡ spec.say_close
-        (spec.values_of (codes "Connection") (map (header_bytes lines.now) headers.now)) }
+    ensures { result ≡ spec.fields_say_close (map (header_bytes lines.now) headers.now) }
 {
     let mut says = false;
     for header in headers {

@@ -1,7 +1,6 @@
 ghost use Rattle.std.specs.Prelude.{◌≡◌, ◌<◌, ◌+◌, ◌^◌, ◌++◌, length, IfOk, OnOk};
 ghost use Rattle.reply_words.specs.Words.{told};
-ghost use Rattle.http_forms.specs.Writes.{Writes};
-ghost use Rattle.std.specs.Io.KnownBytes.{Appends};
+ghost use Rattle.http_forms.specs.Writes.{AppendsTo, WritesMessage, WritesTo};
 ghost use Rattle.web_outside.specs.Causes.{HasCause};
 ghost use Rattle.web_outside.specs.Pieces.{AppendsPart, HandsOn};
 ghost use Rattle.http_forms.specs.Reply as spec;
@@ -50,8 +49,7 @@ fn write_three<O: Sink>(
     second: &[u8],
     third: &[u8],
 ) -> Result<(), Failed>
-    ensures { Writes (O.view sink.old) (O.view sink.new)
-        (first.now ++ (second.now ++ third.now)) result }
+    ensures { WritesTo O.view sink.old sink.new (first.now ++ (second.now ++ third.now)) result }
 {
     write_all(sink, first)?;
     write_all(sink, second)?;
@@ -60,8 +58,7 @@ fn write_three<O: Sink>(
 
 // Writes the lines up to the length.
 fn write_front<O: Sink>(sink: &mut O, status: Status, media_type: &str) -> Result<(), Failed>
-    ensures { Writes (O.view sink.old) (O.view sink.new)
-        (spec.first_lines status media_type.now) result }
+    ensures { WritesTo O.view sink.old sink.new (spec.first_lines status media_type.now) result }
 {
     write_three(sink, b"HTTP/1.1 ", status.text().as_bytes(), b"\r\n")?;
     write_three(
@@ -87,7 +84,7 @@ fn last_lines(closes: bool) -> &'static str
 // Writes the length of a body in two pieces, the last lines, and the body.
 fn write_body<O: Sink>(sink: &mut O, closes: bool, body: &[u8], end: &[u8]) -> Result<(), Failed>
     requires { length body.now + length end.now < 2 ^ 64 }
-    ensures { Writes (O.view sink.old) (O.view sink.new)
+    ensures { WritesTo O.view sink.old sink.new
         (spec.length_and_body closes (body.now ++ end.now)) result }
 {
     let mut digits = Buffer::new();
@@ -106,8 +103,8 @@ fn write_message<O: Sink>(
     end: &[u8],
 ) -> Result<(), Failed>
     requires { length body.now + length end.now < 2 ^ 64 }
-    ensures { Writes (O.view sink.old) (O.view sink.new)
-        (spec.message status closes media_type.now (body.now ++ end.now)) result }
+    ensures { WritesMessage O.view sink.old sink.new
+        status closes media_type.now body.now end.now result }
 {
     write_front(sink, status, media_type)?;
     write_body(sink, closes, body, end)
@@ -115,24 +112,21 @@ fn write_message<O: Sink>(
 
 // Writes a page, as HTML.
 fn write_page<O: Sink>(sink: &mut O, closes: bool, page: &[u8]) -> Result<(), Failed>
-    ensures { Writes (O.view sink.old) (O.view sink.new)
-        (spec.page_message closes page.now) result }
+    ensures { WritesTo O.view sink.old sink.new (spec.page_message closes page.now) result }
 {
     write_message(sink, Status::Ok, closes, "text/html", page, b"")
 }
 
 // Writes a word and a newline, as plain text.
 fn write_word<O: Sink>(sink: &mut O, status: Status, closes: bool, word: &str) -> Result<(), Failed>
-    ensures { Writes (O.view sink.old) (O.view sink.new)
-        (spec.word_message status closes word.now) result }
+    ensures { WritesTo O.view sink.old sink.new (spec.word_message status closes word.now) result }
 {
     write_message(sink, status, closes, "text/plain", word.as_bytes(), b"\n")
 }
 
 // Writes what the reply of a visit says.
 fn write_told<O: Sink>(sink: &mut O, closes: bool, reply: &Reply) -> Result<(), Failed>
-    ensures { Writes (O.view sink.old) (O.view sink.new)
-        (spec.told_message closes (told reply.now)) result }
+    ensures { WritesTo O.view sink.old sink.new (spec.told_message closes (told reply.now)) result }
 {
     match Told::of(reply) {
         Told::Page(page) => write_page(sink, closes, page),
@@ -142,8 +136,7 @@ fn write_told<O: Sink>(sink: &mut O, closes: bool, reply: &Reply) -> Result<(), 
 
 #[tactic(auto, unfolding(crate::specs::Reply::reply_text))]
 fn write_answer<O: Sink>(sink: &mut O, closes: bool, answer: &Answer) -> Result<(), Failed>
-    ensures { Writes (O.view sink.old) (O.view sink.new)
-        (spec.reply_text answer.now closes) result }
+    ensures { WritesTo O.view sink.old sink.new (spec.reply_text answer.now closes) result }
 {
     match answer {
         Answer::Reply(reply) => write_told(sink, closes, reply),
@@ -154,8 +147,8 @@ fn write_answer<O: Sink>(sink: &mut O, closes: bool, answer: &Answer) -> Result<
 /// Writes the answer, whole or as far as the sink takes it, and hands it on. It says whether the connection is closed after
 /// it. It takes no memory.
 pub fn write_reply<O: Sink>(answer: &Answer, closes: bool, sink: &mut O) -> Result<(), Failed>
-    ensures ok { OnOk result (Appends (O.view sink.old).written (O.view sink.new).written
-        (spec.reply_text answer.now closes)) }
+    ensures ok { OnOk result
+        (AppendsTo O.view sink.old sink.new (spec.reply_text answer.now closes)) }
     ensures handed { OnOk result (HandsOn (O.view sink.new).written (O.view sink.new).handed) }
     ensures part { AppendsPart (O.view sink.old).written (O.view sink.new).written
         (spec.reply_text answer.now closes) }

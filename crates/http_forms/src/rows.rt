@@ -1,10 +1,10 @@
 ghost use Rattle.std.specs.Prelude.{◌≡◌, ◌≤◌, ℕ, List, All, IfOk, OnOk, bytes_eq, length, map};
-ghost use Rattle.httparse.specs.Spans.{IsWithin, IsHeaderWithin, header_bytes, span_bytes};
+ghost use Rattle.httparse.specs.Spans.{IsWithin, IsHeaderWithin, header_bytes};
 ghost use Rattle.http_forms.specs.Fields as fields;
 ghost use Rattle.http_forms.specs.Head.{field_lines, without_blank};
 ghost use Rattle.http_forms.specs.Found.{IsFound};
 ghost use Rattle.http_forms.specs.Rows as spec;
-ghost use Rattle.http_forms.specs.Judged.{judged_of, JudgesBody, Measures};
+ghost use Rattle.http_forms.specs.Judged.{judged_of, JudgesBody, JudgesFields, Measures};
 ghost use Rattle.http_forms.specs.Rows.{Reads, Judges};
 
 use crate::fields::{Found, announced, find, is_form, says_close};
@@ -109,9 +109,7 @@ fn fields_verdict(
     headers: &[HeaderSpan],
 ) -> Result<Asked, Refused>
     requires { All (IsHeaderWithin (length lines.now)) headers.now }
-    ensures judges { judged_of lines.now result ≡ spec.fields_verdict minor method.now
-        (span_bytes lines.now target)
-        (map (header_bytes lines.now) headers.now) }
+    ensures judges { JudgesFields minor method.now target lines.now headers.now result }
     ensures target { IfOk result (λ asked. asked.target ≡ target) }
 {
     if lacks_host(minor, lines, headers) {
