@@ -1,13 +1,15 @@
 -- What a turn asks of its function, and what it gives.
-use Rattle.std.specs.Prelude.{◌≡◌, ℕ, ◌+◌, ◌<◌, List, [], ◌∷◌, length, Result, MatchResult}
+use Rattle.std.specs.Prelude.{◌≡◌, ℕ, ◌+◌, ◌<◌, List, [], ◌∷◌, length, Some, slice_get, Result, MatchResult}
 use Rattle.std.specs.Fn.{Once, FnOnceReturnsAtMut}
 use denote.Ref.{MutBor}
 use Rattle.shelf_lock.specs.declared.kept.Kept.{Ghosts}
+use Rattle.shelf_lock.specs.declared.pass.Pass.{Pass}
+use Rattle.shelf_lock.specs.declared.rule.Start.{Start}
 use Rattle.atomic_table.specs.Seated.{TableId}
 use Rattle.atomic_table.specs.declared.shared.Seat.{Seat}
 use Rattle.shelf_lock.specs.declared.view.Role.TheVariants.{Outside, Inside}
 use Rattle.shelf_lock.specs.declared.view.View.{View}
-use Rattle.shelf_lock.specs.Order.{Of, Begins, Each, GoesOn, IsWithin, Adds, MakesNone, MakesOne, Told, longer, posed, entry_limit}
+use Rattle.shelf_lock.specs.Order.{Of, Begins, Each, GoesOn, IsWithin, Adds, MakesNone, MakesOne, Told, longer, maker, posed, entry_limit}
 
 -- a table of one word, which is the gate, and one slot, which is the value's
 abbrev pub IsSized : TableId → Type 0
@@ -99,3 +101,24 @@ MakesInTurn caller who seen result now = MatchResult result (λ _. MakesOne call
 -- a seat of a caller that has seen nothing yet
 abbrev pub IsNewSeat : {S O E : Type 0} → TableId → O → ℕ → Seat S (View O E) → Type 0
 IsNewSeat z o first s = (s.table_id ≡ z) × (s.me.0.opening ≡ o ∷ []) × (s.me.0.first ≡ first) × (s.me.0.seen ≡ []) × (s.me.0.heard ≡ [])
+
+module _ {S O E : Type 0} {g : Ghosts S O E} where
+  -- The pass is the same one, and knows what it knew.
+  abbrev pub IsUntouched : (old new : Pass S O E g) → Type 0
+  IsUntouched old new = IsSameSeat old.seat new.seat × (new.caller ≡ old.caller) × (new.seat.me ≡ old.seat.me)
+
+module _ {S O E : Type 0} (g : Ghosts S O E) where
+  -- The table of a lock was made with this value and so many seats, and its first seat hands out the callers from 0 on.
+  abbrev pub IsMade : (value : S) → (seats : ℕ) → TableId → Start S → Seat S (View O E) → Type 0
+  IsMade value seats z start seat =
+      IsSized z × (start.value.value ≡ value) × (start.seats ≡ seats) × (seat.table_id ≡ z) × (seat.me ≡ (maker (g.opening value) (g.first value) 0, []))
+
+  -- There are passes of the callers 0, 1, and so on, as many as there are seats, which have seen nothing yet of a lock of this value.
+  abbrev pub AreNewPasses : (value : S) → (seats : ℕ) → TableId → List (Pass S O E g) → Type 0
+  AreNewPasses value seats z passes =
+      (length passes ≡ seats)
+      × ((k : ℕ) (p : Pass S O E g) → slice_get passes k ≡ Some p → (p.caller ≡ k) × IsNewSeat z (g.opening value) (g.first value) p.seat)
+
+  -- The history tells of each of these passes, and of all that each has heard of.
+  abbrev pub TellsEach : List E → List (Pass S O E g) → Type 0
+  TellsEach log passes = (k : ℕ) (p : Pass S O E g) → slice_get passes k ≡ Some p → Tells g log p.caller p.seat.me.0

@@ -1,8 +1,8 @@
 //! The lock.
 ghost use Rattle.std.specs.Prelude.{◌≡◌, ℕ, ◌+◌, ◌<◌, ◌≤◌, ◌^◌, [], Some, length, slice_get, IfOk, IfErr};
-ghost use Rattle.shelf_lock.specs.Order.{Begins, MadeBelow, maker, both};
+ghost use Rattle.shelf_lock.specs.Order.{Begins, MadeBelow, both};
 ghost use mathlib.Core.List.{IsPrefix};
-ghost use Rattle.shelf_lock.specs.Turns.{IsSized, IsSameSeat, IsNewSeat, MayCall, KeepsEach, AreOf, GoesOnFrom, HasTurned, MakesInTurn, Tells, joined};
+ghost use Rattle.shelf_lock.specs.Turns.{IsSized, IsSameSeat, IsUntouched, MayCall, KeepsEach, AreNewPasses, AreOf, GoesOnFrom, HasTurned, IsMade, MakesInTurn, TellsEach, joined};
 
 use crate::kept::Kept;
 use crate::pass::{Note, Pass};
@@ -29,7 +29,8 @@ pub struct Worn;
 // The table, with the seat that hands out the callers.
 fn made<V: Kept>(alloc: Global, value: V, seats: u32) -> Result<(Board<V>, Place<V>), V>
     requires { V.sound value × (V.history value ≡ []) × (V.first value ≤ 2 ^ 62) }
-    ensures ok { IfOk result (λ r. IsSized r.0.shared.table_id × (r.0.shared.key.value.value ≡ value) × (r.0.shared.key.seats ≡ seats) × (r.1.table_id ≡ r.0.shared.table_id) × (r.1.me ≡ (maker (V.opening value) (V.first value) 0, []))) }
+    ensures ok { IfOk result (λ r.
+        IsMade V.Kept value seats r.0.shared.table_id r.0.shared.key r.1) }
     ensures err { IfErr result (λ v. v ≡ value) }
 {
     let start = Start {
@@ -56,7 +57,8 @@ impl<V: Kept> ShelfLock<V> {
     pub fn new(alloc: Global, value: V, seats: u32) -> Result<(ShelfLock<V>, Vec<Pass<V>>), V>
         requires { V.sound value × (V.history value ≡ []) × (V.first value ≤ 2 ^ 62) }
         ensures lock { IfOk result (λ r. (r.0.board.shared.key.value.value ≡ value) × (r.0.board.shared.key.seats ≡ seats)) }
-        ensures passes { IfOk result (λ r. (length r.1.items ≡ seats) × ((k : ℕ) (p : _) → slice_get r.1.items k ≡ Some p → (p.caller ≡ k) × IsNewSeat r.0.board.shared.table_id (V.opening value) (V.first value) p.seat)) }
+        ensures passes { IfOk result (λ r.
+            AreNewPasses V.Kept value seats r.0.board.shared.table_id r.1.items) }
         ensures err { IfErr result (λ v. v ≡ value) }
     {
         let Ok(mut passes) = Vec::with_capacity(alloc, seats as usize) else {
@@ -99,7 +101,7 @@ impl<V: Kept> ShelfLock<V> {
     /// A note of what the pass has seen. It takes no memory, and there is no end of notes.
     pub fn split(&self, pass: &mut Pass<V>) -> Note<V>
         requires own { pass.old.seat.table_id ≡ self.now.board.shared.table_id }
-        ensures own { IsSameSeat pass.old.seat pass.new.seat × (pass.new.caller ≡ pass.old.caller) × (pass.new.seat.me ≡ pass.old.seat.me) }
+        ensures own { IsUntouched pass.old pass.new }
         ensures note { (result.seat.table_id ≡ pass.old.seat.table_id) × (result.seat.me.0.seen ≡ pass.old.seat.me.0.seen) }
     {
         Note {
@@ -164,8 +166,7 @@ impl<V: Kept> ShelfLock<V> {
         ensures first { V.first result ≡ V.first self.board.shared.key.value.value }
         ensures within { V.first result + length (V.history result) ≤ 2 ^ 62 }
         ensures callers { MadeBelow V.Kept self.board.shared.key.seats (V.history result) }
-        ensures told { (k : ℕ) (p : _) → slice_get passes.items k ≡ Some p →
-            Tells V.Kept (V.history result) p.caller p.seat.me.0 }
+        ensures told { TellsEach V.Kept (V.history result) passes.items }
     {
         let mut pass = passes.pop().unwrap();
         while let Some(other) = passes.pop() {
