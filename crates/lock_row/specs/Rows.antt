@@ -1,5 +1,5 @@
 -- What the calls of a row do.
-use Rattle.std.specs.Prelude.{◌≡◌, ℕ, ◌+◌, ◌-◌, ◌<◌, ◌≤◌, ◌^◌, List, [], ◌∷◌, length, map, Some, slice_get}
+use Rattle.std.specs.Prelude.{◌≡◌, ℕ, ◌+◌, ◌-◌, ◌<◌, ◌≤◌, ◌^◌, List, [], ◌∷◌, length, map, Some, slice_get, Result, MatchResult}
 use Rattle.std.specs.Fn.{Once}
 use denote.Ref.{MutBor}
 use Rattle.atomic_table.specs.Seated.{TableId}
@@ -8,7 +8,7 @@ use Rattle.shelf_lock.specs.declared.kept.Kept.{Ghosts}
 use Rattle.shelf_lock.specs.declared.view.View.{View}
 use Rattle.shelf_lock.specs.declared.view.Role.TheVariants.{Outside}
 use Rattle.shelf_lock.specs.Order.{made_by, posed, longer, both, Told, Begins, Each, GoesOn, MadeBelow}
-use Rattle.shelf_lock.specs.Turns.{MayCall, KeepsEach}
+use Rattle.shelf_lock.specs.Turns.{MayCall, KeepsEach, Turned, FoundWorn}
 use Rattle.shelf_lock.specs.declared.rule.Start.{Start}
 use Rattle.lock_row.specs.Spots.{Spot, spot, Home, IsAt, At}
 
@@ -36,6 +36,12 @@ module _ {S O E : Type 0} (g : Ghosts S O E) where
   -- f keeps what a turn at this place has to keep
   abbrev pub KeepsEachAt : {F A : Type 0} → Once F (MutBor S × Unit {0}) (A × (MutBor S × Unit {0})) → F → ℕ → List (Spot O E) → Type 0
   KeepsEachAt call f place pass = (a : Spot O E) → slice_get pass place ≡ Some a → KeepsEach g call f a.known
+
+  -- At this place a turn gave an answer, or found the value worn; the pass goes on there alone.
+  abbrev pub HasTurnedAt : {F A W : Type 0} → Once F (MutBor S × Unit {0}) (A × (MutBor S × Unit {0})) → F → ℕ
+      → (old : List (Spot O E)) → Result A W → (new : List (Spot O E)) → Type 0
+  HasTurnedAt call f place old result new =
+      MatchResult result (λ a. At place (λ v w. Turned g call f v a w) old new) (λ _. At place (λ v w. FoundWorn g v w) old new)
 
   -- The pass has heard a note: it has then seen the longer history of both. What it and the note had seen begin that one, which has
   -- no further entry of the pass's caller.
@@ -66,6 +72,12 @@ module _ {S O E : Type 0} (g : Ghosts S O E) where
       (k : ℕ) (a : Spot O E) → slice_get pass k ≡ Some a → (log : List E) → Begins g log a.known
       → (j : ℕ) (p : List (Spot O E)) → slice_get passes j ≡ Some p → (b : Spot O E) → slice_get p k ≡ Some b → Begins g log b.known
 
+  -- The history of each value that was given back tells of each of these passes at its lock.
+  abbrev pub AllTell : (passes : List (List (Spot O E))) → (values : List S) → Type 0
+  AllTell passes values =
+      (k : ℕ) (x : S) → slice_get values k ≡ Some x
+      → (j : ℕ) (p : List (Spot O E)) → slice_get passes j ≡ Some p → (a : Spot O E) → slice_get p k ≡ Some a → Begins g (g.history x) a.known
+
   -- a value that was given back: of this opening, and of so many callers
   pub record IsBack (opening : List O) (seats : ℕ) (x : S) : Type 0 where
     pub sound : g.sound x
@@ -84,6 +96,10 @@ module _ {O E : Type 0} where
   -- a note of what the pass has seen at this place
   abbrev pub IsNoteAt : ℕ → List (Spot O E) → Spot O E → Type 0
   IsNoteAt place pass note = (a : Spot O E) × (slice_get pass place ≡ Some a) × IsNoteOf a note
+
+  -- Each of these is a note of what the pass has seen at its place.
+  abbrev pub AreNotesOf : List (Spot O E) → (notes : List (Spot O E)) → Type 0
+  AreNotesOf pass notes = (k : ℕ) (m : Spot O E) → slice_get notes k ≡ Some m → IsNoteAt k pass m
 
   -- the pass has a seat at this place, at this table
   abbrev pub SitsAt : ℕ → List (Spot O E) → TableId → Type 0

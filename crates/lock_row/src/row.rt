@@ -1,11 +1,10 @@
 //! The locks.
-ghost use Rattle.std.specs.Prelude.{◌≡◌, ℕ, ◌<◌, ◌∷◌, Some, IfOk, MatchResult, vec_len, reverse, length, slice_get};
+ghost use Rattle.std.specs.Prelude.{◌≡◌, ℕ, ◌<◌, ◌∷◌, Some, IfOk, vec_len, reverse, length, slice_get};
 ghost use Rattle.std.specs.List.{AllZip};
 ghost use Rattle.lock_row.specs.Spots.{spot, one_dealt, IsAt, IsOf, IsNoteIn, At};
-ghost use Rattle.lock_row.specs.Rows.{MayCallAt, KeepsEachAt, Hears, HearsAt, IsBackFrom, IsNoteOf, IsNoteAt, SitsAt, IsNewPass, TellsAll, Absorbs, ZipsAll};
+ghost use Rattle.lock_row.specs.Rows.{MayCallAt, KeepsEachAt, AllTell, AreNotesOf, HasTurnedAt, Hears, HearsAt, IsBackFrom, IsNoteAt, SitsAt, IsNewPass, TellsAll, Absorbs, ZipsAll};
 ghost use Rattle.lock_row.specs.Locks.{HasRoomFor, AreSeatsAt, IsClosedOf, TellsOfSeat, lock_homes};
-ghost use Rattle.shelf_lock.specs.Order.{Begins, both};
-ghost use Rattle.shelf_lock.specs.Turns.{Turned, FoundWorn};
+ghost use Rattle.shelf_lock.specs.Order.{both};
 
 use crate::seats::{RowNote, RowPass};
 use shelf_lock::{Kept, Note, Pass, ShelfLock, Worn};
@@ -79,9 +78,7 @@ impl<V: Kept> LockRow<V> {
         requires callable { MayCallAt V.Kept F.FnOnce f place pass.old }
         requires keeps { KeepsEachAt V.Kept F.FnOnce f place pass.old }
         ensures own { IsOf self.now pass.new }
-        ensures turned { MatchResult result
-            (λ a. At place (λ v w. Turned V.Kept F.FnOnce f v a w) pass.old pass.new)
-            (λ _. At place (λ v w. FoundWorn V.Kept v w) pass.old pass.new) }
+        ensures turned { HasTurnedAt V.Kept F.FnOnce f place pass.old result pass.new }
     {
         self.locks[place].turn(rt, &mut pass.seats[place], f)
     }
@@ -110,8 +107,7 @@ impl<V: Kept> LockRow<V> {
         requires own { IsOf self.now pass.old }
         ensures same { pass.new ≡ pass.old }
         ensures own { IfOk result (λ n. IsNoteIn self.now n) }
-        ensures note { IfOk result (λ n. (k : ℕ) (m : _) → slice_get n k ≡ Some m
-            → (a : _) × (slice_get pass.old k ≡ Some a) × IsNoteOf a m) }
+        ensures note { IfOk result (λ n. AreNotesOf pass.old n) }
     {
         let places = self.len();
         let mut notes = Vec::with_capacity(alloc, places)?;
@@ -140,9 +136,7 @@ impl<V: Kept> LockRow<V> {
     pub fn close<R: Wait>(self, rt: &R, passes: Vec<RowPass<V>>) -> Vec<V>
         requires own { (j : ℕ) (p : _) → slice_get passes.items j ≡ Some p → IsOf self p }
         ensures back { AllZip (IsBackFrom V.Kept self.seats) self.homes result.items }
-        ensures told { (k : ℕ) (x : _) → slice_get result.items k ≡ Some x
-            → (j : ℕ) (p : _) → slice_get passes.items j ≡ Some p
-            → (a : _) → slice_get p k ≡ Some a → Begins V.Kept (V.history x) a.known }
+        ensures told { AllTell V.Kept passes.items result.items }
     {
         let LockRow {
             locks,
