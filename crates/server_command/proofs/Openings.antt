@@ -5,14 +5,13 @@ use Rattle.std.specs.List.{AllByRecursion}
 use Rattle.std.proofs.lemmas.Bool.{and_parts}
 use Rattle.std.proofs.lemmas.List.{length-append}
 use Rattle.web_disk.specs.View.{View, RackView, AreAmong}
-use Rattle.trio_rack.specs.Trios.{LeavesAllDisks, shelves_of}
+use Rattle.trio_rack.specs.Trios.{KeepsHome, LeavesAllDisks, shelves_of}
 use Rattle.script_nodes.specs.Setup.{Named}
 use Rattle.disk_trio.proofs.Views.{rose_later}
 use Rattle.trio_rack.proofs.Homes.{below_or_not}
 use Rattle.play_steps.specs.Rules.{StaysUp}
 use Rattle.play_desk.specs.Asking.{AsksForFirst, AsksForNone, AsksForOne, AsksUntil}
 use Rattle.play_desk.specs.Opening.{FailedFor}
-use Rattle.server_command.specs.Racks.{KeepsHome}
 use Rattle.play_desk.specs.declared.opening.OpenCause.{OpenCause}
 use Rattle.play_desk.specs.declared.opening.OpenCause.TheVariants as cause
 use Rattle.server_command.specs.Opening.{AsksAsTaken, AsksByCause, HasTaken, IsRefused, IsUntaken, RefusesInOrder, TakesBack, seen_on}

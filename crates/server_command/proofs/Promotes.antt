@@ -10,7 +10,7 @@ use Rattle.web_outside.specs.declared.nonces.Counting.{Counting}
 use Rattle.web_outside.proofs.Writes.{appends_kept, appends_none, appends_then}
 use Rattle.web_disk.specs.View.{View, RackView, AreAmong, LeavesOnly}
 use Rattle.disk_trio.proofs.Views.{rose_later}
-use Rattle.trio_rack.specs.Trios.{shelves_of}
+use Rattle.trio_rack.specs.Trios.{KeepsHome, shelves_of}
 use Rattle.trio_rack.proofs.Homes.{disks_home, shelves_home}
 use Rattle.page_follower.specs.OfShelf.JournalRecords.Records.{body_of, promotes}
 use Rattle.page_journal.specs.Records.{at_rest, newest}
@@ -35,7 +35,7 @@ use Rattle.server_command.specs.Bare.{AreLent, AsksOne, GivesBack, HasOpened, Is
 use Rattle.server_command.specs.Command.{IsDoneUnlessFault}
 use Rattle.server_command.specs.Feeding.{ArePromoted, CannotPromote, HaveComeTo, HavePromoted, IsPromoted, IsUnpromoted, LeavesPromotes, PromotesOne, StopsAtShelf, TellsBehind, TellsPromoted, all_told, cut_short, not_told, promoted_line, promoted_text, stopped, told_behind, unpromoted_for, untold_behind}
 use Rattle.server_command.specs.Output.{memory_line, sinks}
-use Rattle.server_command.specs.Racks.{AreBack, KeepsHome, Racks, ShelfFailed, racks_of}
+use Rattle.server_command.specs.Racks.{AreBack, Racks, ShelfFailed, racks_of}
 use Rattle.server_command.specs.Telling.{TellsUnopened}
 use Rattle.server_command.specs.Telling as telling
 use Rattle.server_command.proofs.Bare.{keeps_still, opened_now, rests, shelf_failed}

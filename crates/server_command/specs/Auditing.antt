@@ -7,7 +7,7 @@ use Rattle.web_outside.specs.Pieces.{IsCutShort}
 use Rattle.web_disk.specs.View.{RackView, AreAmong}
 use Rattle.web_disk.specs.declared.rack.RackFault.{RackFault}
 use Rattle.web_disk.specs.declared.rack.RackFault.TheVariants as rack_fault
-use Rattle.trio_rack.specs.Trios.{shelves_of}
+use Rattle.trio_rack.specs.Trios.{KeepsHome, shelves_of}
 use Rattle.page_audit.specs.AuditSpec.Findings.{Answer, Finding, is_damaged, no, yes}
 use Rattle.page_audit.specs.AuditSpec.declared.word.Word.{Word}
 use Rattle.page_audit.specs.AuditSpec.declared.word.Word.TheVariants as word
@@ -24,7 +24,7 @@ use Rattle.server_command.specs.declared.auditing.AuditEnd.{AuditEnd}
 use Rattle.server_command.specs.declared.program.Status.{Status}
 use Rattle.server_command.specs.declared.program.Status.TheVariants as status
 use Rattle.server_command.specs.Output.{memory_line, Answers, BreaksOff, Output, PrintsTo, Sinks, Tells}
-use Rattle.server_command.specs.Racks.{Racks, AreHeld, KeepsHome, ShelfFailed, damaged, disk_line, unfit_line}
+use Rattle.server_command.specs.Racks.{Racks, AreHeld, ShelfFailed, damaged, disk_line, unfit_line}
 
 -- ---- the lines
 

@@ -4,7 +4,7 @@ use Rattle.web_outside.specs.declared.nonces.Counting.{Counting}
 use Rattle.web_disk.specs.View.{View, RackView, AreAmong, LeavesOnly}
 use Rattle.web_disk.specs.declared.rack.RackFault.{RackFault}
 use Rattle.web_disk.specs.declared.rack.RackFault.TheVariants as rack_fault
-use Rattle.trio_rack.specs.Trios.{shelves_of}
+use Rattle.trio_rack.specs.Trios.{KeepsHome, shelves_of}
 use Rattle.setup_reader.specs.Texts.{setup_of_texts}
 use Rattle.page_follower.specs.OfShelf.JournalRecords.Records.{body_of, follows}
 use Rattle.page_journal.specs.Holding.{Holdable, MayHold}
@@ -29,7 +29,7 @@ use Rattle.play_desk.specs.declared.opening.OpenCause.{OpenCause}
 use Rattle.play_desk.specs.declared.opening.OpenCause.TheVariants as cause
 use Rattle.server_command.specs.declared.feeding.Opening.{Opening}
 use Rattle.server_command.specs.declared.feeding.Opening.TheVariants as opening
-use Rattle.server_command.specs.Racks.{Racks, KeepsHome, ShelfFailed}
+use Rattle.server_command.specs.Racks.{Racks, ShelfFailed}
 
 -- ---- what the bytes of a disk make
 

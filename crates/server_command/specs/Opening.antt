@@ -1,7 +1,7 @@
 -- What opening the shelves of a server comes to.
 use Rattle.std.specs.Prelude.{⊤, ◌≡◌, ◌≢◌, ◌⊎◌, ◌≤◌, ◌<◌, ◌+◌, ℕ, Bool, true, false, List, map, length, sum_by, Some, slice_get}
 use Rattle.web_disk.specs.View.{View, RackView, AreAmong}
-use Rattle.trio_rack.specs.Trios.{shelves_of}
+use Rattle.trio_rack.specs.Trios.{KeepsHome, shelves_of}
 use Rattle.script_nodes.specs.Setup.{Named}
 use Rattle.replay_spec.specs.Rules.{Rules}
 use Rattle.page_follower.specs.OfShelf.JournalRecords.Records.{IsInGrammar, begin_of}
@@ -15,7 +15,7 @@ use Rattle.play_desk.specs.Opening.{FailedFor, IsKept, cause_of, reopen_of}
 use Rattle.play_desk.specs.declared.opening.OpenCause.{OpenCause}
 use Rattle.play_desk.specs.declared.opening.OpenCause.TheVariants as cause
 use Rattle.play_desk.specs.declared.opening.OpenFault.{OpenFault}
-use Rattle.server_command.specs.Racks.{AreBare, AreHeld, FailsInOrder, KeepsHome, damaged, other, full, first_unfit, unfit_left}
+use Rattle.server_command.specs.Racks.{AreBare, AreHeld, FailsInOrder, damaged, other, full, first_unfit, unfit_left}
 use Rattle.server_command.specs.Serving.{AreOpened}
 
 -- what reads of disks give

@@ -1,6 +1,6 @@
 -- What the disks of a rack are to the shelves that stand on them. A shelf has three, and its disk is what these are together: the file that its
 -- root names (`shelves_of`). What is asked for, and what is home, is said of each disk of the rack.
-use Rattle.std.specs.Prelude.{⊤, ◌≡◌, ◌≤◌, ◌<◌, ◌⊎◌, ℕ, ◌+◌, ◌^◌, ◌++◌, ◌∷◌, List, [], length, Bool, false, Option, Some, None, slice_get, take, nat_le, codes, if◌then◌else◌}
+use Rattle.std.specs.Prelude.{⊤, ◌≡◌, ◌≤◌, ◌<◌, ◌⊎◌, ℕ, ◌+◌, ◌^◌, ◌++◌, ◌∷◌, List, [], length, Bool, Option, Some, None, slice_get, take, nat_le, codes, if◌then◌else◌}
 use Rattle.std.specs.Fmt.{decimal}
 use Rattle.web_disk.specs.View.{RackView, AreAmong}
 use Rattle.trio_rack.specs.Numbers.{IsOneOfThree}
@@ -45,10 +45,6 @@ pub record AtRest (rack : Racks) : Type 0 where
 pub record AreBack (old new : RackView) : Type 0 where
   pub home : AreHome new.out
   pub later : old.faults ≤ new.faults
-
--- each disk that is home stays so, or comes back
-abbrev pub KeepsHome : (before after : RackView) → Type 0
-KeepsHome before after = (number : ℕ) → (shelves_of before).out number ≡ false → (shelves_of after).out number ≡ false
 
 -- What may stand on the disks of a shelf that is to begin anew: nothing on any of the three; or these bytes on one of them.
 abbrev pub held_anew : RackView → (shelf : ℕ) → List ℕ → Type 0

@@ -1,7 +1,7 @@
 ghost use Rattle.std.specs.Prelude.{◌&&◌, ◌≡◌, ◌≤◌, ◌<◌, ◌+◌, length, Some, IsTrue, IfOk, IfErr, OnErr};
 ghost use Rattle.disk_trio.specs.Trio.{trio_view};
 ghost use Rattle.trio_rack.specs.Each.{GivesEach};
-ghost use Rattle.trio_rack.specs.Trios.{LeavesAllDisks, shelves_of};
+ghost use Rattle.trio_rack.specs.Trios.{KeepsHome, LeavesAllDisks, shelves_of};
 ghost use Rattle.script_nodes.specs.Views.{scripts_of};
 ghost use Rattle.server_limits.specs.Limits.{most_shelves};
 ghost use Rattle.setup_reader.specs.Texts.{IsReadSetup};
@@ -10,7 +10,6 @@ ghost use Rattle.site_serving.specs.Shelves.{AreNew, IsReady};
 ghost use Rattle.site_serving.specs.Serving.{openings_of};
 ghost use Rattle.command_words.specs.Plain.{AreInRange};
 ghost use Rattle.server_command.specs.Output.{rules_for};
-ghost use Rattle.server_command.specs.Racks.{KeepsHome};
 ghost use Rattle.server_command.specs.Opening.{AreAsked, AreFrom, AreGiven, AsksAsTaken, FailsAt, AreRulesFor, AreUntaken, CanBegin, HasTaken, OpensOn, RefusesOn, TakesBack, seen_on, unopened_by};
 
 use command_words::Options;

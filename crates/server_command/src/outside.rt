@@ -2,6 +2,7 @@ ghost use Rattle.std.specs.Prelude.{◌&&◌, ◌≡◌, ◌≤◌, List, ℕ, S
 ghost use Rattle.web_outside.specs.Causes.{Rose};
 ghost use Rattle.web_outside.specs.View.{SeedsView};
 ghost use Rattle.disk_trio.specs.Trio.{trio_view};
+ghost use Rattle.trio_rack.specs.Trios.{KeepsHome};
 ghost use Rattle.script_nodes.specs.Views.{scripts_of};
 ghost use Rattle.setup_reader.specs.Texts.{IsReadSetup};
 ghost use Rattle.command_words.specs.Plain.{CanServe};
@@ -15,7 +16,7 @@ ghost use Rattle.server_command.specs.Opening.{CanBegin};
 ghost use Rattle.server_command.specs.Order.{Both, asks_of, both};
 ghost use Rattle.server_command.specs.Outside.{HoldsTheSame, IsLent};
 ghost use Rattle.server_command.specs.Output.{Hands};
-ghost use Rattle.server_command.specs.Racks.{AreBack, KeepsHome, racks_of};
+ghost use Rattle.server_command.specs.Racks.{AreBack, racks_of};
 ghost use Rattle.server_command.specs.Serving.{AreDrawn, outside};
 
 use crate::auditing::{audit_all, audit_first};

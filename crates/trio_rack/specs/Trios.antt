@@ -1,9 +1,11 @@
 -- A rack whose disks are taken three at a time.
-use Rattle.std.specs.Prelude.{◌≡◌, ◌≢◌, ◌⊎◌, ℕ, ◌+◌, Bool, true, false, ◌||◌, List, [], ◌∷◌, ◌++◌, Result, Ok, Err}
+use Rattle.std.specs.Prelude.{◌≡◌, ◌≢◌, ◌⊎◌, ℕ, ◌+◌, ◌≤◌, Bool, true, false, ◌||◌, List, [], ◌∷◌, ◌++◌, Result, Ok, Err}
 use Rattle.web_disk.specs.View.{RackView, AreAmong}
+use Rattle.web_disk.specs.Takes.{failed_after}
 use Rattle.web_disk.specs.declared.disk.Disk.{Ghosts}
+use Rattle.web_disk.specs.declared.rack.RackFault.{RackFault}
 use Rattle.disk_trio.specs.Naming.{names}
-use Rattle.disk_trio.specs.Trio.{three_of}
+use Rattle.disk_trio.specs.Trio.{three_of, trio_view}
 use Rattle.disk_trio.specs.declared.side.Side.TheVariants.{A, B}
 use Rattle.disk_trio.specs.declared.trio.Disks.{Disks}
 use Rattle.trio_rack.specs.Numbers.{file_number, root_number, is_shelf, number_behind, three_numbers, IsOneOfThree, IsNoneOf}
@@ -88,3 +90,41 @@ AreFirstOfThree shelf numbers =
 abbrev pub AsksForThree : {T E : Type 0} → (shelf : ℕ) → Result T E → (old new : RackView) → Type 0
 AsksForThree shelf (Ok disks) old new = new.asked ≡ old.asked ++ three_numbers shelf
 AsksForThree shelf (Err fault) old new = (numbers : List ℕ) × (AreFirstOfThree shelf numbers × (new.asked ≡ old.asked ++ numbers))
+
+-- ---- shelves of a rack, each of whose three disks count as one
+
+-- What three disks may hold, taken as one, a rack might hold for this shelf.
+abbrev pub IsFrom : {D : Type 0} {G : Ghosts D} → RackView → (shelf : ℕ) → Disks D G → Type 0
+IsFrom rack shelf d = AreAmong (trio_view d).images ((shelves_of rack).holds shelf)
+
+-- What a rack may hold for this shelf three disks may hold, taken as one.
+abbrev pub IsGivenTo : {D : Type 0} {G : Ghosts D} → RackView → (shelf : ℕ) → Disks D G → Type 0
+IsGivenTo rack shelf d = AreAmong ((shelves_of rack).holds shelf) (trio_view d).images
+
+-- What a rack may hold for each shelf it might hold before.
+abbrev pub LeavesAllShelves : (old new : RackView) → Type 0
+LeavesAllShelves old new = (n : ℕ) → AreAmong ((shelves_of new).holds n) ((shelves_of old).holds n)
+
+-- What a rack may hold for each other shelf than this one it might hold before.
+abbrev pub LeavesOtherShelves : (shelf : ℕ) → (old new : RackView) → Type 0
+LeavesOtherShelves shelf old new = (n : ℕ) → n ≢ shelf → AreAmong ((shelves_of new).holds n) ((shelves_of old).holds n)
+
+-- Each shelf whose disks were home has them home still, or again.
+abbrev pub KeepsHome : (before after : RackView) → Type 0
+KeepsHome before after = (number : ℕ) → (shelves_of before).out number ≡ false → (shelves_of after).out number ≡ false
+
+-- Where the disks of a shelf were not taken for a fault, one failure more counts for it.
+abbrev pub CountsTake : {T : Type 0} → (shelf : ℕ) → Result T RackFault → (old new : RackView) → Type 0
+CountsTake shelf result old new = (shelves_of new).failed shelf ≡ failed_after result ((shelves_of old).failed shelf)
+
+-- For each other shelf than this one as many failures count as before.
+abbrev pub CountsNoOther : (shelf : ℕ) → (old new : RackView) → Type 0
+CountsNoOther shelf old new = (n : ℕ) → n ≢ shelf → (shelves_of new).failed n ≡ (shelves_of old).failed n
+
+-- The failures of calls of these three disks count for a shelf, each of them.
+abbrev pub CountsEach : {D : Type 0} {G : Ghosts D} → (shelf : ℕ) → Disks D G → (old new : RackView) → Type 0
+CountsEach shelf d old new = (shelves_of new).failed shelf ≡ (shelves_of old).failed shelf + sum_of_faults d
+
+-- The failures of calls of these three disks, taken as one, count for a shelf.
+abbrev pub CountsWhole : {D : Type 0} {G : Ghosts D} → (shelf : ℕ) → Disks D G → (old new : RackView) → Type 0
+CountsWhole shelf d old new = (shelves_of old).failed shelf + (trio_view d).faults ≤ (shelves_of new).failed shelf

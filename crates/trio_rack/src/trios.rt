@@ -1,9 +1,8 @@
 ghost use Rattle.std.specs.Prelude.{◌≡◌, ◌≢◌, ◌≤◌, ◌<◌, ◌+◌, ◌-◌, ◌^◌, ℕ, true, false, IsTrue, min, IfOk, OnOk, OnErr, IsErrOf};
 ghost use Rattle.web_outside.specs.Causes.{Rose};
 ghost use Rattle.web_disk.specs.View.{AreAmong};
-ghost use Rattle.web_disk.specs.Takes.{failed_after};
 ghost use Rattle.disk_trio.specs.Trio.{trio_view};
-ghost use Rattle.trio_rack.specs.Trios.{shelves_of, sum_of_faults, AreFrom, AreGivenTo, AsksForThree, LeavesAllDisks, LeavesOtherDisks};
+ghost use Rattle.trio_rack.specs.Trios.{shelves_of, AreFrom, AreGivenTo, AsksForThree, CountsEach, CountsNoOther, CountsTake, CountsWhole, IsFrom, IsGivenTo, KeepsHome, LeavesAllDisks, LeavesAllShelves, LeavesOtherDisks, LeavesOtherShelves};
 
 use disk_trio::Disks;
 use std::alloc::Global;
@@ -19,31 +18,26 @@ pub fn take_trio<D: Disk, R: Rack<D>>(
 ) -> Result<Disks<D>, RackFault>
     requires shelf { shelf < 16 }
     ensures unopened { IfOk result (λ disks. disks.known ≡ false) }
-    ensures images { IsTrue R.tells → IfOk result (λ disks.
-        AreAmong (trio_view disks).images ((shelves_of (R.view rack.old)).holds shelf)) }
+    ensures images { IsTrue R.tells → IfOk result (λ disks. IsFrom (R.view rack.old) shelf disks) }
     ensures each { IsTrue R.tells →
         IfOk result (λ disks. AreFrom (R.view rack.old) shelf disks) }
     ensures fresh { IfOk result (λ disks. (trio_view disks).faults ≡ 0) }
     ensures out { OnOk result ((shelves_of (R.view rack.new)).out shelf ≡ true) }
-    ensures others { (n : ℕ) → n ≢ shelf → AreAmong
-        ((shelves_of (R.view rack.new)).holds n) ((shelves_of (R.view rack.old)).holds n) }
+    ensures others { LeavesOtherShelves shelf (R.view rack.old) (R.view rack.new) }
     ensures other_disks { LeavesOtherDisks shelf (R.view rack.old) (R.view rack.new) }
     ensures others_out { (n : ℕ) → n ≢ shelf →
         (shelves_of (R.view rack.new)).out n ≡ (shelves_of (R.view rack.old)).out n }
-    ensures err { IsTrue R.tells → OnErr result ((n : ℕ) → AreAmong
-        ((shelves_of (R.view rack.new)).holds n) ((shelves_of (R.view rack.old)).holds n)) }
+    ensures err { IsTrue R.tells →
+        OnErr result (LeavesAllShelves (R.view rack.old) (R.view rack.new)) }
     ensures err_disks { IsTrue R.tells →
         OnErr result (LeavesAllDisks (R.view rack.old) (R.view rack.new)) }
-    ensures err_home { OnErr result ((n : ℕ) → (shelves_of (R.view rack.old)).out n ≡ false
-        → (shelves_of (R.view rack.new)).out n ≡ false) }
+    ensures err_home { OnErr result (KeepsHome (R.view rack.old) (R.view rack.new)) }
     ensures failed { IsErrOf result RackFault.Failed →
         Rose (R.view rack.old).faults (R.view rack.new).faults }
     ensures later { (R.view rack.old).faults ≤ (R.view rack.new).faults }
     ensures asked { AsksForThree shelf result (R.view rack.old) (R.view rack.new) }
-    ensures counted { (shelves_of (R.view rack.new)).failed shelf
-        ≡ failed_after result ((shelves_of (R.view rack.old)).failed shelf) }
-    ensures others_counted { (n : ℕ) → n ≢ shelf →
-        (shelves_of (R.view rack.new)).failed n ≡ (shelves_of (R.view rack.old)).failed n }
+    ensures counted { CountsTake shelf result (R.view rack.old) (R.view rack.new) }
+    ensures others_counted { CountsNoOther shelf (R.view rack.old) (R.view rack.new) }
 {
     let a = match rack.take(alloc, directory, shelf) {
         Ok(a) => a,
@@ -69,11 +63,9 @@ pub fn take_trio<D: Disk, R: Rack<D>>(
 /// Gives back the three disks of a shelf. Their faults count as the rack's, for this shelf.
 pub fn give_trio<D: Disk, R: Rack<D>>(rack: &mut R, shelf: u32, disks: Disks<D>)
     requires shelf { shelf < 16 }
-    ensures images { IsTrue R.tells → IsTrue D.tells →
-        AreAmong ((shelves_of (R.view rack.new)).holds shelf) (trio_view disks).images }
+    ensures images { IsTrue R.tells → IsTrue D.tells → IsGivenTo (R.view rack.new) shelf disks }
     ensures each { IsTrue R.tells → AreGivenTo (R.view rack.new) shelf disks }
-    ensures others { (n : ℕ) → n ≢ shelf → AreAmong
-        ((shelves_of (R.view rack.new)).holds n) ((shelves_of (R.view rack.old)).holds n) }
+    ensures others { LeavesOtherShelves shelf (R.view rack.old) (R.view rack.new) }
     ensures home { (shelves_of (R.view rack.new)).out shelf ≡ false }
     ensures other_disks { LeavesOtherDisks shelf (R.view rack.old) (R.view rack.new) }
     ensures others_out { (n : ℕ) → n ≢ shelf →
@@ -81,12 +73,9 @@ pub fn give_trio<D: Disk, R: Rack<D>>(rack: &mut R, shelf: u32, disks: Disks<D>)
     ensures faults { (R.view rack.new).faults ≡ min
         ((R.view rack.old).faults + (trio_view disks).faults) (2 ^ 64 - 1) }
     ensures asked { (R.view rack.new).asked ≡ (R.view rack.old).asked }
-    ensures counted { (shelves_of (R.view rack.new)).failed shelf
-        ≡ (shelves_of (R.view rack.old)).failed shelf + sum_of_faults disks }
-    ensures counted_whole { (shelves_of (R.view rack.old)).failed shelf + (trio_view disks).faults
-        ≤ (shelves_of (R.view rack.new)).failed shelf }
-    ensures others_counted { (n : ℕ) → n ≢ shelf →
-        (shelves_of (R.view rack.new)).failed n ≡ (shelves_of (R.view rack.old)).failed n }
+    ensures counted { CountsEach shelf disks (R.view rack.old) (R.view rack.new) }
+    ensures counted_whole { CountsWhole shelf disks (R.view rack.old) (R.view rack.new) }
+    ensures others_counted { CountsNoOther shelf (R.view rack.old) (R.view rack.new) }
 {
     let (a, b, root) = disks.close();
     rack.give(shelf, a);
