@@ -7,8 +7,8 @@ ghost use Rattle.segments.specs.Views.{segment_of, tape_of};
 ghost use Rattle.replay_spec.specs.Eval.{calls_in, value_at, copied, run};
 ghost use Rattle.segment_progress.specs.Halts.{how_of};
 ghost use Rattle.plain_rerun.specs.Parts.{tree, trees, node_at, all_at, let_at, if_at, for_at, prim_at, call_at, send_at, isolate_at, shadow_at, set_at, add_at, joined, stops_at, first_turns, turns_at, AreBehind};
-ghost use Rattle.segment_progress.specs.States.{state_of, inside_of, TellsStop};
-ghost use Rattle.plain_rerun.specs.Runs.{Runs};
+ghost use Rattle.segment_progress.specs.States.{inside_of};
+ghost use Rattle.plain_rerun.specs.Runs.{Runs, TellsStopOf};
 
 use crate::goes_on::GoesOn;
 use crate::nodes::{node_of, task_of};
@@ -83,7 +83,7 @@ impl<'t> Engine<'t> {
     // A variable's value.
     fn variable(&mut self, place: usize) -> Result<Value, Halt>
         ensures gives { Runs meaning result self.old self.new (λ env inside. copied inside (value_at env place)) }
-        ensures told { TellsStop result (copied (inside_of self.old.progress) (value_at self.old.env place) (state_of self.old.progress)) }
+        ensures told { TellsStopOf result self.old (λ env inside. copied inside (value_at env place)) }
         ensures inside { inside_of self.new.progress ≡ inside_of self.old.progress }
         ensures env { self.new.env ≡ self.old.env }
     {
