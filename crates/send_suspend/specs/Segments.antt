@@ -2,12 +2,15 @@
 use Rattle.std.specs.Prelude.{◌≡◌, ◌<◌, ℕ, List, [], length, map, ⊤}
 use Rattle.std.specs.List.{AllByRecursion}
 use Rattle.script_value.specs.Val.{Val}
+use Rattle.script_value.specs.Views.{meaning}
+use Rattle.script_value.specs.declared.value.Value.{Value}
 use Rattle.script_nodes.specs.Arena.{Arena, script_of}
 use Rattle.web_cells.specs.Shadows.{Rise}
 use Rattle.web_cells.specs.Own.{BindsAllOf}
 use Rattle.instance_cells.specs.Cells.{AreOn, Holds, reads_of}
 use Rattle.instance_cells.specs.Views.{effect_of}
 use Rattle.segments.specs.declared.ends.RunEnd.{RunEnd}
+use Rattle.segments.specs.declared.tape.Now.{Now}
 use Rattle.segments.specs.Views as plain
 use Rattle.segments.specs.ReplaySpec.Tape.{Answer, Reads, recorded, present, Tape}
 use Rattle.segments.specs.ReplaySpec.Eval as eval
@@ -83,3 +86,12 @@ IsLastOver a r tape now =
 abbrev pub Replays : Origin → Arena → Answer → Segment → Type 0
 Replays Start a x r = IsLastOver a r (λ reads. alone x.segment reads) x.segment.reads
 Replays (Page d) a x r = (t : Tape) → IsStateOf a t (suspended_of d) → IsLastOver a r (λ reads. longer (reading reads x) t) x.segment.reads
+
+-- A machine is the one that a segment begins with after this answer.
+abbrev pub IsBegun : Origin → Arena → Value → Now → machine.Machine → Type 0
+IsBegun from a answer segment m = m ≡ begun from a (record { value = meaning answer; segment = plain.now_of segment })
+
+-- A segment is the script over the newest one, with this answer, number and URL, over these cells and with this fuel, as it goes on from an
+-- origin.
+abbrev pub ReplaysNewest : Origin → Arena → (answer : Value) → (number : ℕ) → (url : List ℕ) → (cells : List Val) → (fuel : ℕ) → Segment → Type 0
+ReplaysNewest from a answer number url cells fuel r = Replays from a (newest (meaning answer) number url cells fuel) r

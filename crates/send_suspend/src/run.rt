@@ -1,10 +1,8 @@
 ghost use Rattle.std.specs.Prelude.{◌≡◌, ◌<◌, ◌≤◌, ◌+◌, ◌*◌, ◌^◌, IfOk};
-ghost use Rattle.script_value.specs.Views.{meaning};
-ghost use Rattle.segments.specs.Views.{now_of};
 ghost use Rattle.machine_states.specs.Fits.{Fits};
 ghost use Rattle.cek_machine.specs.Machines.{IsReady, machine_of};
 ghost use Rattle.machine_states.specs.Views.{Keeps};
-ghost use Rattle.send_suspend.specs.Segments.{newest, FitsFrom, frames_in, begun, Ends, IsConsistent, Replays};
+ghost use Rattle.send_suspend.specs.Segments.{FitsFrom, frames_in, Ends, IsBegun, IsConsistent, ReplaysNewest};
 
 use cek_machine::{Machine, Steps};
 use instance_cells::Cells;
@@ -37,7 +35,8 @@ fn begin<'s>(
     segment: Now<'s>,
 ) -> Result<Machine<'s>, AllocError>
     requires { FitsFrom script.now from }
-    ensures machine { IfOk result (λ m. machine_of m ≡ begun from script.now (record { value = meaning answer.now; segment = now_of segment.entry })) }
+    ensures machine { IfOk result (λ m.
+        IsBegun from script.now answer.now segment.entry (machine_of m)) }
     ensures script { IfOk result (λ m. m.script.now ≡ script.now) }
     ensures ready { IfOk result (λ m. IsReady m) }
 {
@@ -68,7 +67,8 @@ pub fn run_segment<L: Ledger>(
 ) -> Result<Segment, AllocError>
     requires fits { FitsFrom script.now from }
     requires fuel { fuel < 2 ^ 63 }
-    ensures replays { IfOk result (λ r. Replays from script.now (newest (meaning answer.now) number url.now cells.now fuel) r) }
+    ensures replays { IfOk result
+        (ReplaysNewest from script.now answer.now number url.now cells.now fuel) }
     ensures consistent { IfOk result (IsConsistent from script.now cells.now) }
     ensures fits { IfOk result (λ r. Keeps r.outcome (λ d. Fits script.now d)) }
     ensures few { IfOk result (λ r. steps.new ≤ steps.old + (2 * r.cost + frames_in from + 2)) }

@@ -1,8 +1,7 @@
 ghost use Rattle.std.specs.Prelude.{◌≡◌, ◌<◌, ◌^◌, IfOk};
-ghost use Rattle.script_value.specs.Views.{meaning};
 ghost use Rattle.send_suspend.specs.MachineStates.Fits.{Fits};
 ghost use Rattle.send_suspend.specs.MachineStates.Views.{Keeps};
-ghost use Rattle.send_suspend.specs.Segments.{newest, FitsFrom, IsConsistent, Replays};
+ghost use Rattle.send_suspend.specs.Segments.{FitsFrom, IsConsistent, ReplaysNewest};
 
 use instance_cells::Cells;
 use script_nodes::Script;
@@ -29,8 +28,8 @@ fn uncounted<L: Ledger>(
     requires one { blank.parts ≡ 1 }
     requires fits { FitsFrom script.now from }
     requires fuel { fuel < 2 ^ 63 }
-    ensures replays { IfOk result (λ r. Replays from script.now
-        (newest (meaning answer.now) number url.now cells.now fuel) r) }
+    ensures replays { IfOk result
+        (ReplaysNewest from script.now answer.now number url.now cells.now fuel) }
     ensures consistent { IfOk result (IsConsistent from script.now cells.now) }
     ensures kept { IfOk result (λ r. Keeps r.outcome (λ d. Fits script.now d)) }
 {
@@ -54,8 +53,8 @@ pub fn run_from(
 ) -> Result<Segment, AllocError>
     requires fits { FitsFrom script.now from }
     requires fuel { fuel < 2 ^ 63 }
-    ensures replays { IfOk result (λ r. Replays from script.now
-        (newest (meaning answer.now) number url.now cells.now fuel) r) }
+    ensures replays { IfOk result
+        (ReplaysNewest from script.now answer.now number url.now cells.now fuel) }
     ensures consistent { IfOk result (IsConsistent from script.now cells.now) }
     ensures kept { IfOk result (λ r. Keeps r.outcome (λ d. Fits script.now d)) }
 {
