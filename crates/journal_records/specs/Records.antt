@@ -229,6 +229,10 @@ each_text scripts = flat_map script_bytes (texts_of scripts)
 abbrev pub each_text_from : (place : ℕ) → List Named → List ℕ
 each_text_from place scripts = flat_map script_bytes (drop place (texts_of scripts))
 
+-- The name and the text of the script at this place were written: those after it may follow.
+abbrev pub WritesPlace : List Named → (place : ℕ) → (old new : List ℕ) → Type 0
+WritesPlace scripts place old new = new ++ each_text_from (place + 1) scripts ≡ old ++ each_text_from place scripts
+
 -- the record that a journal of these scripts begins with
 abbrev pub begin_of : (shelf : ℕ) → List Named → Record
 begin_of shelf scripts = begins shelf (texts_of scripts)

@@ -6,7 +6,7 @@ ghost use Rattle.script_nodes.specs.Views.{scripts_of, named_of};
 ghost use Rattle.wire_bytes.specs.Spelling.{u64_bytes, byte_string};
 ghost use Rattle.value_bytes.specs.Spelling.{FitsList, list_bytes, value_bytes};
 ghost use Rattle.journal_records.specs.Fields.{effect_bytes, EffectFits, name_bytes, NameFits, script_bytes, ScriptFits, origin_bytes, OriginFits, send_byte, nothing};
-ghost use Rattle.journal_records.specs.Records.{body_of, texts_of, each_text, each_text_from, FitFrom, IsInGrammar, effects_bytes, names_bytes, PageFits, EndingFits, FinishFits, text_of, ending_bytes, finish_bytes, has_state, IfChanges, IfChangesWith, IsRecordLength, IsTextLength, PartsFit};
+ghost use Rattle.journal_records.specs.Records.{body_of, texts_of, each_text, FitFrom, WritesPlace, IsInGrammar, effects_bytes, names_bytes, PageFits, EndingFits, FinishFits, text_of, ending_bytes, finish_bytes, has_state, IfChanges, IfChangesWith, IsRecordLength, IsTextLength, PartsFit};
 ghost use Rattle.journal_records.specs.Views.{origin_of, setup_bytes, lent_bytes, page_of, ending_of, finish_of, recorded_of, page_body, ended_body, finish_body};
 ghost use Rattle.journal_records.specs.Records as spec;
 
@@ -147,10 +147,7 @@ fn write_scripts(writer: &mut Writer, setup: &Setup) -> Result<(), AllocError>
 fn write_place(writer: &mut Writer, setup: &Setup, place: usize) -> Result<(), AllocError>
     requires within { place < length (scripts_of setup.now) }
     requires fit { FitFrom place (scripts_of setup.now) }
-    ensures { OnOk result (
-        writer.new ++ each_text_from (place + 1) (scripts_of setup.now)
-        ≡ writer.old ++ each_text_from place (scripts_of setup.now)
-        ) }
+    ensures { OnOk result (WritesPlace (scripts_of setup.now) place writer.old writer.new) }
 {
     match setup.get(place) {
         Some(named) => write_script(writer, named.name.as_bytes(), named.text.as_slice()),
