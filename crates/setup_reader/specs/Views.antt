@@ -1,5 +1,5 @@
 -- What the program's setup stands for.
-use Rattle.std.specs.Prelude.{◌≡◌, Result, Ok, Err, ⊤, ℕ, List}
+use Rattle.std.specs.Prelude.{◌≡◌, Option, Result, Ok, Err, ⊤, ℕ, List}
 use Rattle.page_names.specs.Views.{name_of}
 use Rattle.script_nodes.specs.Views.{scripts_of, named_of}
 use Rattle.std.specs.Borrow.{Bor}
@@ -13,6 +13,7 @@ use Rattle.setup_reader.specs.declared.fault.SetupFault.TheVariants.{Memory, At}
 use Rattle.setup_reader.specs.declared.setup.Section.{Section}
 use Rattle.setup_reader.specs.declared.setup.Parsed.{Parsed}
 use Rattle.setup_reader.specs.Setup as spec
+use Rattle.setup_reader.specs.Texts.{if_new, script_of_text}
 use Rattle.setup_reader.specs.Faults.{fault_line}
 
 -- a section of a setup: the name and the text of its script, and the bytes after it
@@ -26,6 +27,10 @@ parsed_of p = record { scripts = scripts_of p.setup; steps = p.steps.now }
 -- the name and the text that a journal told
 abbrev pub told_of : ScriptText → List ℕ × List ℕ
 told_of t = (t.name, t.text)
+
+-- the script that a journal told after these scripts: none where it is none, or one of them has its name
+abbrev pub next_told : List Named → ScriptText → Option Named
+next_told scripts t = if_new scripts (script_of_text (told_of t))
 
 -- the fault of a setup that the program's error stands for
 abbrev pub fault_of : SetupError → spec.Fault

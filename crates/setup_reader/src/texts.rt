@@ -1,8 +1,8 @@
 ghost use Rattle.std.specs.Prelude.{◌≡◌, ◌&&◌, nat_le, map, option_map, IfOk};
 ghost use Rattle.script_nodes.specs.Views.{scripts_of, named_of};
 ghost use Rattle.server_limits.specs.Counts.{most_scripts};
-ghost use Rattle.setup_reader.specs.Texts.{script_of_text, setup_of_texts, if_new};
-ghost use Rattle.setup_reader.specs.Views.{told_of};
+ghost use Rattle.setup_reader.specs.Texts.{script_of_text, setup_of_texts};
+ghost use Rattle.setup_reader.specs.Views.{next_told, told_of};
 
 use crate::fault::SetupFault;
 use crate::setup::compile;
@@ -32,8 +32,8 @@ fn next_of(
     setup: &Setup,
     told: &ScriptText,
 ) -> Result<Option<NamedScript>, AllocError>
-    ensures { IfOk result (λ found. option_map named_of found
-        ≡ if_new (scripts_of setup.now) (script_of_text (told_of told.now))) }
+    ensures { IfOk result (λ found.
+        option_map named_of found ≡ next_told (scripts_of setup.now) told.now) }
 {
     let Some(script) = script_of(alloc, told.name.as_slice(), told.text.as_slice())? else {
         return Ok(None);
