@@ -1,11 +1,15 @@
 -- The word of the first test that fails of a record.
-use Rattle.std.specs.Prelude.{◌≡◌, ℕ, Bool, List, length, Option, Some}
+use Rattle.std.specs.Prelude.{◌≡◌, ℕ, Bool, List, length, Option, Some, None}
 use Rattle.script_nodes.specs.Setup.{Library}
-use Rattle.replay_spec.specs.Book.{Use, Change}
+use Rattle.replay_spec.specs.Book.{Use, Change, ends, finishes}
 use Rattle.replay_spec.specs.Change.{used_by}
 use Rattle.replay_spec.specs.Eviction.{least_used}
 use Rattle.replay_spec.specs.Admission.{is_one}
-use Rattle.journal_records.specs.Records.{Record}
+use Rattle.journal_records.specs.Records.{Record, changes}
+use Rattle.journal_records.specs.Views.{page_change, ending_of, finish_of}
+use Rattle.journal_records.specs.declared.records.EndedRecord.{EndedRecord}
+use Rattle.journal_records.specs.declared.records.FinishRecord.{FinishRecord}
+use Rattle.journal_records.specs.declared.records.PageRecord.{PageRecord}
 use Rattle.book_redo.specs.InstanceBook.declared.in_order.InOrder.{InOrder}
 use Rattle.book_redo.specs.InstanceBook.declared.book.Book.{Book}
 use Rattle.book_redo.specs.InstanceBook.Orders.{numbers_of}
@@ -35,6 +39,18 @@ IsFaultAnyway library seen b r word = (format : ℕ) → IsFaultIn format librar
 -- this is the word for a record after this book, if it has one, under each library and whichever numbers were told
 abbrev pub IsFaultAlways : Book → Record → Option Word → Type 0
 IsFaultAlways b r word = (library : Library) (seen : InOrder (Unit {0})) → IsFaultAnyway library seen b r word
+
+-- Whatever records made this book, this is the word for the record of a page with this state, if it has one.
+abbrev pub IsPageFault : (format : ℕ) → Library → InOrder (Unit {0}) → Book → PageRecord → (state : List ℕ) → Option Word → Type 0
+IsPageFault format library seen b page state word = IsFaultIn format library seen b (changes (page_change page) (Some state)) word
+
+-- Whatever records made this book, this is the word for the record of a last page, if it has one.
+abbrev pub IsEndedFault : Library → InOrder (Unit {0}) → Book → EndedRecord → Option Word → Type 0
+IsEndedFault library seen b ended word = IsFaultAnyway library seen b (changes (ends (ending_of ended)) None) word
+
+-- Whatever records made this book, this is the word for the record of a last page with which the instance went, if it has one.
+abbrev pub IsFinishFault : Library → InOrder (Unit {0}) → Book → FinishRecord → Option Word → Type 0
+IsFinishFault library seen b finish word = IsFaultAnyway library seen b (changes (finishes (finish_of finish)) None) word
 
 -- this is whether these pages are as many of the least used as they are, once a segment of this number answered one
 abbrev pub GoesLeast : (answered number : ℕ) → List Use → (gone : List ℕ) → Bool → Type 0

@@ -1,11 +1,11 @@
-ghost use Rattle.std.specs.Prelude.{◌<◌, None, Some, IfOk};
+ghost use Rattle.std.specs.Prelude.{◌<◌, None, IfOk};
 ghost use Rattle.script_nodes.specs.Views.{library_of};
-ghost use Rattle.replay_spec.specs.Book.{ends, finishes, sweeps};
+ghost use Rattle.replay_spec.specs.Book.{sweeps};
 ghost use Rattle.book_redo.specs.InstanceBook.Makes.{HasPlaces, HasSomeStates, HasItsStates};
 ghost use Rattle.journal_records.specs.Records.{changes};
-ghost use Rattle.journal_records.specs.Views.{page_change, ending_of, finish_of, logged_of};
+ghost use Rattle.journal_records.specs.Views.{logged_of};
 ghost use Rattle.book_redo.specs.Again.{CanRunAgain};
-ghost use Rattle.record_audit.specs.Faults.{IsFaultIn, IsFaultAnyway, IsFaultAlways};
+ghost use Rattle.record_audit.specs.Faults.{IsFaultIn, IsFaultAlways, IsEndedFault, IsFinishFault, IsPageFault};
 
 use crate::checks::{can_be_answered, is_admitted, is_due, least_go, tells_own};
 use crate::runs::{ended_runs_so, finish_runs_so, page_runs_so};
@@ -29,8 +29,8 @@ fn page_fault(
     requires kept { HasSomeStates (library_of library.now).all book.now }
     requires own { HasItsStates (library_of library.now).all book.now }
     requires runs { CanRunAgain (library_of library.now) book.now }
-    ensures { IfOk result (IsFaultIn format (library_of library.now) seen.now book.now
-        (changes (page_change page.now) (Some state.now))) }
+    ensures { IfOk result
+        (IsPageFault format (library_of library.now) seen.now book.now page.now state.now) }
 {
     if seen.has(page.ticket) {
         return Ok(Some(Word::Number));
@@ -62,8 +62,7 @@ fn ended_fault(
     ended: &EndedRecord,
 ) -> Result<Option<Word>, AllocError>
     requires { HasPlaces (library_of library.now).all book.now }
-    ensures { IfOk result (IsFaultAnyway
-        (library_of library.now) seen.now book.now (changes (ends (ending_of ended.now)) None)) }
+    ensures { IfOk result (IsEndedFault (library_of library.now) seen.now book.now ended.now) }
 {
     if seen.has(ended.ticket) {
         return Ok(Some(Word::Number));
@@ -86,8 +85,7 @@ fn finish_fault(
     finish: &FinishRecord,
 ) -> Result<Option<Word>, AllocError>
     requires { HasPlaces (library_of library.now).all book.now }
-    ensures { IfOk result (IsFaultAnyway (library_of library.now) seen.now book.now
-        (changes (finishes (finish_of finish.now)) None)) }
+    ensures { IfOk result (IsFinishFault (library_of library.now) seen.now book.now finish.now) }
 {
     if seen.has(finish.ticket) {
         return Ok(Some(Word::Number));

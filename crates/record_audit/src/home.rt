@@ -1,11 +1,9 @@
 ghost use Rattle.std.specs.Prelude.{◌≡◌, IfOk, map, option_map, reverse};
-ghost use Rattle.script_value.specs.Views.{meaning};
-ghost use Rattle.segments.specs.Views.{answer_of, segment_of};
+ghost use Rattle.segments.specs.Views.{answer_of};
 ghost use Rattle.replay_spec.specs.Book as spec;
-ghost use Rattle.replay_spec.specs.Book.{chain};
 ghost use Rattle.replay_spec.specs.Next.{url_of, answered};
 ghost use Rattle.book_redo.specs.InstanceBook.Views.{page_of, pages_of};
-ghost use Rattle.record_audit.specs.Runs.{home_of, comes_behind};
+ghost use Rattle.record_audit.specs.Runs.{home_of, segments_to, ComesBehind};
 
 use book_redo::books::{InOrder, KeptPage, Numbered};
 use instance_cells::Cells;
@@ -70,8 +68,8 @@ impl Home<'_> {
         pages: &InOrder<KeptPage>,
         page: &Numbered<KeptPage>,
     ) -> Result<Vec<Answer>, AllocError>
-        ensures { IfOk result (λ past. reverse (map answer_of past.items)
-            ≡ map (answered (home_of self.now)) (chain (pages_of pages.now) (page_of page.now))) }
+        ensures { IfOk result (λ past.
+            reverse (map answer_of past.items) ≡ segments_to self.now pages.now page.now) }
     {
         let mut past = Vec::new(alloc);
         let mut next = Some(page);
@@ -92,8 +90,8 @@ impl Home<'_> {
         pages: &InOrder<KeptPage>,
         page: &Numbered<KeptPage>,
     ) -> Result<Vec<Answer>, AllocError>
-        ensures { IfOk result (λ past. map answer_of past.items
-            ≡ map (answered (home_of self.now)) (chain (pages_of pages.now) (page_of page.now))) }
+        ensures { IfOk result (λ past.
+            map answer_of past.items ≡ segments_to self.now pages.now page.now) }
     {
         let mut past = self.newest_first(alloc, pages, page)?;
         past.reverse();
@@ -111,8 +109,8 @@ impl Home<'_> {
         nonce: u64,
         cells: &'t Cells,
     ) -> Result<RunResult, AllocError>
-        ensures { IfOk result (λ ran. segment_of ran ≡ comes_behind self.now
-            (map answer_of past.now) (meaning answer.now) number nonce cells.now) }
+        ensures { IfOk result
+            (ComesBehind self.now past.now answer.now number nonce cells.now) }
     {
         let url = self.url(alloc, number, nonce)?;
         let tape = Tape {

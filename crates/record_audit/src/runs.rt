@@ -6,7 +6,7 @@ ghost use Rattle.book_redo.specs.InstanceBook.Makes.{HasPlaces};
 ghost use Rattle.book_redo.specs.InstanceBook.Standing.{named_if};
 ghost use Rattle.segments.specs.Views.{segment_of};
 ghost use Rattle.journal_records.specs.Views.{page_change, ending_of, finish_of};
-ghost use Rattle.record_audit.specs.Runs.{comes_at, StartRunsSo, AnswerRunsSo, RunsSo};
+ghost use Rattle.record_audit.specs.Runs.{comes_at, StartRunsSo, AnsweredSo, RunsSo};
 
 use crate::home::Home;
 use crate::so::{ends_so, finishes_so, shows_so};
@@ -89,8 +89,8 @@ fn answer_runs_so(
     page: &PageRecord,
 ) -> Result<bool, AllocError>
     requires { HasPlaces (library_of library.now).all book.now }
-    ensures { IfOk result (AnswerRunsSo
-        (library_of library.now) book.now instance answered (meaning answer.now) page.now) }
+    ensures { IfOk result
+        (AnsweredSo (library_of library.now) book.now instance answered answer.now page.now) }
 {
     let Some(place) = place_of_numbers(book, library, instance, answered) else {
         return Ok(false);

@@ -1,11 +1,10 @@
-ghost use Rattle.std.specs.Prelude.{◌≡◌, map, is_some};
+ghost use Rattle.std.specs.Prelude.{◌≡◌, map};
 ghost use Rattle.instance_cells.specs.Views.{effect_of};
 ghost use Rattle.segments.specs.Views.{outcome_of, segment_of};
 ghost use Rattle.replay_spec.specs.Recovery as spec;
-ghost use Rattle.replay_spec.specs.Recovery.{again};
 ghost use Rattle.journal_records.specs.Views.{effects_in};
 ghost use Rattle.audit_spec.specs.Tests.{ends_so, finishes_so};
-ghost use Rattle.record_audit.specs.Runs.{is_shown};
+ghost use Rattle.record_audit.specs.Runs.{is_shown, shows_again};
 
 use book_redo::are_same_effects;
 use instance_cells::Effect;
@@ -40,8 +39,7 @@ fn is_of_kind(end: &RunEnd, kind: SendKind) -> bool
 
 /// Whether a run shows a page of the record's kind, with its effects, and leaves its transactions.
 pub fn shows_so(ran: &RunResult, page: &PageRecord) -> bool
-    ensures { result ≡ is_some (again
-        page.now.kind (effects_in page.now.effects) page.now.left.items (segment_of ran.now)) }
+    ensures { result ≡ shows_again page.now (segment_of ran.now) }
 {
     is_of_kind(&ran.end, page.kind)
         && are_effects(&ran.effects, &page.effects)
