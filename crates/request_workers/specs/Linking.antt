@@ -1,13 +1,11 @@
 -- What becomes of a link that carries requests, one after the other.
-use Rattle.std.specs.Prelude.{◌≡◌, ◌≤◌, ◌<◌, ◌+◌, ◌-◌, ◌^◌, ◌||◌, ◌++◌, ◌⊎◌, ◌∷◌, [], ℕ, List, Bool, true, false, length, map, min, option_map, Option, Some, None, IfSome, Result, Ok, Err, ⊤}
+use Rattle.std.specs.Prelude.{◌≡◌, ◌≤◌, ◌<◌, ◌+◌, ◌-◌, ◌^◌, ◌||◌, ◌++◌, ◌⊎◌, ◌∷◌, [], ℕ, List, Bool, true, false, length, map, min, Option, Some, None, IfSome, Result, Ok, Err, ⊤}
 use Rattle.std.specs.Io.KnownBytes.{Appends, Consumes, IsAtEnd}
 use Rattle.std.specs.declared.alloc.AllocError.{AllocError}
 use Rattle.web_outside.specs.Causes.{Rose}
 use Rattle.web_outside.specs.Pieces.{AppendsPart, HandsOn}
 use Rattle.web_outside.specs.View.{SinkView, LinkView}
 use Rattle.script_value.specs.declared.outcome.Reply.{Reply}
-use Rattle.script_value.specs.Views.{meaning}
-use Rattle.page_names.specs.Views.{target_of}
 use Rattle.reply_words.specs.Words.{Told, page, word, told}
 use Rattle.http_forms.specs.Passes.{PassRules, Swept}
 use Rattle.http_forms.specs.Reader.{Gets}
@@ -17,7 +15,7 @@ use Rattle.http_forms.specs.Stream.{Stop, closed, refusal, pending, cut, closes_
 use Rattle.http_forms.specs.declared.refused.Refused.{Refused as Reason}
 use Rattle.http_forms.specs.declared.request.Request.{Request}
 use Rattle.http_forms.specs.declared.reply.Answer.TheVariants as answers
-use Rattle.request_workers.specs.Serving.{Replies}
+use Rattle.request_workers.specs.Serving.{Replies, RepliesTo}
 use Rattle.request_workers.specs.declared.link.LinkEnd.{LinkEnd}
 use Rattle.request_workers.specs.declared.link.LinkEnd.TheVariants as ends
 use Rattle.request_workers.specs.declared.link.Links.{Links}
@@ -196,7 +194,7 @@ WroteReply _ closes text old new = ⊥
 pub record Answered {P : Type 0} (rules : PassRules P) (before after : P) (request : Request) (last : Bool)
     (old new : LinkView) (count count' : Visited) (end : Option LinkEnd) : Type 0 where
   pub reply : Reply
-  pub replied : Replies rules before (option_map target_of request.target) (meaning request.answer) reply after
+  pub replied : RepliesTo rules before request.target request.answer reply after
   pub input : new.input ≡ old.input
   pub wrote : WroteReply end (request.closes || last) (reply_text (answers.Reply reply) (request.closes || last)) old.output new.output
   pub number : count' ≡ both count (visited reply)

@@ -8,8 +8,10 @@ use Rattle.script_value.specs.declared.outcome.Reply.{Reply}
 use Rattle.script_value.specs.declared.outcome.Reply.TheVariants.{Refused}
 use Rattle.script_value.specs.declared.outcome.Refusal.TheVariants.{Unknown}
 use Rattle.script_value.specs.Views.{meaning}
+use Rattle.script_value.specs.declared.value.Value.{Value}
 use Rattle.page_names.specs.Names.{Destination}
 use Rattle.page_names.specs.Views.{target_of}
+use Rattle.page_names.specs.declared.names.Target.{Target}
 use Rattle.http_forms.specs.Passes.{PassRules}
 use Rattle.http_forms.specs.Request.{Visit, unfinished, refused, visits}
 use Rattle.http_forms.specs.declared.refused.Refused.{Refused as Reason}
@@ -27,6 +29,10 @@ use Rattle.request_workers.specs.Scenes.{IsSilent, Tells, TellsPart}
 abbrev pub Replies : {P : Type 0} → PassRules P → P → Option Destination → Val → Reply → P → Type 0
 Replies rules before None answer reply after = (reply ≡ Refused Unknown) × (after ≡ before)
 Replies rules before (Some destination) answer reply after = rules.Visits before destination answer reply after
+
+-- The reply of the visit that a request asks for, by its target and its answer.
+abbrev pub RepliesTo : {P : Type 0} → PassRules P → P → Option Target → Value → Reply → P → Type 0
+RepliesTo rules before target answer reply after = Replies rules before (option_map target_of target) (meaning answer) reply after
 
 -- one visit was made, the one that the bytes read ask for
 pub record Visits {P : Type 0} (rules : PassRules P) (before after : P) (old new : LinkView) (reply : Reply) : Type 0 where
@@ -65,7 +71,7 @@ ServesOrDrops rules before after old new (Err e) = Drops before after old new
 -- what an incoming request is answered; nothing where nothing came
 abbrev pub Answers : {P : Type 0} → PassRules P → P → Incoming → Option Answer → P → Type 0
 Answers rules before (incoming.Visit request) (Some (answers.Reply reply)) after =
-    Replies rules before (option_map target_of request.target) (meaning request.answer) reply after
+    RepliesTo rules before request.target request.answer reply after
 Answers rules before (incoming.Refused reason) (Some (answers.Refused told)) after = (told ≡ reason) × (after ≡ before)
 Answers rules before incoming.Nothing None after = after ≡ before
 Answers rules before _ _ after = ⊥

@@ -1,7 +1,7 @@
 ghost use Rattle.std.specs.Prelude.{◌≡◌, ◌≤◌, ◌<◌, [], ℕ, List, length, IfOk, IsErrOf};
 ghost use Rattle.web_outside.specs.Causes.{Rose};
 ghost use Rattle.http_forms.specs.Progress.{Follows, Knows};
-ghost use Rattle.request_workers.specs.Bytes.{ReadsPiece, ReadsAll};
+ghost use Rattle.request_workers.specs.Bytes.{ReadsPieceFrom, ReadsAll};
 
 use http_forms::{ReadStop, RequestScanner};
 use web_outside::Source;
@@ -13,8 +13,8 @@ fn read_into<S: Source>(
     piece: &mut [u8],
 ) -> Result<usize, ReadStop>
     requires { 0 < length piece.old }
-    ensures read { ReadsPiece (S.view source.old).left
-        (S.view source.new).left bytes.old.items bytes.new.items (length piece.old) result }
+    ensures read { ReadsPieceFrom S.view source.old source.new
+        bytes.old bytes.new (length piece.old) result }
     ensures failed { IsErrOf result ReadStop.Failed →
         Rose (S.view source.old).faults (S.view source.new).faults }
     ensures later { (S.view source.old).faults ≤ (S.view source.new).faults }
@@ -31,8 +31,7 @@ fn read_piece<S: Source>(
     wanted: usize,
 ) -> Result<usize, ReadStop>
     requires { 0 < wanted }
-    ensures read { ReadsPiece (S.view source.old).left
-        (S.view source.new).left bytes.old.items bytes.new.items wanted result }
+    ensures read { ReadsPieceFrom S.view source.old source.new bytes.old bytes.new wanted result }
     ensures failed { IsErrOf result ReadStop.Failed →
         Rose (S.view source.old).faults (S.view source.new).faults }
     ensures later { (S.view source.old).faults ≤ (S.view source.new).faults }

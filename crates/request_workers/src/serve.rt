@@ -1,8 +1,6 @@
-ghost use Rattle.std.specs.Prelude.{◌≡◌, option_map, IfOk};
-ghost use Rattle.script_value.specs.Views.{meaning};
-ghost use Rattle.page_names.specs.Views.{target_of};
+ghost use Rattle.std.specs.Prelude.{◌≡◌, IfOk};
 ghost use Rattle.request_workers.specs.Scenes.{IsLater};
-ghost use Rattle.request_workers.specs.Serving.{Replies, Answers, ServesOrDrops, served_by};
+ghost use Rattle.request_workers.specs.Serving.{RepliesTo, Answers, ServesOrDrops, served_by};
 ghost use Rattle.http_forms.specs.Passes.{KeepsSkips};
 
 use crate::request::read_request;
@@ -54,8 +52,7 @@ pub(crate) fn visit<A: Answering, G: Gate>(
 ) -> Reply
     requires { (A.rules answering.now).IsOwn pass.old }
     ensures own { (A.rules answering.now).IsOwn pass.new }
-    ensures reply { Replies (A.rules answering.now) pass.old (option_map target_of target)
-        (meaning answer) result pass.new }
+    ensures reply { RepliesTo (A.rules answering.now) pass.old target answer result pass.new }
     ensures skips { KeepsSkips (A.rules answering.now) pass.old pass.new }
 {
     match target {

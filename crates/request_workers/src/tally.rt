@@ -1,7 +1,6 @@
 ghost use Rattle.std.specs.Prelude.{◌≡◌, ◌≤◌, ◌<◌, ◌+◌};
 ghost use Rattle.request_workers.specs.Counting as spec;
-ghost use Rattle.request_workers.specs.Linking.{links_count};
-ghost use Rattle.request_workers.specs.Tallies.{count_of, IsBelow};
+ghost use Rattle.request_workers.specs.Tallies.{count_of, served_count, IsBelow};
 
 use crate::link::{LinkEnd, Links};
 
@@ -51,8 +50,7 @@ impl Tally {
     pub(crate) fn count(&mut self, links: &Links)
         requires below { IsBelow (count_of self.old) COUNT_LIMIT }
         requires few { links.now.pages + links.now.refused ≤ 1000 }
-        ensures count { count_of self.new ≡ spec.both (count_of self.old)
-            (spec.link_count (links_count links.now) links.now.end) }
+        ensures count { count_of self.new ≡ spec.both (count_of self.old) (served_count links.now) }
         ensures end { self.new.end ≡ self.old.end }
     {
         self.pages += links.pages;

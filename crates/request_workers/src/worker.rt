@@ -1,7 +1,5 @@
 ghost use Rattle.std.specs.Prelude.{◌≡◌, ◌≤◌, ◌<◌, ◌+◌, ◌-◌, ◌^◌};
-ghost use Rattle.request_workers.specs.Counting.{link_count};
-ghost use Rattle.request_workers.specs.Linking.{links_count};
-ghost use Rattle.request_workers.specs.Tallies.{count_of, IsBelow};
+ghost use Rattle.request_workers.specs.Tallies.{count_of, served_count, IsBelow};
 ghost use Rattle.request_workers.specs.Working.{Turns, Takes, EndsTurn, given_by, Worked, EndsBy};
 
 use crate::link::{Links, serve_link};
@@ -35,7 +33,7 @@ fn serve_next<A: Answering, L: Link, C: Clock, G: Gate>(
     requires few { requests ≤ 1000 }
     ensures own { (A.rules answering.now).IsOwn pass.new }
     ensures turn { Turns (A.rules answering.now) L.view (C.shows clock.now) requests pass.old pass.new
-        link.old link.new (link_count (links_count result) result.end) }
+        link.old link.new (served_count result) }
     ensures few { result.pages + result.refused ≤ 1000 }
 {
     serve_link(alloc, answering, pass, link, clock, gate, requests)
