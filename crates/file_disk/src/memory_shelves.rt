@@ -1,7 +1,7 @@
-ghost use Rattle.std.specs.Prelude.{◌≡◌, ◌<◌, [], ℕ, true, Some, IfOk, IsErrOf};
+ghost use Rattle.std.specs.Prelude.{◌≡◌, ◌<◌, [], true, Some, IfOk};
 ghost use Rattle.web_disk.specs.Disks.{memory_view};
-ghost use Rattle.web_disk.specs.Racks.{place_of, is_lent, IsTakenFrom};
-ghost use Rattle.web_disk.specs.declared.memory.MemoryDisk.{MemoryDisk};
+ghost use Rattle.web_disk.specs.Racks.{place_of, is_lent};
+ghost use Rattle.file_disk.specs.MemoryRacks.{KeepsDisks, TakesSurely, TakesThere};
 
 use std::alloc::{AllocError, Global};
 use web_disk::{MemoryDisk, MemoryRack, Rack, RackFault, Wreck};
@@ -40,8 +40,7 @@ impl MemoryShelves {
     // Makes the disks that are not there yet, up to that of this number.
     fn make(&mut self, alloc: Global, number: u32) -> Result<(), AllocError>
         requires { number < MOST_MEMORY_DISKS }
-        ensures kept { (n : ℕ) (there : MemoryDisk) → place_of self.old.rack n ≡ Some (Some there) →
-            place_of self.new.rack n ≡ Some (Some there) }
+        ensures kept { KeepsDisks self.old.rack self.new.rack }
         ensures wreck { self.new.rack.wreck ≡ self.old.rack.wreck }
         ensures failing { self.new.rack.failing.items ≡ self.old.rack.failing.items }
     {
@@ -56,12 +55,8 @@ impl MemoryShelves {
     /// Takes the disk of this number: what a crash leaves of it where it was given back. It fails where the disk is out, and where the number is too large.
     pub fn take(&mut self, alloc: Global, number: u32) -> Result<MemoryDisk, RackFault>
         ensures fresh { IfOk result (λ disk. (memory_view disk).faults ≡ 0) }
-        ensures taken { IfOk result (λ disk. (there : MemoryDisk) →
-            place_of self.old.rack number ≡ Some (Some there) →
-            IsTakenFrom self.old.rack.wreck (Some there) disk) }
-        ensures fails_only { (there : MemoryDisk) → self.old.rack.failing.items ≡ [] →
-            number < MOST_MEMORY_DISKS → place_of self.old.rack number ≡ Some (Some there) →
-            IsErrOf result RackFault.Failed → ⊥ }
+        ensures taken { IfOk result (λ disk. TakesThere self.old.rack number disk) }
+        ensures fails_only { number < MOST_MEMORY_DISKS → TakesSurely self.old.rack number result }
     {
         if number >= MOST_MEMORY_DISKS {
             return Err(RackFault::Failed);

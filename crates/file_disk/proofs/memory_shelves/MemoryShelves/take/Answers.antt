@@ -5,7 +5,7 @@ use Rattle.web_disk.specs.declared.memory.MemoryDisk.{MemoryDisk}
 use Rattle.file_disk.proofs.memory_shelves.MemoryShelves.take.Goals as goal
 
 pub returns-clause-fails_only : goal.returns-clause-fails_only
-returns-clause-fails_only c = λ there none small place failed.
+returns-clause-fails_only c = λ small there none place failed.
     let fails = c.take.ensures.fails_only failed in
     let list = c.make.ensures.failing ∙ none in
     let kept = c.make.ensures.kept c.args.number there place in
