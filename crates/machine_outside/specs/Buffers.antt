@@ -1,6 +1,6 @@
 -- What the buffers keep, and what they tell.
-use Rattle.std.specs.Prelude.{ℕ, List, drop, slice_range}
-use Rattle.std.specs.Io.KnownBytes.{append_known, prepend_known}
+use Rattle.std.specs.Prelude.{ℕ, List, drop, slice_range, Result}
+use Rattle.std.specs.Io.KnownBytes.{WriteAppends, append_known, prepend_known}
 use Rattle.web_outside.specs.View.{SourceView, SinkView}
 use Rattle.machine_outside.specs.declared.buffers.ReadAhead.{ReadAhead}
 use Rattle.machine_outside.specs.declared.buffers.Together.{Together}
@@ -20,3 +20,7 @@ kept_together s = drop s.start s.bytes.items
 -- the bytes that were written are those that were written below, and then those that are kept
 abbrev pub together_view : {O : Type 0} → (view : O → SinkView) → Together O → SinkView
 together_view view s = record (view s.sink) { written = append_known (view s.sink).written (kept_together s) }
+
+-- A write below what is kept together took a front of this piece, or nothing where it failed.
+abbrev pub PassesOn : {O E : Type 0} → (view : O → SinkView) → (old new : Together O) → Result ℕ E → (piece : List ℕ) → Type 0
+PassesOn view old new result piece = WriteAppends (together_view view old).written (together_view view new).written result piece

@@ -1,5 +1,5 @@
 -- What contracts see of the real streams and the real door.
-use Rattle.std.specs.Prelude.{◌≡◌, ℕ, List, Option, None}
+use Rattle.std.specs.Prelude.{◌≡◌, ℕ, List, sum_by, Option, None}
 use Rattle.web_outside.specs.View.{SourceView, SinkView, LinkView, PorchView}
 use Rattle.machine_outside.specs.declared.adapters.Reading.{Reading}
 use Rattle.machine_outside.specs.declared.adapters.Writing.{Writing}
@@ -32,6 +32,10 @@ porch_view porch = record {
   lent = porch.lent;
   faults = porch.faults;
 }
+
+-- how often calls of porches failed
+abbrev pub faults_in : {R : Type 0} → List (SocketPorch R) → ℕ
+faults_in porches = sum_by (λ porch. porch.faults) porches
 
 -- a porch that gave no link yet, gives at most so many, and counts no fault
 pub record IsOpened {R : Type 0} (connections : ℕ) (porch : SocketPorch R) : Type 0 where

@@ -1,7 +1,7 @@
 // A source that reads ahead, and a sink that keeps its bytes together.
 ghost use Rattle.std.specs.Prelude.{◌≡◌, ◌≤◌, ◌<◌, ◌++◌, [], length, vec_len, take, OnOk, OnErr};
 ghost use Rattle.std.specs.Io.{WritesAtMost};
-ghost use Rattle.std.specs.Io.KnownBytes.{IsAtEnd, Keeps, WriteAppends};
+ghost use Rattle.std.specs.Io.KnownBytes.{IsAtEnd, Keeps};
 ghost use Rattle.web_outside.specs.Causes.{HasCause};
 ghost use Rattle.web_outside.specs.Pieces.{TakesSome};
 
@@ -93,7 +93,7 @@ pub struct Together<O> {
 }
 
 impl<O: Sink> Together<O> {
-    ghost use Rattle.machine_outside.specs.Buffers.{kept_together, together_view};
+    ghost use Rattle.machine_outside.specs.Buffers.{kept_together, together_view, PassesOn};
 
     /// Nothing is kept yet.
     pub fn new(alloc: Global, sink: O) -> Together<O>
@@ -153,8 +153,7 @@ impl<O: Sink> Together<O> {
     fn pass_on(&mut self, piece: &[u8]) -> Result<usize, Failed>
         ensures bound { WritesAtMost result piece.now }
         ensures moves { TakesSome result piece.now }
-        ensures bytes { WriteAppends (together_view O.view self.old).written
-            (together_view O.view self.new).written result piece.now }
+        ensures bytes { PassesOn O.view self.old self.new result piece.now }
         ensures cause { HasCause (O.view self.old.sink).faults (O.view self.new.sink).faults result }
     {
         self.pour()?;

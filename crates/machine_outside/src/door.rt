@@ -1,6 +1,6 @@
 // The real door: one listener for all workers.
-ghost use Rattle.std.specs.Prelude.{◌≡◌, ◌≤◌, ◌+◌, ◌-◌, ◌^◌, None, All, min, sum_by, vec_len, IfOk};
-ghost use Rattle.machine_outside.specs.Sockets.{IsOpened};
+ghost use Rattle.std.specs.Prelude.{◌≡◌, ◌≤◌, ◌+◌, ◌-◌, ◌^◌, None, All, min, vec_len, IfOk};
+ghost use Rattle.machine_outside.specs.Sockets.{IsOpened, faults_in};
 
 use crate::line::Patience;
 use crate::lobby::Lobby;
@@ -60,7 +60,7 @@ where
 
 // The faults of the porches, up to the type's end.
 fn faults_of<R: Clock + Eprint + Net>(porches: &[SocketPorch<'_, R>]) -> u64
-    ensures { result ≡ min (sum_by (λ porch. porch.faults) porches.now) (2 ^ 64 - 1) }
+    ensures { result ≡ min (faults_in porches.now) (2 ^ 64 - 1) }
 {
     match porches {
         [] => 0,
@@ -102,7 +102,7 @@ where
     }
 
     fn close(&mut self, porches: Vec<SocketPorch<'r, R>>)
-        ensures { self.new.faults ≡ min (self.old.faults + sum_by (λ porch. porch.faults) porches.entry.items) (2 ^ 64 - 1) }
+        ensures { self.new.faults ≡ min (self.old.faults + faults_in porches.entry.items) (2 ^ 64 - 1) }
     {
         self.faults = self.faults.saturating_add(faults_of(&porches));
     }
