@@ -66,6 +66,11 @@ module _ {D N : Type 0} (view : D → View) (tells : Bool) (scripts : List Named
     pub fits : IsTrue tells → HasRoomFor rules.number (view disk).seen
     pub later : (view disk).faults ≤ (view s.journal.disk).faults
 
+-- Each of these shelves is as it was opened, and has no entry yet.
+abbrev pub AreFresh : {D N : Type 0} → (D → View) → (tells : Bool) → (coming : N → ℕ → ℕ) → List (KeptShelf D N) → Type 0
+AreFresh {D} {N} view tells coming ks =
+    (k : ℕ) (s : KeptShelf D N) → slice_get ks k ≡ Some s → IsSoundShelf view tells coming s × (s.history ≡ []) × (s.opened.shelf.value ≡ s.shelf)
+
 module _ {D N : Type 0} (view : D → View) (tells : Bool) (coming : N → ℕ → ℕ) (scripts : List Named) where
   -- a shelf that was opened on this disk with this source of nonces, and has no entry yet
   pub record IsFreshOn (rules : Rules) (disk : D) (nonces : N) (k : KeptShelf D N) : Type 0 where

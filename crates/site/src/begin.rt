@@ -1,12 +1,11 @@
 //! Opening the shelves of a site, and handing them back.
-ghost use Rattle.std.specs.Prelude.{◌≡◌, ◌≤◌, ◌++◌, [], false, ℕ, Some, length, IfOk, IfErr, OnOk, OnErr, reverse, slice_get, vec_len};
+ghost use Rattle.std.specs.Prelude.{◌≡◌, ◌≤◌, ◌++◌, false, ℕ, Some, length, IfOk, IfErr, OnOk, OnErr, reverse, slice_get, vec_len};
 ghost use Rattle.script_nodes.specs.Views.{scripts_of};
 ghost use Rattle.shelf.specs.SetupReader.Texts.{IsReadSetup};
 ghost use Rattle.shelf.specs.JournalRecords.Records.{IsInGrammar, begin_of};
 ghost use Rattle.shelf.specs.Ranges.{AreInRange, numbered};
 ghost use Rattle.disk_trio.specs.Trio.{trio_view};
-ghost use Rattle.site.specs.Keeping.{IsSoundShelf};
-ghost use Rattle.site.specs.Beginnings.{AreNew, CanBegin, IsFreshOn, AreOpened, IsNotOpened, AreNotOpened, AreCopies, AreLocked, HaveRoom, KeepRoom, AreGone, HasMany, disks_of, nonces_of, shelves_of, site_of};
+ghost use Rattle.site.specs.Beginnings.{AreFresh, AreNew, CanBegin, IsFreshOn, AreOpened, IsNotOpened, AreNotOpened, AreCopies, AreLocked, HaveRoom, KeepRoom, AreGone, HasMany, disks_of, nonces_of, shelves_of, site_of};
 
 use crate::entry::KeptEntry;
 use crate::fault::SiteFault;
@@ -256,8 +255,7 @@ fn lock_all<R: Wait, D: Disk, N: Nonces + Drop>(
     alloc: Global,
     shelves: Vec<KeptShelf<D, N>>,
 ) -> Result<Locked<D, N>, Vec<KeptShelf<D, N>>>
-    requires fresh { (k : ℕ) (s : _) → slice_get shelves.items k ≡ Some s
-        → IsSoundShelf D.view D.tells N.nonce s × (s.history ≡ []) × (s.opened.shelf.value ≡ s.shelf) }
+    requires fresh { AreFresh D.view D.tells N.nonce shelves.items }
     ensures locked { IfOk result (AreLocked shelves.items) }
     ensures back { IfErr result (λ ks. shelves_of ks.items ≡ shelves_of shelves.items) }
     ensures many { IfErr result (λ ks. vec_len ks ≡ vec_len shelves) }

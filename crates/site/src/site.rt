@@ -34,9 +34,9 @@ pub struct Site<D: Disk, N: Nonces + Drop> {
 }
 
 impl<D: Disk, N: Nonces + Drop> Site<D, N> {
-    ghost use Rattle.std.specs.Prelude.{◌≡◌, ◌<◌, ◌^◌, length, Some, IfOk, OnErr, ℕ, slice_get};
+    ghost use Rattle.std.specs.Prelude.{◌≡◌, ◌<◌, ◌^◌, length, Some, IfOk};
     ghost use Rattle.site.specs.Ends.{HearsOf};
-    ghost use Rattle.lock_row.specs.Rows.{IsNoteOf, ZipsAll};
+    ghost use Rattle.lock_row.specs.Rows.{AreNotesOf, ZipsAll};
     ghost use Rattle.page_names.specs.Views.{target_of};
     ghost use Rattle.lock_row.specs.Spots.{IsNoteIn};
     ghost use Rattle.site.specs.Sites.{IsOwn, HoldsThere, HoldsAt, IsRunThere, IsRunAt, place_for, TakesFor, TookAt, PublishesAt, PublishedAt, VisitsFor};
@@ -207,8 +207,7 @@ impl<D: Disk, N: Nonces + Drop> Site<D, N> {
         requires own { IsOwn self.now pass.old }
         ensures same { pass.new ≡ pass.old }
         ensures own { IfOk result (λ n. IsNoteIn self.now.row n) }
-        ensures note { IfOk result (λ n. (k : ℕ) (m : _) → slice_get n k ≡ Some m
-            → (a : _) × (slice_get pass.old k ≡ Some a) × IsNoteOf a m) }
+        ensures note { IfOk result (λ n. AreNotesOf pass.old n) }
     {
         self.row.tell(alloc, pass)
     }

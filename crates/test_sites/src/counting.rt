@@ -1,6 +1,7 @@
 //! What passes do at the lock, alone and in threads.
 ghost use Rattle.std.specs.Prelude.{◌≡◌};
 ghost use mathlib.Core.List.{IsPrefix};
+ghost use Rattle.shelf_lock.specs.Turns.{AreOf};
 
 use crate::counter::{Count, Counter};
 use shelf_lock::{Kept, Pass, ShelfLock, Worn};
@@ -47,7 +48,7 @@ pub fn both_count<R: Threads + Wait + Sync>(
     second: Pass<Counter>,
     turns: u64,
 ) -> (Pass<Counter>, Pass<Counter>)
-    requires { (first.seat.table_id ≡ lock.now.board.shared.table_id) × (second.seat.table_id ≡ lock.now.board.shared.table_id) }
+    requires { AreOf lock.now.board.shared.table_id first.seat second.seat }
     ensures first { result.0.seat.table_id ≡ lock.now.board.shared.table_id }
     ensures second { result.1.seat.table_id ≡ lock.now.board.shared.table_id }
 {
@@ -74,7 +75,7 @@ pub fn both_look<V: Kept + Send, R: Threads + Wait + Sync>(
     first: Pass<V>,
     second: Pass<V>,
 ) -> (Pass<V>, Pass<V>)
-    requires { (first.seat.table_id ≡ lock.now.board.shared.table_id) × (second.seat.table_id ≡ lock.now.board.shared.table_id) }
+    requires { AreOf lock.now.board.shared.table_id first.seat second.seat }
     ensures first { result.0.seat.table_id ≡ lock.now.board.shared.table_id }
     ensures second { result.1.seat.table_id ≡ lock.now.board.shared.table_id }
 {
@@ -83,7 +84,7 @@ pub fn both_look<V: Kept + Send, R: Threads + Wait + Sync>(
 
 /// One pass tells another what it has seen.
 pub fn tell(lock: &ShelfLock<Counter>, from: &mut Pass<Counter>, to: &mut Pass<Counter>)
-    requires own { (from.old.seat.table_id ≡ lock.now.board.shared.table_id) × (to.old.seat.table_id ≡ lock.now.board.shared.table_id) }
+    requires own { AreOf lock.now.board.shared.table_id from.old.seat to.old.seat }
     ensures own { (from.new.seat.table_id ≡ from.old.seat.table_id) × (to.new.seat.table_id ≡ to.old.seat.table_id) }
     ensures callers { (from.new.caller ≡ from.old.caller) × (to.new.caller ≡ to.old.caller) }
     ensures heard { IsPrefix from.old.seat.me.0.seen to.new.seat.me.0.seen }
