@@ -1,5 +1,5 @@
 -- One step of a measured run, and its end.
-use Rattle.std.proofs.Common.{◌≡◌, ◌<◌, ◌||◌, not, ℕ, List, [], ◌∷◌, Bool, true, IsTrue, Some, Option, inl, inr, refl, sym, ap, ◌∙◌, subst, arith, Ok, Err}
+use Rattle.std.proofs.Common.{◌≡◌, ◌<◌, ◌||◌, not, ℕ, List, Bool, true, IsTrue, Some, Option, inl, inr, refl, sym, ap, ◌∙◌, subst, arith, Ok, Err}
 use Rattle.std.specs.List.{list_any}
 use Rattle.measured_run.specs.Fnv.{goes_on}
 use Rattle.play_steps.specs.Rules.{StageRules}
@@ -21,16 +21,16 @@ use Rattle.measured_run.specs.declared.measuring.Course.{Course}
 use Rattle.measured_run.specs.declared.measuring.Measure.{Measure}
 use Rattle.measured_run.specs.Drawing.{drawn_over, step_over, learned_from}
 use Rattle.measured_run.specs.Counting.{tally_of, measure_of}
-use Rattle.measured_run.specs.Course.{GoesOn, Loads, LoadsSome, Measures, course_past}
+use Rattle.measured_run.specs.Course.{GoesOn, Loads, LoadsSome, Measures, course_past, holders_of}
 use Rattle.measured_run.proofs.Reached.{Reached, ended, lost, one_past, some}
 
 -- what is drawn over these shelves and workers is drawn over the stage
 pub drawn_is : (r : StageRules) (s : r.State) (shelves : ℕ) (holds : List Bool) (source new : Source) (step : LoadStep) → shelves ≡ r.shelves s
-    → holds ≡ r.holds s 0 ∷ r.holds s 1 ∷ r.holds s 2 ∷ r.holds s 3 ∷ [] → Draws shelves holds source step new
+    → holds ≡ holders_of r s → Draws shelves holds source step new
     → (step, new) ≡ drawn_over r source s
 drawn_is r s shelves holds source new step count workers draws =
     draws ∙ ap (λ n. next_step n (held_in holds) source) count ∙ ap (λ hs. next_step (r.shelves s) (held_in hs) source) workers
-    ∙ four_workers (r.shelves s) (held_in (r.holds s 0 ∷ r.holds s 1 ∷ r.holds s 2 ∷ r.holds s 3 ∷ [])) (r.holds s) source refl refl refl refl
+    ∙ four_workers (r.shelves s) (held_in (holders_of r s)) (r.holds s) source refl refl refl refl
 
 pub step_is : (r : StageRules) (s : r.State) (source new : Source) (step : LoadStep) (shown : Step) → (step, new) ≡ drawn_over r source s
     → shown ≡ played step → shown ≡ step_over r source s

@@ -1,5 +1,5 @@
 -- What a measured run leaves.
-use Rattle.std.specs.Prelude.{◌≡◌, ◌<◌, ◌≤◌, ◌⊎◌, ◌+◌, ℕ, List, [], ◌∷◌, ◌++◌, Result, Ok, Err, Option, Some, None}
+use Rattle.std.specs.Prelude.{◌≡◌, ◌<◌, ◌≤◌, ◌⊎◌, ◌+◌, ℕ, Bool, IsTrue, List, [], ◌∷◌, ◌++◌, Result, Ok, Err, Option, Some, None}
 use Rattle.measured_run.specs.Fnv.{goes_on}
 use Rattle.play_steps.specs.Rules.{StageRules}
 use Rattle.play_steps.specs.Step.{Step, crash}
@@ -7,12 +7,14 @@ use Rattle.play_steps.specs.Texts.{print}
 use Rattle.play_steps.specs.Transcript.{went}
 use Rattle.web_outside.specs.Causes.{Rose}
 use Rattle.play_steps.specs.Played.{Spot, Crashed, Goes, HasRisen}
+use Rattle.play_steps.specs.Staged.{spot_on}
 use Rattle.play_steps.specs.declared.performing.Halt.{Halt}
 use Rattle.play_steps.specs.declared.performing.Halt.TheVariants as halt
+use Rattle.play_steps.specs.declared.stage.Stage.{Ghosts}
 use Rattle.play_steps.specs.declared.stage.Reopen.{Reopen}
 use Rattle.play_steps.specs.declared.stage.Reopen.TheVariants as reopen
 use Rattle.play_steps.specs.declared.report.Report.{Report}
-use Rattle.measured_run.specs.Generator.{Source}
+use Rattle.measured_run.specs.Generator.{Source, source_of}
 use Rattle.measured_run.specs.Tallies.{counted}
 use Rattle.measured_run.specs.declared.measuring.Course.{Course}
 use Rattle.measured_run.specs.declared.measuring.Measure.{Measure}
@@ -22,6 +24,10 @@ use Rattle.measured_run.specs.Counting.{measure_of}
 -- how many shelves a stage has in this state
 abbrev pub shelves_of : (r : StageRules) → r.State → ℕ
 shelves_of r s = r.shelves s
+
+-- whether each of the first four workers holds a ticket of a stage in this state, in order
+abbrev pub holders_of : (r : StageRules) → r.State → List Bool
+holders_of r s = r.holds s 0 ∷ r.holds s 1 ∷ r.holds s 2 ∷ r.holds s 3 ∷ []
 
 -- a course after its next step, over a stage in this state, of which this was told
 abbrev pub course_past : (r : StageRules) → Course → r.State → List Report → Course
@@ -95,3 +101,15 @@ Measures r left count source (Err halt.Memory) s t =
 Measures r left count source (Err (halt.Reopen shelf reopen.Memory)) s t = ⊥
 Measures r left count source (Err (halt.Reopen shelf reopen.Disk)) s t = LosesDisk r left count source shelf s t
 Measures r left count source (Err (halt.Reopen shelf why)) s t = LosesShelf r left count source shelf why s t
+
+module _ {S V : Type 0} (G : Ghosts S V) where
+  -- What one step leaves of a course and a stage, where the stage's disks tell, and it holds what its own events left.
+  abbrev pub HasGone : {T : Type 0} → Result T Halt → (begun : Course) → (old : S) → (before : V) → (gone : Course) → (new : S) → (after : V)
+      → Type 0
+  HasGone result begun old before gone new after =
+      IsTrue G.tells → G.own old → GoesOn G.rules (G.left after) (halt_in result) begun gone (spot_on G old before) (spot_on G new after)
+
+  -- What the measured run of a number comes to over a stage, where the stage's disks tell, and it holds what its own events left.
+  abbrev pub HasRun : (count number : ℕ) → Result Measure Halt → (old : S) → (before : V) → (new : S) → (after : V) → Type 0
+  HasRun count number result old before new after =
+      IsTrue G.tells → G.own old → Measures G.rules (G.left after) count (source_of number) result (spot_on G old before) (spot_on G new after)

@@ -1,13 +1,11 @@
-ghost use Rattle.std.specs.Prelude.{◌≡◌, ◌<◌, ◌≤◌, ◌+◌, ◌^◌, ◌∷◌, [], IfOk, OnOk, IsTrue, string_bytes};
+ghost use Rattle.std.specs.Prelude.{◌≡◌, ◌<◌, ◌≤◌, ◌+◌, ◌^◌, IfOk, OnOk, IsTrue, string_bytes};
 ghost use Rattle.measured_run.specs.Fnv.{goes_on};
-ghost use Rattle.play_steps.specs.Played.{spot};
 ghost use Rattle.play_steps.specs.Losses.{LosesBy, NoneIsLostToDamage, NoneIsLostToMemory, NoneIsLostToOther, RoseAtLost, RoseForLost};
 ghost use Rattle.play_steps.specs.Rules.{KeepsShelves, StaysFirst, StaysUp};
 ghost use Rattle.play_steps.specs.Texts.{print};
-ghost use Rattle.measured_run.specs.Generator.{source_of};
 ghost use Rattle.measured_run.specs.Counting.{line_of};
 ghost use Rattle.measured_run.specs.Drawing.{HasLearned};
-ghost use Rattle.measured_run.specs.Course.{GoesOn, Measures, halt_in, shelves_of};
+ghost use Rattle.measured_run.specs.Course.{HasGone, HasRun, holders_of, shelves_of};
 
 use crate::{Fnv1a, Generator, Tally};
 use play_steps::{Halt, Report, Stage, perform, print};
@@ -46,8 +44,7 @@ pub(crate) struct Course {
 // Which of the four workers hold a ticket.
 fn holders<T: Stage>(stage: &T) -> [bool; 4]
     requires { T.sound stage.now }
-    ensures { result ≡ T.rules.holds (T.state stage.now) 0 ∷ T.rules.holds (T.state stage.now) 1
-        ∷ T.rules.holds (T.state stage.now) 2 ∷ T.rules.holds (T.state stage.now) 3 ∷ [] }
+    ensures { result ≡ holders_of T.rules (T.state stage.now) }
 {
     [
         stage.holds(0),
@@ -88,10 +85,8 @@ fn go_on<T: Stage>(
     requires home { T.at_home stage.old devices.old }
     requires some { 0 < shelves_of T.rules (T.state stage.old) }
     requires clock { course.old.generator.clock + 59 < 2 ^ 62 }
-    ensures went { IsTrue T.tells → T.own stage.old →
-        GoesOn T.rules (T.left devices.new) (halt_in result) course.old course.new
-        (spot T.rules (T.state stage.old) (T.faults stage.old devices.old))
-        (spot T.rules (T.state stage.new) (T.faults stage.new devices.new)) }
+    ensures went { HasGone T.Stage result
+        course.old stage.old devices.old course.new stage.new devices.new }
     ensures shelves { OnOk result (KeepsShelves T.rules (T.state stage.old) (T.state stage.new)) }
     ensures slowly { course.new.generator.clock ≤ course.old.generator.clock + 59 }
     ensures sound { T.sound stage.new }
@@ -155,10 +150,8 @@ pub fn load<T: Stage>(
     requires sound { T.sound stage.old }
     requires home { T.at_home stage.old devices.old }
     requires some { 0 < shelves_of T.rules (T.state stage.old) }
-    ensures measured { IsTrue T.tells → T.own stage.old →
-        Measures T.rules (T.left devices.new) steps (source_of number) result
-        (spot T.rules (T.state stage.old) (T.faults stage.old devices.old))
-        (spot T.rules (T.state stage.new) (T.faults stage.new devices.new)) }
+    ensures measured { HasRun T.Stage steps number result
+        stage.old devices.old stage.new devices.new }
     ensures sound { T.sound stage.new }
     ensures own { IsTrue T.tells → T.own stage.old → T.own stage.new }
     ensures home { T.at_home stage.new devices.new }

@@ -6,6 +6,7 @@ pub mod Transcript
 pub mod Views
 pub mod Courses
 pub mod Played
+pub mod Staged
 pub mod Losses
 pub mod Laws
 pub mod Vectors

@@ -1,5 +1,5 @@
 -- What a stage's calls do.
-use Rattle.std.specs.Prelude.{◌≡◌, ◌≤◌, ℕ, Bool, true, false, List, Option, Some, None, Result}
+use Rattle.std.specs.Prelude.{◌≡◌, ◌≤◌, ℕ, Bool, true, false, List, Option, Some, None, Result, IsTrue, IfOk}
 use Rattle.web_outside.specs.Causes.{Rose}
 use Rattle.script_value.specs.declared.outcome.Reply.{Reply}
 
@@ -81,3 +81,26 @@ StaysFirst before now = (front : List ℕ) → before front → now front
 -- there are as many shelves as before
 abbrev pub KeepsShelves : (r : StageRules) → (old new : r.State) → Type 0
 KeepsShelves r old new = r.shelves new ≡ r.shelves old
+
+-- What the calls of a stage do that stands for a state of these rules. It is said of a stage that holds what its own events left.
+module _ (r : StageRules) {S V : Type 0} (own : S → Type 0) (faults : S → V → ℕ) (state : S → r.State) where
+  -- A worker's take of a target answers this and leaves a stage so.
+  abbrev pub TakesOn : (old : S) → (worker : ℕ) → (target : List ℕ) → Result ℕ Reply → (new : S) → Type 0
+  TakesOn old worker target result new = own old → Takes r (RoseOver (faults old) (faults new)) (state old) worker target result (state new)
+
+  -- A worker's publish answers this and leaves a stage so.
+  abbrev pub PublishesOn : (old : S) → (worker : ℕ) → Reply → (new : S) → Type 0
+  PublishesOn old worker reply new = own old → Publishes r (RoseOver (faults old) (faults new)) (state old) worker reply (state new)
+
+  -- A sweep of a shelf answers this and leaves a stage so.
+  abbrev pub SweepsOn : (old : S) → (shelf tick : ℕ) → Result ℕ Reply → (new : S) → Type 0
+  SweepsOn old shelf tick result new = own old → Sweeps r (RoseOver (faults old) (faults new)) (state old) shelf tick result (state new)
+
+  -- A compaction of a shelf answers this and leaves a stage so.
+  abbrev pub CompactsOn : (old : S) → (shelf : ℕ) → Result ℕ Reply → (new : S) → Type 0
+  CompactsOn old shelf result new = own old → Compacts r (RoseOver (faults old) (faults new)) (state old) shelf result (state new)
+
+  -- A crash of a shelf that is opened again leaves so many live instances and a stage so; this is said of a stage whose disks tell.
+  abbrev pub CrashesOn : {E : Type 0} → (tells : Bool) → (old : S) → (before : V) → (shelf : ℕ) → Result ℕ E → (new : S) → (after : V) → Type 0
+  CrashesOn tells old before shelf result new after =
+      IsTrue tells → own old → IfOk result (λ live. Crashes r (Rose (faults old before) (faults new after)) (state old) shelf live (state new))

@@ -1,7 +1,7 @@
-ghost use Rattle.std.specs.Prelude.{◌≡◌, ◌≤◌, ◌<◌, ◌+◌, ◌++◌, length};
-ghost use Rattle.play_steps.specs.Step.{steps_of, with_crashes, brought_by, IsWithin, lines_in};
+ghost use Rattle.std.specs.Prelude.{◌≡◌, ◌<◌, ◌+◌};
+ghost use Rattle.play_steps.specs.Step.{steps_of, with_crashes, IsWithin};
 ghost use Rattle.play_steps.specs.Views.{meaning};
-ghost use Rattle.play_steps.specs.Courses.{left_in, Follows, IfStep};
+ghost use Rattle.play_steps.specs.Courses.{left_in, left_past, Follows, IfStep, IsOfFewerLines};
 
 use crate::step::{Step, read_step};
 
@@ -41,8 +41,7 @@ impl<'a> Course<'a> {
     pub(crate) fn next(&self) -> Next<'a>
         ensures follows { Follows (left_in self.now) result }
         ensures within { IfStep result (λ step after. IsWithin (meaning step)) }
-        ensures lines { IfStep result (λ step after.
-            lines_in (meaning step) + length after.rest.now ≤ length self.now.rest.now) }
+        ensures lines { IfStep result (IsOfFewerLines self.now) }
     {
         if self.shelf < self.shelves {
             return Next::Step(Step::CrashEdited { shelf: self.shelf }, self.past_crash());
@@ -72,8 +71,7 @@ impl<'a> Course<'a> {
 
     // What is left after a step, where these bytes stand after it.
     fn past(&self, step: &Step<'a>, rest: &'a [u8]) -> Course<'a>
-        ensures left { left_in result ≡ brought_by self.now.shelves (meaning step.now)
-            ++ with_crashes self.now.shelves (steps_of rest.now) }
+        ensures left { left_in result ≡ left_past self.now.shelves (meaning step.now) rest.now }
         ensures rest { result.rest.now ≡ rest.now }
     {
         let shelf = match step {

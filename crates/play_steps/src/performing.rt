@@ -1,9 +1,10 @@
 ghost use Rattle.std.specs.Prelude.{◌≡◌, ◌≤◌, ◌<◌, ◌^◌, ◌∷◌, [], IsTrue, OnOk, true, false};
-ghost use Rattle.play_steps.specs.Step.{IsTold, IsWithin, is_edit, tick};
+ghost use Rattle.play_steps.specs.Step.{IsTold, IsWithin, is_edit};
 ghost use Rattle.play_steps.specs.Rules.{KeepsShelves, StaysFirst, StaysHome, StaysUp};
 ghost use Rattle.play_steps.specs.Transcript.{fits};
 ghost use Rattle.play_steps.specs.Views.{meaning};
-ghost use Rattle.play_steps.specs.Played.{Lengthens, Performs, SweepsAll, TellsCrash, TellsOne, spot};
+ghost use Rattle.play_steps.specs.Played.{Lengthens, TellsCrash, TellsOne};
+ghost use Rattle.play_steps.specs.Staged.{Performed, SweepsEach};
 ghost use Rattle.play_steps.specs.Losses.{LosesBy, NoneIsLostToDamage, NoneIsLostToMemory, NoneIsLostToOther, RoseAtLost, RoseForLost};
 ghost use Rattle.play_steps.specs.declared.performing.Halt.TheVariants.{Memory as HaltMemory};
 
@@ -82,9 +83,7 @@ fn and_report(
 fn sweep_all<T: Stage>(alloc: Global, stage: &mut T, time: u64) -> Result<Vec<Report>, AllocError>
     requires sound { T.sound stage.old }
     requires time { time < 2 ^ 62 }
-    ensures swept { T.own stage.old → (devices : T.Devices) → SweepsAll T.rules (tick time) result
-        (spot T.rules (T.state stage.old) (T.faults stage.old devices))
-        (spot T.rules (T.state stage.new) (T.faults stage.new devices)) }
+    ensures swept { SweepsEach T.Stage time result stage.old stage.new }
     ensures sound { T.sound stage.new }
     ensures own { T.own stage.old → T.own stage.new }
     ensures home { StaysHome (T.at_home stage.old) (T.at_home stage.new) }
@@ -125,10 +124,8 @@ pub fn perform<T: Stage>(
     requires no_edit { is_edit (meaning step.now) ≡ false }
     requires fitting { fits T.rules (meaning step.now) (T.state stage.old) ≡ true }
     requires home { T.at_home stage.old devices.old }
-    ensures came { IsTold T.tells (meaning step.now) → T.own stage.old →
-        Performs T.rules (T.left devices.new) (meaning step.now) result
-        (spot T.rules (T.state stage.old) (T.faults stage.old devices.old))
-        (spot T.rules (T.state stage.new) (T.faults stage.new devices.new)) }
+    ensures came { Performed T.Stage (meaning step.now) result
+        stage.old devices.old stage.new devices.new }
     ensures shelves { OnOk result (KeepsShelves T.rules (T.state stage.old) (T.state stage.new)) }
     ensures sound { T.sound stage.new }
     ensures own { IsTold T.tells (meaning step.now) → T.own stage.old → T.own stage.new }

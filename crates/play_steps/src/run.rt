@@ -1,7 +1,8 @@
 ghost use Rattle.std.specs.Prelude.{◌≡◌, ◌≤◌, IsTrue, true, false};
 ghost use Rattle.web_outside.specs.Causes.{Rose};
 ghost use Rattle.play_steps.specs.Step.{IsTold, IsWithin, is_told, steps_of};
-ghost use Rattle.play_steps.specs.Played.{end_of, played, scene, spot, Leaves, Turns, TurnsEdit};
+ghost use Rattle.play_steps.specs.Played.{end_of};
+ghost use Rattle.play_steps.specs.Staged.{Edited, Played, Stepped};
 ghost use Rattle.play_steps.specs.Losses.{LosesAtEnd, LosesInTurn, NoneIsLostToDamage, NoneIsLostToMemory, NoneIsLostToOther, RoseAtLost, RoseForLost};
 ghost use Rattle.play_steps.specs.Rules.{StaysAt, StaysFirst, StaysHome, StaysUp};
 ghost use Rattle.play_steps.specs.Views.{meaning};
@@ -52,9 +53,7 @@ enum Turn {
 // Tries an edit.
 fn play_edit<T: Stage>(stage: &mut T, name: &[u8], text: &[u8]) -> Turn
     requires { T.sound stage.old }
-    ensures turned { (devices : T.Devices) → TurnsEdit T.rules name.now text.now result
-        (spot T.rules (T.state stage.old) (T.faults stage.old devices))
-        (spot T.rules (T.state stage.new) (T.faults stage.new devices)) }
+    ensures turned { Edited T.Stage name.now text.now result stage.old stage.new }
     ensures sound { T.sound stage.new }
     ensures own { T.own stage.old → T.own stage.new }
     ensures home { StaysHome (T.at_home stage.old) (T.at_home stage.new) }
@@ -78,12 +77,8 @@ fn play_step<T: Stage, O: Sink>(
     requires sound { T.sound stage.old }
     requires range { IsWithin (meaning step.now) }
     requires home { T.at_home stage.old devices.old }
-    ensures turned { IsTold T.tells (meaning step.now) → T.own stage.old →
-        Turns T.rules (T.left devices.new) (meaning step.now) result
-        (scene T.rules (O.view sink.old).written (T.state stage.old)
-        (T.faults stage.old devices.old))
-        (scene T.rules (O.view sink.new).written (T.state stage.new)
-        (T.faults stage.new devices.new)) }
+    ensures turned { Stepped T.Stage O.view step.now result
+        stage.old devices.old sink.old stage.new devices.new sink.new }
     ensures write { result ≡ Turn.Write → Rose (O.view sink.old).faults (O.view sink.new).faults }
     ensures later { (O.view sink.old).faults ≤ (O.view sink.new).faults }
     ensures sound { T.sound stage.new }
@@ -137,12 +132,8 @@ pub fn play<T: Stage, O: Sink>(
 ) -> PlayEnd
     requires sound { T.sound stage.old }
     requires home { T.at_home stage.old devices.old }
-    ensures ended { is_told T.tells (steps_of text.now) ≡ true → T.own stage.old →
-        Leaves T.rules (T.left devices.new) (played T.rules (T.state stage.old) text.now) result
-        (scene T.rules (O.view sink.old).written (T.state stage.old)
-        (T.faults stage.old devices.old))
-        (scene T.rules (O.view sink.new).written (T.state stage.new)
-        (T.faults stage.new devices.new)) }
+    ensures ended { Played T.Stage O.view text.now result
+        stage.old devices.old sink.old stage.new devices.new sink.new }
     ensures write { result ≡ PlayEnd.Write
         → Rose (O.view sink.old).faults (O.view sink.new).faults }
     ensures later { (O.view sink.old).faults ≤ (O.view sink.new).faults }

@@ -1,6 +1,6 @@
 ghost use Rattle.std.specs.Prelude.{◌≡◌, ◌≤◌, ℕ, ◌<◌, ◌^◌, List, Bool, true, false, IsTrue, IfOk, IfErr, OnOk, OnErr, IsErrOf};
 ghost use Rattle.web_outside.specs.Causes.{Rose};
-ghost use Rattle.play_steps.specs.Rules.{StageRules, Takes, Publishes, Sweeps, Compacts, Crashes, Edits, KeepsShelves, RoseOver, StaysAt, StaysFirst, StaysUp, StaysHome};
+ghost use Rattle.play_steps.specs.Rules.{StageRules, CompactsOn, CrashesOn, PublishesOn, SweepsOn, TakesOn, Edits, KeepsShelves, StaysAt, StaysFirst, StaysUp, StaysHome};
 ghost use Rattle.server_limits.specs.Counts.{most_workers};
 ghost use Rattle.play_steps.specs.declared.stage.Reopen.{Reopen};
 
@@ -74,8 +74,7 @@ pub trait Stage {
         requires sound { sound self.old }
         requires worker { worker < most_workers }
         requires free { rules.holds (state self.old) worker ≡ false }
-        ensures step { own self.old → Takes rules (RoseOver (faults self.old) (faults self.new))
-            (state self.old) worker target.now result (state self.new) }
+        ensures step { TakesOn rules own faults state self.old worker target.now result self.new }
         ensures held { IfOk result (λ _. rules.holds (state self.new) worker ≡ true) }
         ensures shelves { rules.shelves (state self.new) ≡ rules.shelves (state self.old) }
         ensures sound { sound self.new }
@@ -88,8 +87,7 @@ pub trait Stage {
         requires sound { sound self.old }
         requires worker { worker < most_workers }
         requires held { rules.holds (state self.old) worker ≡ true }
-        ensures step { own self.old → Publishes rules (RoseOver (faults self.old) (faults self.new))
-            (state self.old) worker result (state self.new) }
+        ensures step { PublishesOn rules own faults state self.old worker result self.new }
         ensures shelves { rules.shelves (state self.new) ≡ rules.shelves (state self.old) }
         ensures sound { sound self.new }
         ensures own { own self.old → own self.new }
@@ -102,8 +100,7 @@ pub trait Stage {
         requires sound { sound self.old }
         requires shelf { shelf < rules.shelves (state self.old) }
         requires tick { tick < 2 ^ 62 }
-        ensures step { own self.old → Sweeps rules (RoseOver (faults self.old) (faults self.new))
-            (state self.old) shelf tick result (state self.new) }
+        ensures step { SweepsOn rules own faults state self.old shelf tick result self.new }
         ensures shelves { rules.shelves (state self.new) ≡ rules.shelves (state self.old) }
         ensures sound { sound self.new }
         ensures own { own self.old → own self.new }
@@ -115,8 +112,7 @@ pub trait Stage {
     fn compact(&mut self, shelf: u32) -> Result<u64, Reply>
         requires sound { sound self.old }
         requires shelf { shelf < rules.shelves (state self.old) }
-        ensures step { own self.old → Compacts rules (RoseOver (faults self.old) (faults self.new))
-            (state self.old) shelf result (state self.new) }
+        ensures step { CompactsOn rules own faults state self.old shelf result self.new }
         ensures shelves { rules.shelves (state self.new) ≡ rules.shelves (state self.old) }
         ensures sound { sound self.new }
         ensures own { own self.old → own self.new }
@@ -130,9 +126,8 @@ pub trait Stage {
         requires sound { sound self.old }
         requires shelf { shelf < rules.shelves (state self.old) }
         requires home { at_home self.old devices.old }
-        ensures step { IsTrue tells → own self.old → IfOk result (λ live. Crashes rules
-            (Rose (faults self.old devices.old) (faults self.new devices.new))
-            (state self.old) shelf live (state self.new)) }
+        ensures step { CrashesOn rules own faults state tells
+            self.old devices.old shelf result self.new devices.new }
         ensures shelves { OnOk result (KeepsShelves rules (state self.old) (state self.new)) }
         ensures sound { sound self.new }
         ensures own { IsTrue tells → own self.old → own self.new }
