@@ -3,6 +3,9 @@ use Rattle.std.specs.Prelude.{◌≡◌, ◌<◌, ◌+◌, [], ℕ, Bool, IsTrue
 use Rattle.std.specs.Global.{Vec}
 use Rattle.web_outside.specs.declared.nonces.Counting.{Counting}
 use Rattle.web_disk.specs.View.{View, RackView, AreAmong}
+use Rattle.web_disk.specs.declared.disk.Disk.{Ghosts}
+use Rattle.disk_trio.specs.Trio.{trio_view}
+use Rattle.disk_trio.specs.declared.trio.Disks.{Disks}
 use Rattle.trio_rack.specs.Trios.{shelves_of, MayBeBare}
 use Rattle.script_nodes.specs.Views.{scripts_of}
 use Rattle.script_nodes.specs.declared.setup.Setup.{Setup}
@@ -14,7 +17,7 @@ use Rattle.shelf.specs.declared.shelf.Shelf.{Shelf}
 use Rattle.play_steps.specs.declared.stage.Reopen.{Reopen}
 use Rattle.play_desk.specs.Asking.{AsksForFirst}
 use Rattle.play_desk.specs.Desk.{first_desk}
-use Rattle.play_desk.specs.Opening.{AllStayKept, AreOpened, BeginsEmpty, CrashesShelf, Finds, GivesUnread, HasCrashed, HoldImages, HoldTheBooks, IsClosedBy, IsLeft, KeepsBegun, KeepsClosed, KeepsOpened, LeavesLost, LeavesNoRoom, OpensEmpty, StandsLost, StaysLost, TellsItsRoom, TellsRoom, left_on, rules_at}
+use Rattle.play_desk.specs.Opening.{AllStayKept, AreOpened, BeginsEmpty, CrashesShelf, Finds, GivesUnread, HasCrashed, HoldImages, HoldTheBooks, IsClosedBy, IsLeft, KeepsBegun, KeepsClosed, KeepsOpened, LeavesLost, LeavesNoRoom, OpensEmpty, OpensNext, StandsLost, StaysLost, TellsItsRoom, TellsRoom, left_on, rules_at}
 use Rattle.play_desk.specs.Staff.{IsOwn, desk_of}
 use Rattle.play_desk.specs.declared.opening.OpenCause.{OpenCause}
 use Rattle.play_desk.specs.declared.opening.OpenCause.TheVariants as cause
@@ -102,6 +105,12 @@ OutgrowsAfter view rack_tells tells setup shelf result rack =
 abbrev pub OpensBare : {D : Type 0} → (D → View) → (rack_tells tells : Bool) → Setup → Rules → RackView → Result (Shelf D Counting) OpenCause → Type 0
 OpensBare view rack_tells tells setup rules rack result =
     IsTrue rack_tells → IsTrue tells → OpensEmpty view (scripts_of setup) rules rack result
+
+-- Where an empty shelf is opened on the disks of a rack, it stands after the others.
+abbrev pub OpensLast : {D R T : Type 0} → (G : Ghosts D) → (R → RackView) → (rack_tells : Bool) → Setup → Rules → Result T OpenCause
+    → (shelves now : Vec (Shelf (Disks D G) Counting)) → (old new : R) → Type 0
+OpensLast G view rack_tells setup rules result shelves now old new =
+    OnOk result (OpensNext (trio_view {G = G}) rack_tells G.tells (scripts_of setup) rules shelves.items now.items (view old) (view new))
 
 -- Nothing is lost on the disk of an empty shelf, where it is opened and where it is not, unless a call of the disk fails.
 abbrev pub StaysInOpening : {D : Type 0} → (D → View) → (rack_tells tells : Bool) → Setup → Rules → (old new : RackView)

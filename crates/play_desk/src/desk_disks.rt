@@ -6,9 +6,9 @@ ghost use Rattle.disk_trio.specs.Trio.{trio_view};
 ghost use Rattle.trio_rack.specs.Trios.{shelves_of};
 ghost use Rattle.play_desk.specs.Staff.{AreLow, HaveOwnNumbers, IsHome, IsOwn, IsReady, faults_in, total};
 ghost use Rattle.play_desk.specs.Asking.{AsksForFirst, AsksForNone, AsksForOne, AsksForSome, AsksUntil};
-ghost use Rattle.play_desk.specs.Opening.{AreHome, CountStays, FailedFor, FailuresStay, GivesOne, IsRefusedBy, LeaveOthers, OpensNext};
+ghost use Rattle.play_desk.specs.Opening.{AreHome, CountStays, FailedFor, FailuresStay, GivesOne, IsRefusedBy, LeaveOthers};
 ghost use Rattle.play_desk.specs.Failing.{faults_beside};
-ghost use Rattle.play_desk.specs.Told.{AllHoldAsLeft, AllStayIfClosed, AsksIfUsed, ClosesOwn, IsFirst, OpensAll, StaysIfClosed, TellsCause, WereBare};
+ghost use Rattle.play_desk.specs.Told.{AllHoldAsLeft, AllStayIfClosed, AsksIfUsed, ClosesOwn, IsFirst, OpensAll, OpensLast, StaysIfClosed, TellsCause, WereBare};
 
 use crate::desk::Desk;
 use crate::opening::{OpenCause, OpenFault, opened, put_back};
@@ -58,8 +58,8 @@ fn open_next<F: Disk, R: Rack<F>>(
     requires range { AreInRange rules }
     requires read { IsReadSetup (scripts_of setup.now) }
     requires home { (shelves_of (R.view rack.old)).out rules.number ≡ false }
-    ensures opened { OnOk result (OpensNext trio_view R.tells F.tells (scripts_of setup.now) rules
-        shelves.old.items shelves.new.items (R.view rack.old) (R.view rack.new)) }
+    ensures opened { OpensLast F.Disk R.view R.tells setup.now rules result
+        shelves.old shelves.new rack.old rack.new }
     ensures same { OnErr result (shelves.new.items ≡ shelves.old.items) }
     ensures given { OnErr result (GivesOne rules.number (R.view rack.old) (R.view rack.new)) }
     ensures why { IsTrue R.tells → IsTrue F.tells →
