@@ -1,7 +1,8 @@
 -- What the calls ensure that write the feed of a shelf, or let a shelf follow one.
-use Rattle.std.specs.Prelude.{◌≡◌, false, true, Option, Some, None, Result, List, ℕ}
+use Rattle.std.specs.Prelude.{◌≡◌, false, true, IsTrue, Option, Some, None, Result, List, ℕ}
 use Rattle.shelf.specs.WebOutside.View.{SourceView, SinkView}
 use Rattle.shelf.specs.WebDisk.View.{View}
+use Rattle.shelf.specs.WebDisk.declared.disk.Disk.{Ghosts}
 use Rattle.shelf.specs.PageJournal.Settled.{bodies_in, view_of}
 use Rattle.shelf.specs.Views.{follows_in}
 use Rattle.shelf.specs.declared.shelf.Shelf.{Shelf}
@@ -92,6 +93,18 @@ abbrev pub FollowsFeed : {S O D N : Type 0} → (S → SourceView) → (O → Si
 FollowsFeed reads sees view source sink before left told after ending =
     HasFollowed (HasFed view (bodies_in view before.journal) before.journal.disk after.journal.disk)
     (reads source) (reads left) (sees sink) (sees told) (bodies_in view before.journal) (bodies_in view after.journal) ending
+
+-- What a shelf did with a feed that it followed, where its disk tells what it holds.
+abbrev pub FollowsOn : {S O D N : Type 0} → (G : Ghosts D) → (S → SourceView) → (O → SinkView) → (source : S) → (sink : O) → (before : Shelf D N)
+    → (left : S) → (told : O) → (after : Shelf D N) → FollowEnd → Type 0
+FollowsOn G reads sees source sink before left told after ending =
+    IsTrue G.tells → FollowsFeed reads sees G.view source sink before left told after ending
+
+-- What a shelf did with a feed, where it follows, and its disk tells what it holds.
+abbrev pub FollowsIfFed : {S O D N : Type 0} → (G : Ghosts D) → (S → SourceView) → (O → SinkView) → (source : S) → (sink : O) → (before : Shelf D N)
+    → (left : S) → (told : O) → (after : Shelf D N) → FollowEnd → Type 0
+FollowsIfFed G reads sees source sink before left told after ending =
+    follows_in before ≡ true → FollowsOn G reads sees source sink before left told after ending
 
 -- A shelf that does not follow stays as it is, and so do the source and the output.
 abbrev pub StaysUnfed : {S O D N : Type 0} → (source : S) → (sink : O) → (before : Shelf D N) → (left : S) → (told : O) → (after : Shelf D N) → Type 0

@@ -178,6 +178,11 @@ Matches old new before after size start held (Ok true) = GotBody old new before 
 Matches old new before after size start held (Ok false) = GotOther old new before after size held
 Matches old new before after size start held (Err f) = NoBody old new before size start f
 
+-- What came of comparing a body that is read from a source with one that is held.
+abbrev pub MatchesFrom : {S : Type 0} → (S → SourceView) → (old new : S) → (before after size start : ℕ) → (held : List ℕ)
+    → Result Bool FeedFault → Type 0
+MatchesFrom view old new before after size start held result = Matches (view old) (view new) before after size start held result
+
 -- another record came than this one
 pub record CameOther (old new : SourceView) (before after : ℕ) (held : List ℕ) : Type 0 where
   pub body : List ℕ

@@ -1,7 +1,7 @@
 ghost use Rattle.std.specs.Prelude.{◌≡◌, ◌≤◌, ◌<◌, None, Some, false, true, IsTrue};
 ghost use Rattle.shelf.specs.Views.{follows_in};
 ghost use Rattle.shelf.specs.Following.{CanBeFed, IsInOrderIfFed, IsReadable};
-ghost use Rattle.page_follower.specs.Calls.{FailsFeeding, FailsFor, FailsGoingOn, FailsIfFed, FeedsAll, FeedsNext, FeedsRest, FollowsFeed, StaysUnfed};
+ghost use Rattle.page_follower.specs.Calls.{FailsFeeding, FailsFor, FailsGoingOn, FailsIfFed, FeedsAll, FeedsNext, FeedsRest, FollowsIfFed, FollowsOn, StaysUnfed};
 ghost use Rattle.page_follower.specs.Comparing.{HoldsTheSame, progress};
 ghost use Rattle.page_follower.specs.Ends.{end_for};
 ghost use Rattle.page_follower.specs.Held.{Begins};
@@ -135,7 +135,7 @@ fn follow_on<D: Disk, N, S: Source, O: Sink>(
     requires readable { IsReadable D.view D.tells shelf.old }
     requires can { CanBeFed shelf.old }
     requires in_order { IsInOrderIfFed D.view D.tells shelf.old }
-    ensures follows { IsTrue D.tells → FollowsFeed S.view O.view D.view
+    ensures follows { FollowsOn D.Disk S.view O.view
         source.old sink.old shelf.old source.new sink.new shelf.new result }
     ensures causes { FailsFor S.view O.view D.view
         source.old sink.old shelf.old source.new sink.new shelf.new result }
@@ -163,8 +163,7 @@ pub fn follow<D: Disk, N, S: Source, O: Sink>(
     requires in_order { IsInOrderIfFed D.view D.tells shelf.old }
     ensures leads { follows_in shelf.old ≡ false → result ≡ FollowEnd.Promoted }
     ensures same { StaysUnfed source.old sink.old shelf.old source.new sink.new shelf.new }
-    ensures follows { follows_in shelf.old ≡ true → IsTrue D.tells →
-        FollowsFeed S.view O.view D.view
+    ensures follows { FollowsIfFed D.Disk S.view O.view
         source.old sink.old shelf.old source.new sink.new shelf.new result }
     // So it is on any disk, also on one that does not tell its bytes.
     ensures causes { FailsIfFed S.view O.view D.view

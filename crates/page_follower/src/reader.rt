@@ -44,7 +44,7 @@ pub struct FeedReader {
 }
 
 impl FeedReader {
-    ghost use Rattle.page_follower.specs.Reading.{Reads, Fills, Heads, Sizes, Matches, Compares, Gathers, TakesNext};
+    ghost use Rattle.page_follower.specs.Reading.{Reads, Fills, Heads, Sizes, MatchesFrom, Compares, Gathers, TakesNext};
 
     /// Nothing came yet.
     pub fn new() -> FeedReader
@@ -137,7 +137,7 @@ impl FeedReader {
         held: &[u8],
     ) -> Result<bool, FeedFault>
         ensures later { (S.view source.old).faults ≤ (S.view source.new).faults }
-        ensures matches { Matches (S.view source.old) (S.view source.new)
+        ensures matches { MatchesFrom S.view source.old source.new
             self.old.place self.new.place size start held.now result }
     {
         let size = size as usize;
