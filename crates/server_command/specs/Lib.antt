@@ -12,4 +12,5 @@ pub mod Bare
 pub mod Feeding
 pub mod Telling
 pub mod Loading
+pub mod Calls
 pub mod Vectors

@@ -1,10 +1,11 @@
-ghost use Rattle.std.specs.Prelude.{◌&&◌, ◌≡◌, ◌<◌, ◌≤◌, false, IsTrue, Ok};
+ghost use Rattle.std.specs.Prelude.{◌≡◌, ◌<◌, ◌≤◌, false, Ok};
 ghost use Rattle.server_limits.specs.Limits.{most_shelves};
 ghost use Rattle.command_words.specs.Plain.{HasShelves, CanServe};
 ghost use Rattle.play_desk.specs.Opening.{AreHome};
-ghost use Rattle.server_command.specs.Auditing.{ComesOne, ComesThrough, LeavesAudit, LeavesShelves, counted_of, untaken_for};
-ghost use Rattle.server_command.specs.Output.{Hands, sinks_of};
-ghost use Rattle.server_command.specs.Racks.{AreBack, racks_of};
+ghost use Rattle.server_command.specs.Auditing.{ComesOne, ComesThrough, LeavesShelves, counted_of, untaken_for};
+ghost use Rattle.server_command.specs.Calls.{AuditsAll, AuditsFirst, rack_over};
+ghost use Rattle.server_command.specs.Output.{Hands};
+ghost use Rattle.server_command.specs.Racks.{AreBack};
 
 use crate::program::Status;
 use crate::telling::{hand_on, tell_audited, tell_end};
@@ -66,10 +67,8 @@ fn audit_shelf<D: Disk, R: Rack<D>>(
     shelf: u32,
 ) -> Result<u64, AuditCause>
     requires shelf { shelf < most_shelves }
-    ensures comes { ComesOne (racks_of (R.tells && D.tells) (R.view rack.old) (R.view rack.new))
-        shelf result }
-    ensures leaves { LeavesShelves
-        (racks_of (R.tells && D.tells) (R.view rack.old) (R.view rack.new)) }
+    ensures comes { ComesOne (rack_over R.view R.tells D.tells rack.old rack.new) shelf result }
+    ensures leaves { LeavesShelves (rack_over R.view R.tells D.tells rack.old rack.new) }
 {
     let mut disks = match take_trio(rack, alloc, directory, shelf) {
         Ok(disks) => disks,
@@ -91,9 +90,8 @@ fn audit_shelves<D: Disk, R: Rack<D>>(
 ) -> Result<(), AuditEnd>
     requires { count ≤ most_shelves }
     ensures comes { ComesThrough
-        (racks_of (R.tells && D.tells) (R.view rack.old) (R.view rack.new)) count result }
-    ensures leaves { LeavesShelves
-        (racks_of (R.tells && D.tells) (R.view rack.old) (R.view rack.new)) }
+        (rack_over R.view R.tells D.tells rack.old rack.new) count result }
+    ensures leaves { LeavesShelves (rack_over R.view R.tells D.tells rack.old rack.new) }
 {
     'auditing: for shelf in 0..count {
         match audit_shelf(alloc, rack, directory, shelf) {
@@ -112,11 +110,9 @@ pub(crate) fn audit_first<D: Disk, R: Rack<D>>(
 ) -> Result<(), AuditEnd>
     requires can { CanServe service.now }
     ensures rests { service.now.audit ≡ false → (result ≡ Ok tt) × (rack.new ≡ rack.old) }
-    ensures comes { IsTrue service.now.audit → ComesThrough
-        (racks_of (R.tells && D.tells) (R.view rack.old) (R.view rack.new))
-        service.now.options.shelves result }
-    ensures leaves { LeavesShelves
-        (racks_of (R.tells && D.tells) (R.view rack.old) (R.view rack.new)) }
+    ensures comes { AuditsFirst service.now
+        (rack_over R.view R.tells D.tells rack.old rack.new) result }
+    ensures leaves { LeavesShelves (rack_over R.view R.tells D.tells rack.old rack.new) }
 {
     if !service.audit {
         return Ok(());
@@ -134,9 +130,8 @@ pub(crate) fn audit_all<O: Sink, D: Disk, R: Rack<D>>(
 ) -> Status
     requires range { HasShelves options.now }
     requires home { AreHome (R.view rack.old).out }
-    ensures leaves { LeavesAudit
-        (racks_of (R.tells && D.tells) (R.view rack.old) (R.view rack.new))
-        options.now.shelves result (sinks_of (O.view output.old) (O.view output.new)) }
+    ensures leaves { AuditsAll R.view R.tells D.tells O.view options.now result
+        rack.old rack.new output.old output.new }
     ensures hands { Hands result (O.view output.old) (O.view output.new) }
     ensures back { AreBack (R.view rack.old) (R.view rack.new) }
 {

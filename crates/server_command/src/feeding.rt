@@ -1,14 +1,15 @@
-ghost use Rattle.std.specs.Prelude.{◌&&◌, ◌≡◌, ◌<◌, ◌≤◌, false, IsTrue, IfOk};
+ghost use Rattle.std.specs.Prelude.{◌&&◌, ◌≡◌, ◌<◌, ◌≤◌, false, IfOk};
 ghost use Rattle.disk_trio.specs.Trio.{trio_view};
 ghost use Rattle.server_limits.specs.Limits.{most_shelves};
 ghost use Rattle.page_follower.specs.OfShelf.Following.{IsOpen, IsReadable};
 ghost use Rattle.page_follower.specs.OfShelf.Ranges.{AreInRange};
 ghost use Rattle.command_words.specs.Plain.{CanFeed, HasShelves};
 ghost use Rattle.play_desk.specs.Opening.{AreHome};
-ghost use Rattle.server_command.specs.Bare.{AsksOne, GivesBack, OpensAs, OpensOne, is_to_follow, untaken_for};
-ghost use Rattle.server_command.specs.Feeding.{LeavesExport, LeavesFollow, LeavesPromotes, PromotesOne, unpromoted_for};
+ghost use Rattle.server_command.specs.Bare.{AsksOne, OpensAs, is_to_follow, untaken_for};
+ghost use Rattle.server_command.specs.Calls.{GivesBackTo, OpensShelf, PromotesShelf, rack_over};
+ghost use Rattle.server_command.specs.Feeding.{LeavesExport, LeavesFollow, LeavesPromotes, unpromoted_for};
 ghost use Rattle.server_command.specs.Output.{Hands, sinks_of};
-ghost use Rattle.server_command.specs.Racks.{AreBack, racks_of};
+ghost use Rattle.server_command.specs.Racks.{AreBack};
 
 use crate::program::Status;
 use crate::telling::{hand_on, tell_followed, tell_promoted, tell_unopened};
@@ -91,8 +92,8 @@ fn open_shelf<D: Disk, R: Rack<D>>(
     opening: Opening,
 ) -> Result<Opened<D>, OpenCause>
     requires { shelf < most_shelves }
-    ensures { OpensOne (trio_view {G = ⟦<D as Disk>⟧}) D.tells (is_to_follow opening)
-        (racks_of (R.tells && D.tells) (R.view rack.old) (R.view rack.new)) shelf result }
+    ensures { OpensShelf ⟦<D as Disk>⟧ R.view R.tells (is_to_follow opening)
+        rack.old rack.new shelf result }
 {
     let disks = match take_trio(rack, alloc, directory, shelf) {
         Ok(disks) => disks,
@@ -110,8 +111,7 @@ fn open_shelf<D: Disk, R: Rack<D>>(
 // Gives back the disks of a shelf.
 fn give_back<D: Disk, R: Rack<D>>(rack: &mut R, shelf: u32, disks: Disks<D>)
     requires { shelf < most_shelves }
-    ensures { GivesBack trio_view (IsTrue (R.tells && D.tells)) shelf disks
-        (R.view rack.old) (R.view rack.new) }
+    ensures { GivesBackTo trio_view R.view (R.tells && D.tells) shelf disks rack.old rack.new }
 {
     // A count is below 2^64, so it does not fall where that of a disk is added.
     let _count = rack.faults();
@@ -121,8 +121,8 @@ fn give_back<D: Disk, R: Rack<D>>(rack: &mut R, shelf: u32, disks: Disks<D>)
 // Closes a shelf and gives back its disks.
 fn close_shelf<D: Disk, R: Rack<D>>(rack: &mut R, number: u32, shelf: Opened<D>)
     requires { number < most_shelves }
-    ensures { GivesBack trio_view (IsTrue (R.tells && D.tells)) number shelf.journal.disk
-        (R.view rack.old) (R.view rack.new) }
+    ensures { GivesBackTo trio_view R.view (R.tells && D.tells) number shelf.journal.disk
+        rack.old rack.new }
 {
     let (disks, _nonces) = shelf.close();
     give_back(rack, number, disks);
@@ -138,7 +138,7 @@ pub(crate) fn export_shelf<O: Sink, D: Disk, R: Rack<D>>(
     requires range { CanFeed options.now }
     requires home { AreHome (R.view rack.old).out }
     ensures leaves { LeavesExport (trio_view {G = ⟦<D as Disk>⟧})
-        (racks_of (R.tells && D.tells) (R.view rack.old) (R.view rack.new))
+        (rack_over R.view R.tells D.tells rack.old rack.new)
         options.now.shelf result (sinks_of (O.view output.old) (O.view output.new)) }
     ensures hands { Hands result (O.view output.old) (O.view output.new) }
     ensures back { AreBack (R.view rack.old) (R.view rack.new) }
@@ -172,7 +172,7 @@ pub(crate) fn follow_feed<I: Source, O: Sink, D: Disk, R: Rack<D>>(
     requires range { CanFeed options.now }
     requires home { AreHome (R.view rack.old).out }
     ensures leaves { LeavesFollow (trio_view {G = ⟦<D as Disk>⟧})
-        (racks_of (R.tells && D.tells) (R.view rack.old) (R.view rack.new))
+        (rack_over R.view R.tells D.tells rack.old rack.new)
         options.now.shelf result (I.view input.old) (I.view input.new)
         (O.view output.old) (O.view output.new) }
     ensures hands { Hands result (O.view output.old) (O.view output.new) }
@@ -209,10 +209,9 @@ fn promote_shelf<D: Disk, R: Rack<D>>(
     number: u32,
 ) -> Result<bool, OpenCause>
     requires { number < most_shelves }
-    ensures promotes { PromotesOne (trio_view {G = ⟦<D as Disk>⟧})
-        (racks_of (R.tells && D.tells) (R.view rack.old) (R.view rack.new)) number result }
-    ensures rest { AsksOne
-        (racks_of (R.tells && D.tells) (R.view rack.old) (R.view rack.new)) number }
+    ensures promotes { PromotesShelf ⟦<D as Disk>⟧ R.view R.tells
+        rack.old rack.new number result }
+    ensures rest { AsksOne (rack_over R.view R.tells D.tells rack.old rack.new) number }
 {
     let mut shelf = match open_shelf(alloc, rack, directory, number, Opening::AsItIs) {
         Ok(shelf) => shelf,
@@ -236,7 +235,7 @@ pub(crate) fn promote_all<O: Sink, D: Disk, R: Rack<D>>(
     requires range { HasShelves options.now }
     requires home { AreHome (R.view rack.old).out }
     ensures leaves { LeavesPromotes (trio_view {G = ⟦<D as Disk>⟧})
-        (racks_of (R.tells && D.tells) (R.view rack.old) (R.view rack.new))
+        (rack_over R.view R.tells D.tells rack.old rack.new)
         options.now.shelves result (sinks_of (O.view output.old) (O.view output.new)) }
     ensures hands { Hands result (O.view output.old) (O.view output.new) }
     ensures back { AreBack (R.view rack.old) (R.view rack.new) }

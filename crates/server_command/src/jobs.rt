@@ -1,13 +1,14 @@
-ghost use Rattle.std.specs.Prelude.{◌&&◌, ◌≡◌, ◌≤◌, List, ℕ, Ok};
+ghost use Rattle.std.specs.Prelude.{◌≡◌, ◌≤◌, List, ℕ, Ok};
 ghost use Rattle.script_nodes.specs.Views.{scripts_of};
 ghost use Rattle.setup_reader.specs.Texts.{IsReadSetup};
 ghost use Rattle.setup_reader.specs.Views.{parsed_of};
 ghost use Rattle.command_words.specs.Plain.{AreInRange, IsInRange};
 ghost use Rattle.play_desk.specs.Opening.{AreHome};
+ghost use Rattle.server_command.specs.Calls.{rack_over};
 ghost use Rattle.server_command.specs.Command.{Came, Outputs, OutputsFor, PlaysSteps, asked_of, met_of};
 ghost use Rattle.server_command.specs.Order.{AsksRack, PlaysInOrder};
 ghost use Rattle.server_command.specs.Output.{Hands, ending_of, sinks_of};
-ghost use Rattle.server_command.specs.Racks.{AreBack, racks_of};
+ghost use Rattle.server_command.specs.Racks.{AreBack};
 ghost use Rattle.server_command.specs.Serving.{Faults};
 
 use crate::opening::rules_of;
@@ -53,10 +54,10 @@ fn play_all<O: Sink, D: Disk, R: Rack<D>>(
     requires range { AreInRange options.now }
     requires read { IsReadSetup (scripts_of setup) }
     requires home { AreHome (R.view rack.old).out }
-    ensures outputs { PlaysSteps (racks_of (R.tells && D.tells) (R.view rack.old) (R.view rack.new))
+    ensures outputs { PlaysSteps (rack_over R.view R.tells D.tells rack.old rack.new)
         options.now (scripts_of setup) steps.now result
         (sinks_of (O.view output.old) (O.view output.new)) }
-    ensures asked { PlaysInOrder (racks_of (R.tells && D.tells) (R.view rack.old) (R.view rack.new))
+    ensures asked { PlaysInOrder (rack_over R.view R.tells D.tells rack.old rack.new)
         options.now.shelves result }
     ensures hands { Hands result (O.view output.old) (O.view output.new) }
     ensures back { AreBack (R.view rack.old) (R.view rack.new) }
@@ -91,10 +92,10 @@ fn run_setup<O: Sink, D: Disk, R: Rack<D>>(
     requires range { IsInRange (asked_of job.now) }
     requires read { IsReadSetup (scripts_of parsed.setup) }
     requires home { AreHome (R.view rack.old).out }
-    ensures outputs { OutputsFor (racks_of (R.tells && D.tells) (R.view rack.old) (R.view rack.new))
+    ensures outputs { OutputsFor (rack_over R.view R.tells D.tells rack.old rack.new)
         (asked_of job.now) (Ok (parsed_of parsed.entry)) result
         (sinks_of (O.view output.old) (O.view output.new)) }
-    ensures asked { AsksRack (racks_of (R.tells && D.tells) (R.view rack.old) (R.view rack.new))
+    ensures asked { AsksRack (rack_over R.view R.tells D.tells rack.old rack.new)
         (asked_of job.now) result }
     ensures hands { Hands result (O.view output.old) (O.view output.new) }
     ensures back { AreBack (R.view rack.old) (R.view rack.new) }
@@ -116,9 +117,9 @@ fn run_input<O: Sink, D: Disk, R: Rack<D>>(
 ) -> Status
     requires range { IsInRange (asked_of job.now) }
     requires home { AreHome (R.view rack.old).out }
-    ensures outputs { Outputs (racks_of (R.tells && D.tells) (R.view rack.old) (R.view rack.new))
+    ensures outputs { Outputs (rack_over R.view R.tells D.tells rack.old rack.new)
         (asked_of job.now) input.now result (sinks_of (O.view output.old) (O.view output.new)) }
-    ensures asked { AsksRack (racks_of (R.tells && D.tells) (R.view rack.old) (R.view rack.new))
+    ensures asked { AsksRack (rack_over R.view R.tells D.tells rack.old rack.new)
         (asked_of job.now) result }
     ensures hands { Hands result (O.view output.old) (O.view output.new) }
     ensures back { AreBack (R.view rack.old) (R.view rack.new) }
@@ -144,8 +145,8 @@ pub(crate) fn run_job<I: Source, O: Sink, D: Disk, R: Rack<D>>(
         → Came (asked_of job.now) result
         (met_of words (I.view input.old) (I.view input.new)
         (sinks_of (O.view output.old) (O.view output.new))
-        (racks_of (R.tells && D.tells) (R.view rack.old) (R.view rack.new)) door seeds) }
-    ensures asked { AsksRack (racks_of (R.tells && D.tells) (R.view rack.old) (R.view rack.new))
+        (rack_over R.view R.tells D.tells rack.old rack.new) door seeds) }
+    ensures asked { AsksRack (rack_over R.view R.tells D.tells rack.old rack.new)
         (asked_of job.now) result }
     ensures hands { Hands result (O.view output.old) (O.view output.new) }
     ensures back { AreBack (R.view rack.old) (R.view rack.new) }

@@ -1,11 +1,12 @@
-ghost use Rattle.std.specs.Prelude.{◌&&◌, ◌≤◌};
+ghost use Rattle.std.specs.Prelude.{◌≤◌};
 ghost use Rattle.web_outside.specs.Pieces.{HandsAllOn};
 ghost use Rattle.command_words.specs.Plain.{CanLoad};
 ghost use Rattle.play_desk.specs.Opening.{AreHome};
-ghost use Rattle.server_command.specs.Loading.{HasLeft, TellsMeasure};
+ghost use Rattle.server_command.specs.Calls.{LoadsAll, rack_over};
+ghost use Rattle.server_command.specs.Loading.{TellsMeasure};
 ghost use Rattle.server_command.specs.Order.{PlaysInOrder};
 ghost use Rattle.server_command.specs.Output.{Hands, HandsOnIfDone, sinks_of};
-ghost use Rattle.server_command.specs.Racks.{AreBack, racks_of};
+ghost use Rattle.server_command.specs.Racks.{AreBack};
 
 use crate::opening::rules_of;
 use crate::program::Status;
@@ -44,9 +45,9 @@ pub fn load_all<O: Sink, D: Disk, R: Rack<D>>(
 ) -> Status
     requires range { CanLoad options.now }
     requires home { AreHome (R.view rack.old).out }
-    ensures leaves { HasLeft (racks_of (R.tells && D.tells) (R.view rack.old) (R.view rack.new))
-        options.now result (sinks_of (O.view output.old) (O.view output.new)) }
-    ensures asked { PlaysInOrder (racks_of (R.tells && D.tells) (R.view rack.old) (R.view rack.new))
+    ensures leaves { LoadsAll R.view R.tells D.tells O.view options.now result
+        rack.old rack.new output.old output.new }
+    ensures asked { PlaysInOrder (rack_over R.view R.tells D.tells rack.old rack.new)
         options.now.options.shelves result }
     ensures hands { Hands result (O.view output.old) (O.view output.new) }
     ensures back { AreBack (R.view rack.old) (R.view rack.new) }

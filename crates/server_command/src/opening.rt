@@ -9,8 +9,9 @@ ghost use Rattle.site_serving.specs.Shelves as shelves;
 ghost use Rattle.site_serving.specs.Shelves.{AreNew, IsReady};
 ghost use Rattle.site_serving.specs.Serving.{openings_of};
 ghost use Rattle.command_words.specs.Plain.{AreInRange};
+ghost use Rattle.server_command.specs.Calls.{HasTakenAll, RefusesFor};
 ghost use Rattle.server_command.specs.Output.{rules_for};
-ghost use Rattle.server_command.specs.Opening.{AreAsked, AreFrom, AreGiven, AsksAsTaken, FailsAt, AreRulesFor, AreUntaken, CanBegin, HasTaken, OpensOn, RefusesOn, TakesBack, seen_on, unopened_by};
+ghost use Rattle.server_command.specs.Opening.{AreAsked, AreFrom, AreGiven, AsksAsTaken, FailsAt, AreRulesFor, AreUntaken, CanBegin, OpensOn, TakesBack, unopened_by};
 
 use command_words::Options;
 use disk_trio::Disks;
@@ -77,8 +78,8 @@ fn take_all<D: Disk, R: Rack<D>>(
     count: u32,
 ) -> Result<Vec<Disks<D>>, OpenFault>
     requires { count ≤ most_shelves }
-    ensures taken { IfOk result (λ disks. HasTaken (IsTrue (R.tells && D.tells))
-        (R.view rack.old) (R.view rack.new) count (seen_on trio_view disks.items)) }
+    ensures taken { IfOk result
+        (HasTakenAll ⟦<D as Disk>⟧ R.view R.tells rack.old rack.new count) }
     ensures fresh { IfOk result (λ disks. AreNew disks.items) }
     ensures from { IsTrue R.tells →
         IfOk result (λ disks. AreFrom trio_view (R.view rack.old) disks.items) }
@@ -132,8 +133,8 @@ pub fn open_site<W: Wait, D: Disk, R: Rack<D>, N: Nonces + Drop>(
         (R.view rack.old) (R.view rack.new) (openings_of site.row.homes)) }
     ensures count { IfOk result (λ site. length site.row.homes ≡ options.now.shelves) }
     ensures ready { IfOk result IsReady }
-    ensures refused { IfErr result (RefusesOn (IsTrue (R.tells && D.tells)) (scripts_of setup)
-        options.now.shelves (R.view rack.old) (R.view rack.new)) }
+    ensures refused { IfErr result (RefusesFor R.view (R.tells && D.tells) setup
+        options.now.shelves rack.old rack.new) }
     ensures later { (R.view rack.old).faults ≤ (R.view rack.new).faults }
 {
     let rules = rules_of(options, 0);

@@ -1,5 +1,4 @@
-ghost use Rattle.std.specs.Prelude.{◌&&◌, ◌≡◌, ◌≤◌, List, ℕ, Some, IsErrOf, IsTrue, length};
-ghost use Rattle.web_outside.specs.Causes.{Rose};
+ghost use Rattle.std.specs.Prelude.{◌&&◌, ◌≡◌, ◌≤◌, List, ℕ, Some, IsErrOf, length};
 ghost use Rattle.web_outside.specs.View.{SeedsView};
 ghost use Rattle.disk_trio.specs.Trio.{trio_view};
 ghost use Rattle.trio_rack.specs.Trios.{KeepsHome};
@@ -9,7 +8,7 @@ ghost use Rattle.command_words.specs.Plain.{CanServe};
 ghost use Rattle.play_desk.specs.Opening.{AreHome};
 ghost use Rattle.site_serving.specs.Serving.{pasts_of, views};
 ghost use Rattle.command_words.specs.declared.Command.TheVariants as asked;
-ghost use Rattle.server_command.specs.Auditing.{HoldYes};
+ghost use Rattle.server_command.specs.Calls.{HoldYesIfAudited, RoseIf};
 ghost use Rattle.server_command.specs.Command.{around, asked_in, texts};
 ghost use Rattle.server_command.specs.Ending.{ComesServed, ComesSo, EndsBehind, ServesSo};
 ghost use Rattle.server_command.specs.Opening.{CanBegin};
@@ -213,10 +212,10 @@ where
             (racks_of (R.tells && D.tells) (R.view self.old.rack.now) (R.view self.new.rack.now))
             (A.view self.old.door.now) (A.view self.new.door.now) (S.view self.old.seeds.now)
             (pasts_of (P.told self.old.past.now) (P.told self.new.past.now))) }
-        ensures key { IsErrOf result ServeFault.Key →
-            Rose (S.view self.old.seeds.now).faults (S.view self.new.seeds.now).faults }
-        ensures door { IsErrOf result ServeFault.Door →
-            Rose (A.view self.old.door.now).faults (A.view self.new.door.now).faults }
+        ensures key { RoseIf result ServeFault.Key
+            (S.view self.old.seeds.now).faults (S.view self.new.seeds.now).faults }
+        ensures door { RoseIf result ServeFault.Door
+            (A.view self.old.door.now).faults (A.view self.new.door.now).faults }
         ensures door_later { (A.view self.old.door.now).faults ≤ (A.view self.new.door.now).faults }
         ensures seeds_later { (S.view self.old.seeds.now).faults ≤ (S.view self.new.seeds.now).faults }
         ensures rack_later { (R.view self.old.rack.now).faults ≤ (R.view self.new.rack.now).faults }
@@ -240,8 +239,8 @@ where
         requires read { IsReadSetup (scripts_of setup) }
         requires begins { CanBegin service.now.options.shelves (scripts_of setup) }
         requires sources { length sources.items ≡ service.now.options.shelves }
-        requires audited { IsTrue service.now.audit → IsTrue (R.tells && D.tells) →
-            HoldYes service.now.options.shelves (R.view self.old.rack.now) }
+        requires audited { HoldYesIfAudited service.now (R.tells && D.tells)
+            (R.view self.old.rack.now) }
         ensures same { HoldsTheSame self.old self.new }
         ensures still { self.new.seeds.now ≡ self.old.seeds.now }
         ensures served { (seeds : Both (SeedsView N)) →
@@ -257,8 +256,8 @@ where
             (A.view self.old.door.now) (A.view self.new.door.now) seeds.before
             (pasts_of (P.told self.old.past.now) (P.told self.new.past.now))) }
         ensures key { IsErrOf result ServeFault.Key → ⊥ }
-        ensures door { IsErrOf result ServeFault.Door →
-            Rose (A.view self.old.door.now).faults (A.view self.new.door.now).faults }
+        ensures door { RoseIf result ServeFault.Door
+            (A.view self.old.door.now).faults (A.view self.new.door.now).faults }
         ensures door_later { (A.view self.old.door.now).faults ≤ (A.view self.new.door.now).faults }
         ensures rack_later { (R.view self.old.rack.now).faults ≤ (R.view self.new.rack.now).faults }
         ensures home { KeepsHome (R.view self.old.rack.now) (R.view self.new.rack.now) }
