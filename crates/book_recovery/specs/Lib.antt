@@ -8,3 +8,4 @@ pub use Rattle.book_redo.specs.JournalSpec
 pub use Rattle.book_redo.specs.VisitRuns
 pub use Rattle.setup_reader.specs as SetupReader
 pub mod Adopting
+pub mod Calls

@@ -1,16 +1,13 @@
 ghost use Rattle.std.specs.Prelude.{ℕ, ◌≡◌, ◌<◌, ◌≤◌, ◌+◌, ◌^◌, length, false, true, IfOk};
 ghost use Rattle.script_nodes.specs.Views.{library_of};
-ghost use Rattle.page_journal.specs.Records.{newest};
 ghost use Rattle.journal_records.specs.Roles.{is_role};
 ghost use Rattle.journal_records.specs.Views.{logged_of};
-ghost use Rattle.setup_reader.specs.Texts.{setup_of_texts};
 ghost use Rattle.book_redo.specs.InstanceBook.Makes.{HasPlaces, HasSomeStates};
-ghost use Rattle.book_redo.specs.JournalSpec.Making.{Making};
-ghost use Rattle.book_redo.specs.JournalSpec.Old.{with_body_at};
 ghost use Rattle.book_redo.specs.Redo.{UnlessTaken};
 ghost use Rattle.file_notes.specs.Files.{IsNoted};
-ghost use Rattle.book_recovery.specs.Adopting.{IsLeftAlone, TakesNotes, BeginsSo, IsBegunAs, BeginsNotes, TellsStanding, IsReadBehind, begun_by};
-ghost use Rattle.book_recovery.specs.Reading.{IsUnderWay, Gives, GivesWith, IsKept, found_as};
+ghost use Rattle.book_recovery.specs.Adopting.{TakesNotes, BeginsSo, IsBegunAs, BeginsNotes, TellsStanding, IsReadBehind, begun_by};
+ghost use Rattle.book_recovery.specs.Calls.{Adopts, LeavesAlone, WouldStand};
+ghost use Rattle.book_recovery.specs.Reading.{IsUnderWay, IsKept, found_as};
 ghost use Rattle.book_recovery.specs.declared.found.Found.TheVariants as found;
 
 use crate::found::Found;
@@ -47,16 +44,15 @@ pub fn adopt(
     requires noted { IsNoted notes.old }
     requires fed { is_role body.now ≡ false }
     requires short { length body.now < 2 ^ 32 }
-    ensures gives { (place : ℕ) → GivesWith newest shelf place body.now true alone
-        (found.Made book.old library.old) true false
-        (found_as place result book.new library.new) seen.old seen.new }
+    ensures gives { Adopts shelf alone body.now book.old library.old seen.old
+        result book.new library.new seen.new }
     ensures kept { (place : ℕ) → IsKept shelf false seen.new
         (found_as place result book.new library.new) }
     ensures notes { (place : ℕ) → TakesNotes shelf place body.now alone
         (found.Made book.old library.old) seen.old notes.old notes.new
         (found_as place result book.new library.new) }
-    ensures same { UnlessTaken result (IsLeftAlone seen.old seen.new book.old book.new
-        library.old library.new notes.old notes.new) }
+    ensures same { LeavesAlone result seen.old seen.new book.old book.new
+        library.old library.new notes.old notes.new }
     ensures noted { IsNoted notes.new }
 {
     if book.live() >= u32::MAX - 1 {
@@ -204,9 +200,7 @@ pub fn would_stand(
     requires kept { IsUnderWay shelf alone seen.now book.now (library_of library.now) }
     requires fed { is_role body.now ≡ false }
     requires short { length body.now < 2 ^ 32 }
-    ensures stands { (place : ℕ) (m : Making) →
-        Gives shelf (place + 1) true alone (found.Made book.now library.now) seen.now m →
-        TellsStanding result (with_body_at newest setup_of_texts shelf place body.now m) }
+    ensures stands { WouldStand shelf alone seen.now book.now library.now body.now result }
 {
     records_are_exact();
     let _ = seen;

@@ -1,15 +1,13 @@
 ghost use Rattle.std.specs.Prelude.{◌≡◌, ◌<◌, IsTrue, IfOk, OnOk, OnErr};
 ghost use Rattle.page_journal.specs.Scanned.{IsQuiet};
 ghost use Rattle.page_journal.specs.Settled.{HasFailed, IsSettled, IsSound, view_of, bodies_in, length_of, is_broken};
-ghost use Rattle.setup_reader.specs.Texts.{setup_of_texts};
-ghost use Rattle.book_redo.specs.JournalSpec.Old.{book_of_format};
-ghost use Rattle.book_redo.specs.JournalSpec.Owning.{AreOwnIn};
 ghost use Rattle.book_redo.specs.JournalSpec.Reading.{AreAllBytes};
 ghost use Rattle.file_notes.specs.Files.{IsNoted};
-ghost use Rattle.book_recovery.specs.Found.{Finds, IsFoundInOrder, HasStates};
+ghost use Rattle.book_recovery.specs.Calls.{FindsIn, GivesIn, IsOwnIn};
+ghost use Rattle.book_recovery.specs.Found.{IsFoundInOrder, HasStates};
 ghost use Rattle.book_recovery.specs.Anew.{KeepsFileOf};
 ghost use Rattle.book_recovery.specs.Noting.{KnowsFileOf};
-ghost use Rattle.book_recovery.specs.Reading.{Gives, IsKept, ReadsSome};
+ghost use Rattle.book_recovery.specs.Reading.{IsKept, ReadsSome};
 
 use crate::found::ReadBook;
 use crate::sound::SoundReader;
@@ -33,13 +31,9 @@ pub fn read_book<D: Disk>(
     requires sound { IsSound journal.old }
     requires known { 0 < journal.old.format }
     requires settled { IsTrue D.tells → IsSettled D.view journal.old }
-    ensures found { IsTrue D.tells → IfOk result (λ read.
-        Finds shelf (length_of journal.old) read.follows read.found
-        (book_of_format journal.old.format setup_of_texts shelf (bodies_in D.view journal.old))) }
+    ensures found { IsTrue D.tells → IfOk result (FindsIn D.view journal.old shelf) }
     // One record more can be taken.
-    ensures gives { IsTrue D.tells → IfOk result (λ read.
-        Gives shelf (length_of journal.old) read.follows read.alone read.found read.seen
-        (book_of_format journal.old.format setup_of_texts shelf (bodies_in D.view journal.old))) }
+    ensures gives { IsTrue D.tells → IfOk result (GivesIn D.view journal.old shelf) }
     ensures kept { IfOk result (λ read. IsKept shelf read.alone read.seen read.found) }
     ensures handed { IfOk result (ReadsSome journal.old.format shelf) }
     ensures bytes { IsTrue D.tells → OnOk result (AreAllBytes (bodies_in D.view journal.old)) }
@@ -53,9 +47,8 @@ pub fn read_book<D: Disk>(
     ensures anew { IsTrue D.tells →
         IfOk result (KeepsFileOf journal.old.format shelf (bodies_in D.view journal.old)) }
     // Where each record is an own one, each page has the state of its chain.
-    ensures states { IsTrue D.tells
-        → AreOwnIn journal.old.format setup_of_texts shelf (bodies_in D.view journal.old)
-        → IfOk result (λ read. HasStates read.found) }
+    ensures states { IsTrue D.tells → IsOwnIn D.view journal.old shelf →
+        IfOk result (λ read. HasStates read.found) }
     ensures quiet { IsQuiet (view_of D.view journal.old) (view_of D.view journal.new) }
     ensures len { length_of journal.new ≡ length_of journal.old }
     ensures format { journal.new.format ≡ journal.old.format }

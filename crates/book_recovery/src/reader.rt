@@ -3,7 +3,6 @@ ghost use Rattle.script_nodes.specs.Views.{library_of};
 ghost use Rattle.replay_spec.specs.Recovery.{is_repeated};
 ghost use Rattle.book_redo.specs.InstanceBook.Makes.{count_of, HasPlaces, KeepsPlaces, HasItsStates, Reopens};
 ghost use Rattle.book_redo.specs.InstanceBook.Lists.{HasRoom as HasRoomToSee};
-ghost use Rattle.book_redo.specs.InstanceBook.declared.book.Book.{Book as KeptBook};
 ghost use Rattle.book_redo.specs.Redo.{counted_to, number_by, IsUnchanged, UnlessTaken};
 ghost use Rattle.journal_records.specs.Records.{IsInGrammar};
 ghost use Rattle.journal_records.specs.Roles.{is_role};
@@ -11,9 +10,10 @@ ghost use Rattle.journal_records.specs.Views.{logged_of, script_of};
 ghost use Rattle.file_notes.specs.Files.{IsNoted, HasRoom as HasRoomToNote};
 ghost use Rattle.book_recovery.specs.Found.{HasStates};
 ghost use Rattle.book_recovery.specs.Anew.{IsBodyAnew, KeepsAnew, KeepsTold};
+ghost use Rattle.book_recovery.specs.Calls.{AnewLater, GivesFirst, GivesLater, IsMadeFor, KeepsFor, NotesFor, NotesLater, NotesRenewal, OwnsLater, RenewsFor};
 ghost use Rattle.book_recovery.specs.declared.to_note.Noting.TheVariants as noting;
-ghost use Rattle.book_recovery.specs.Noted.{NotesBy, NotesRedone, NotesSetup, NotesFirst, KeepsRedone};
-ghost use Rattle.book_recovery.specs.Reading.{may_stand, turns, HasFew, CountsOneMore, SeesNumber, Sees, IsUnderWay, IsMadeIn, book_as, found_as, WhereTaken, UnlessMade, IsBegun, TakesNothing, GivesWith, KeepsOwnWith, IsKept, IsSoundReader, IsSameFile, IsSameReader, IsTaken, NotesTaken, AnewTaken, seen_by, with_found, Renews, Begins};
+ghost use Rattle.book_recovery.specs.Noted.{NotesBy, NotesFirst};
+ghost use Rattle.book_recovery.specs.Reading.{may_stand, turns, HasFew, CountsOneMore, SeesNumber, Sees, IsUnderWay, book_as, found_as, WhereTaken, UnlessMade, IsBegun, TakesNothing, IsKept, IsSoundReader, IsSameFile, IsSameReader, IsTaken, NotesTaken, AnewTaken, seen_by, with_found, Begins};
 ghost use Rattle.book_recovery.specs.declared.found.Found.TheVariants as found;
 
 use crate::found::Found;
@@ -234,16 +234,16 @@ impl Reader {
         requires own { self.old.format ≡ 1 → HasItsStates (library_of library.now).all book.old }
         requires few { count_of book.old + 1 < 2 ^ 32 }
         requires noted { IsNoted self.old.notes }
-        ensures made { IfOk (book_as result book.new) (IsMadeIn self.old.format
-            (library_of library.now) self.old.seen (logged_of logged) book.old) }
+        ensures made { IfOk (book_as result book.new)
+            (IsMadeFor self.old library.now logged book.old) }
         ensures placed { IfOk (book_as result book.new)
             (λ found. IfSome found (HasPlaces (library_of library.now).all)) }
         ensures count { IfOk (book_as result book.new) (CountsOneMore book.old) }
         ensures sees { WhereTaken result (Sees (logged_of logged) self.old.seen self.new.seen) }
-        ensures notes { IfOk (book_as result book.new) (NotesRedone (library_of library.now)
-            book.old (logged_of logged) length self.old self.new) }
-        ensures anew { IfOk (book_as result book.new) (KeepsRedone (library_of library.now)
-            book.old (logged_of logged) self.old self.new) }
+        ensures notes { IfOk (book_as result book.new)
+            (NotesFor library.now book.old logged length self.old self.new) }
+        ensures anew { IfOk (book_as result book.new)
+            (KeepsFor library.now book.old logged self.old self.new) }
         ensures book { UnlessTaken result (IsUnchanged book.old book.new) }
         ensures nothing { UnlessTaken result (TakesNothing self.old self.new) }
         ensures noted { IsNoted self.new.notes }
@@ -285,10 +285,8 @@ impl Reader {
         length: u32,
     ) -> Result<bool, AllocError>
         requires noted { IsNoted self.old.notes }
-        ensures renews { (place : ℕ) (book : KeptBook) → Renews place book (library_of library.old)
-            (map script_of texts.now) (found_as place result book library.new) }
-        ensures notes { (place : ℕ) (book : KeptBook) → NotesSetup (map script_of texts.now) length
-            self.old.notes self.new.notes (found_as place result book library.new) }
+        ensures renews { RenewsFor texts.now library.old result library.new }
+        ensures notes { NotesRenewal texts.now length self.old self.new result library.new }
         ensures library { UnlessTaken result
             (library_of library.new ≡ library_of library.old) }
         ensures nothing { UnlessTaken result (TakesNothing self.old self.new) }
@@ -348,21 +346,16 @@ impl Reader {
         requires own { self.old.format ≡ 1 → HasItsStates (library_of library.old).all book.old }
         requires noted { IsNoted self.old.notes }
         ensures count { count_of book.new ≤ count_of book.old + 1 }
-        ensures gives { (place : ℕ) → GivesWith self.old.format self.old.shelf place body.now
-            self.old.follows self.old.alone (found.Made book.old library.old)
-            self.new.follows false (found_as place result book.new library.new)
-            self.old.seen self.new.seen }
-        ensures owns { (place : ℕ) → KeepsOwnWith self.old.format self.old.seen
-            (found.Made book.old library.old) body.now
-            (found_as place result book.new library.new) }
+        ensures gives { GivesLater self.old book.old library.old body.now result
+            self.new book.new library.new }
+        ensures owns { OwnsLater self.old book.old library.old body.now result
+            book.new library.new }
         ensures kept { (place : ℕ) → IsKept self.old.shelf false self.new.seen
             (found_as place result book.new library.new) }
-        ensures notes { (place : ℕ) → NotesTaken
-            (with_found self.old (found.Made book.old library.old)) place body.now
-            (with_found self.new (found_as place result book.new library.new)) }
-        ensures anew { (place : ℕ) → AnewTaken
-            (with_found self.old (found.Made book.old library.old)) place body.now
-            (with_found self.new (found_as place result book.new library.new)) }
+        ensures notes { NotesLater self.old book.old library.old body.now result
+            self.new book.new library.new }
+        ensures anew { AnewLater self.old book.old library.old body.now result
+            self.new book.new library.new }
         ensures book { UnlessTaken result (IsUnchanged book.old book.new) }
         ensures library { UnlessTaken result
             (library_of library.new ≡ library_of library.old) }
@@ -442,9 +435,7 @@ impl Reader {
         requires room { place + 6 + length body.now ≤ 2 ^ 30 }
         requires noted { IsNoted self.old.notes }
         ensures few { HasFew (place + 5 + length body.now) result }
-        ensures gives { GivesWith self.old.format self.old.shelf place body.now self.old.follows
-            self.old.alone found.Nothing self.new.follows true result
-            self.old.seen self.old.seen }
+        ensures gives { GivesFirst self.old place body.now self.new result }
         ensures owns { HasStates result }
         ensures kept { seen_by self.old.seen ≡ []
             → IsKept self.old.shelf true self.old.seen result }
