@@ -34,7 +34,7 @@ use Rattle.site.specs.Passes.{Spots, seen_by}
 use Rattle.site.specs.Rules.{site_rules}
 use Rattle.site.specs.Sites.{IsOwn}
 use Rattle.site_serving.specs.Totals.{end_of, end_with, total}
-use Rattle.site_serving.specs.Workers.{AreServed, WorksAs, porches_of, tallies_of}
+use Rattle.site_serving.specs.Workers.{AreServed, Serves, porches_of, tallies_of}
 use Rattle.site_serving.specs.declared.worker.Worker.{Worker}
 use Rattle.site_serving.specs.Kept.{kept_of}
 use Rattle.site_serving.specs.Pages.{pages_in, pages_of}
@@ -226,8 +226,8 @@ module _ {D P L N : Type 0} (v : Views D P L N) (site : Site D N) (requests : �
       (histories : List (List KeptEntry)) (f : Facts passes porches passes' porches' tallies histories) where
     -- the worker of a place
     module _ (number : ℕ) (a b : Worker (Spots D N) P) (a_is : slice_get f.served.before number ≡ Some a) (b_is : slice_get f.served.after number ≡ Some b) where
-      works : WorksAs rules v.link v.porch v.shown requests a b
-      works = zip_at (WorksAs rules v.link v.porch v.shown requests) f.served.before f.served.after number a b f.served.works a_is b_is
+      works : Serves rules v.link v.porch v.shown requests a b
+      works = zip_at (Serves rules v.link v.porch v.shown requests) f.served.before f.served.after number a b f.served.works a_is b_is
 
       was : IsFirstPass site number a.pass
       was = f.first number a.pass (ap (λ ps. slice_get ps number) (sym f.served.had_passes) ∙ get_map (λ (w : Worker (Spots D N) P). w.pass) f.served.before number a a_is)
@@ -279,7 +279,7 @@ module _ {D P L N : Type 0} (v : Views D P L N) (site : Site D N) (requests : �
           omega arith
 
     long : length f.served.after ≡ length f.served.before
-    long = zip_length (WorksAs rules v.link v.porch v.shown requests) f.served.before f.served.after f.served.works
+    long = zip_length (Serves rules v.link v.porch v.shown requests) f.served.before f.served.after f.served.works
 
     one_before : (number : ℕ) (b : Worker (Spots D N) P) → slice_get f.served.after number ≡ Some b → (a : Worker (Spots D N) P) × (slice_get f.served.before number ≡ Some a)
     one_before number b b_is =
@@ -346,7 +346,7 @@ pub leaves_all : {D P L N : Type 0} (v : Views D P L N) (site : Site D N) (reque
     → slice_get histories k ≡ Some es → IsBack v.disk v.told v.nonce h.opening site.row.seats d n (entries_of es))
     → IfSome left.closed (λ kept. kept ≡ porches') → LeavesAll v (openings_in v.disk v.told v.nonce site) requests porches left workers disks (kept_of histories tallies)
 leaves_all {D = D} {P = P} {L = L} {N = N} v site requests passes porches passes' porches' tallies disks nonces histories left workers f many seats ds ns back closed =
-    let long = zip_length (WorksAs (site_rules v.disk v.told v.nonce site) v.link v.porch v.shown requests) f.served.before f.served.after f.served.works in
+    let long = zip_length (Serves (site_rules v.disk v.told v.nonce site) v.link v.porch v.shown requests) f.served.before f.served.after f.served.works in
     let first = ap length f.served.had_passes in
     let one = map_length (λ (w : Worker (Spots D N) P). w.pass) f.served.before in
     let two = map_length (λ (w : Worker (Spots D N) P). w.tally) f.served.after in
@@ -371,7 +371,7 @@ fails_or_not ends.Done = inr (λ e. let no : ⊥ = cc e in no)
 fails_or_not ends.Failed = inl refl
 
 module _ {S P L : Type 0} (rules : PassRules S) (link : L → LinkView) (porch : P → PorchView L) (shown : Option ℕ) (requests : ℕ) where
-  some_fault : (before after : List (Worker S P)) → AllZip (WorksAs rules link porch shown requests) before after → end_of (tallies_of after) ≡ ends.Failed
+  some_fault : (before after : List (Worker S P)) → AllZip (Serves rules link porch shown requests) before after → end_of (tallies_of after) ≡ ends.Failed
       → 1 ≤ sum_by (λ p. (porch p).faults) (porches_of after)
   some_fault [] [] all failed = absurd (let no : ⊥ = cc failed in no)
   some_fault [] (b ∷ after) all failed = absurd all
@@ -391,14 +391,14 @@ module _ {S P L : Type 0} (rules : PassRules S) (link : L → LinkView) (porch :
   pub as_many : (passes : List S) (porches : List P) (passes' : List S) (porches' : List P) (tallies : List Tally)
       → AreServed rules link porch shown requests passes porches passes' porches' tallies → length tallies ≡ length passes
   as_many passes porches passes' porches' tallies s =
-      let long = zip_length (WorksAs rules link porch shown requests) s.before s.after s.works in
+      let long = zip_length (Serves rules link porch shown requests) s.before s.after s.works in
       let first = ap length s.had_passes in
       let one = map_length (λ (w : Worker S P). w.pass) s.before in
       let two = map_length (λ (w : Worker S P). w.tally) s.after in
       let last = ap length s.counted in
       omega arith
 
-  small_from : (before after : List (Worker S P)) → AllZip (WorksAs rules link porch shown requests) before after
+  small_from : (before after : List (Worker S P)) → AllZip (Serves rules link porch shown requests) before after
       → (k : ℕ) (d : Tally) → k < length (tallies_of after) → IsBelow (count_of (get_or (tallies_of after) k d)) 1000000001
   small_from [] [] all k d lt = absurd (omega (arith, lt))
   small_from [] (b ∷ after) all k d lt = absurd all

@@ -1,5 +1,5 @@
 -- What workers do with their porches.
-use Rattle.std.specs.Prelude.{◌≡◌, ◌≤◌, ℕ, [], List, Option, Some, map, slice_get, vec_len, vec_capacity}
+use Rattle.std.specs.Prelude.{◌≡◌, ◌≤◌, ◌<◌, ℕ, [], List, Option, Some, map, slice_get, slice_index_or, vec_len, vec_capacity}
 use Rattle.std.specs.Global.{Vec}
 use Rattle.std.specs.List.{AllZip}
 use Rattle.web_outside.specs.View.{LinkView, PorchView}
@@ -12,7 +12,7 @@ use Rattle.site_serving.specs.declared.worker.Worker.{Worker}
 
 -- A worker served the links of its porch through its pass, to their end or until the porch failed, and has counted what came of them:
 -- of each thing a thousand a link at most, and a million links.
-pub record WorksAs {S P L : Type 0} (rules : PassRules S) (link : L → LinkView) (porch : P → PorchView L) (shown : Option ℕ) (requests : ℕ)
+pub record Serves {S P L : Type 0} (rules : PassRules S) (link : L → LinkView) (porch : P → PorchView L) (shown : Option ℕ) (requests : ℕ)
     (old new : Worker S P) : Type 0 where
   pub worked : Worked rules link shown requests old.pass new.pass (porch old.porch) (porch new.porch) (count_of new.tally)
   pub ended : EndsBy new.tally.end (porch old.porch) (porch new.porch)
@@ -35,6 +35,10 @@ tallies_of workers = map (λ w. w.tally) workers
 -- each of these passes is the service's own
 abbrev pub AreOwn : {S : Type 0} → PassRules S → List S → Type 0
 AreOwn {S} rules passes = (k : ℕ) (p : S) → slice_get passes k ≡ Some p → rules.IsOwn p
+
+-- The pass of each of the first workers, so many of them, is the service's own.
+abbrev pub HaveOwn : {S P : Type 0} → PassRules S → (count : ℕ) → List (Worker S P) → Type 0
+HaveOwn {S} {P} rules count workers = (k : ℕ) (w : Worker S P) → k < count → rules.IsOwn (slice_index_or workers k w).pass
 
 -- a vector that is empty, and has room for so many
 abbrev pub HasRoomFor : {T : Type 0} → ℕ → Vec T → Type 0
@@ -59,7 +63,7 @@ pub record AreServed {S P L : Type 0} (rules : PassRules S) (link : L → LinkVi
   pub has_passes : passes_of after ≡ passes
   pub has_porches : porches_of after ≡ porches
   pub counted : tallies_of after ≡ tallies
-  pub works : AllZip (WorksAs rules link porch shown requests) before after
+  pub works : AllZip (Serves rules link porch shown requests) before after
 
 -- there is room for so many workers and for what they count, and nothing is there yet
 pub record IsRoomFor {S P : Type 0} (count : ℕ) (room : Room S P) : Type 0 where

@@ -1,6 +1,6 @@
 //! Workers in threads of their own.
 ghost use Rattle.std.specs.Prelude.{◌≡◌, ◌≤◌, ℕ, ◌<◌, length, slice_index_or, vec_len};
-ghost use Rattle.site_serving.specs.Workers.{AreOwn, AreServed, IsRoomFor, WorksAs};
+ghost use Rattle.site_serving.specs.Workers.{AreOwn, AreServed, HaveOwn, IsRoomFor, Serves};
 
 use crate::crew::{dismiss_all, hire_all};
 use crate::worker::{Room, Worker};
@@ -24,7 +24,7 @@ fn work_as<A: Answering, P: Porch, C: Clock, G: Gate>(
     requires some { 0 < requests }
     requires few { requests ≤ 1000 }
     ensures own { (A.rules answering.now).IsOwn worker.new.pass }
-    ensures works { WorksAs (A.rules answering.now) P.Link.view P.view (C.shows clock.now) requests
+    ensures works { Serves (A.rules answering.now) P.Link.view P.view (C.shows clock.now) requests
         worker.old worker.new }
 {
     let Worker { pass, porch, tally } = worker;
@@ -54,12 +54,10 @@ where
     <P::Link as Link>::Output: Send,
     requires some { 0 < requests }
     requires few { requests ≤ 1000 }
-    requires own { (k : ℕ) (w : _) → k < length workers.old
-        → (A.rules answering.now).IsOwn (slice_index_or workers.old k w).pass }
-    ensures own { (k : ℕ) (w : _) → k < length workers.old
-        → (A.rules answering.now).IsOwn (slice_index_or workers.new k w).pass }
+    requires own { HaveOwn (A.rules answering.now) (length workers.old) workers.old }
+    ensures own { HaveOwn (A.rules answering.now) (length workers.old) workers.new }
     ensures works { (k : ℕ) (w : _) → k < length workers.old
-        → WorksAs (A.rules answering.now) P.Link.view P.view (C.shows clock.now) requests
+        → Serves (A.rules answering.now) P.Link.view P.view (C.shows clock.now) requests
         (slice_index_or workers.old k w) (slice_index_or workers.new k w) }
 {
     for_each_mut(

@@ -1,7 +1,7 @@
 use Rattle.std.proofs.Common.{◌≡◌, ◌∙◌, ℕ, List, map, length, slice_get, Some, sym, ap, subst, arith, rules}
 use Rattle.std.specs.Prelude.{reverse, vec_len}
 use Rattle.std.proofs.lemmas.List.{reverse-reverse}
-use Rattle.site_serving.specs.Workers.{WorksAs, passes_of, porches_of, tallies_of}
+use Rattle.site_serving.specs.Workers.{Serves, passes_of, porches_of, tallies_of}
 use Rattle.site_serving.specs.declared.worker.Worker.{Worker}
 use Rattle.site_serving.proofs.Lists.{each_get, each_mapped, each_reverse, each_unmapped, front_of, get_each, zip_of, zip_reverse}
 use Rattle.site_serving.proofs.workers.serve_all.Goals as goal
@@ -33,7 +33,7 @@ returns-clause-own g c =
 pub returns-clause-served : goal.returns-clause-served
 returns-clause-served g c =
     let W = Worker g.row.A-Pass.Denot g.row.P.Denot in
-    let R = WorksAs {S = g.row.A-Pass.Denot} {P = g.row.P.Denot} {L = g.row.P-Link.Denot} (g.A.Answering.rules c.args.answering.now) g.P.Link.Link.view g.P.Porch.view (g.C.Clock.shows c.args.clock.now) c.args.requests in
+    let R = Serves {S = g.row.A-Pass.Denot} {P = g.row.P.Denot} {L = g.row.P-Link.Denot} (g.A.Answering.rules c.args.answering.now) g.P.Link.Link.view g.P.Porch.view (g.C.Clock.shows c.args.clock.now) c.args.requests in
     let old : List W = c.deref_mut.result.now in
     let new : List W = c.work_all.new.workers in
     let kept : length new ≡ length old = search (rules, arith, c.work_all.auto.workers) in
