@@ -10,7 +10,6 @@ use Rattle.trio_rack.specs.Trios.{shelves_of, MayBeBare}
 use Rattle.script_nodes.specs.Views.{scripts_of}
 use Rattle.script_nodes.specs.declared.setup.Setup.{Setup}
 use Rattle.shelf.specs.Opening.{IsOfNow}
-use Rattle.shelf.specs.Owning.{IsOwnImage}
 use Rattle.shelf.specs.Views.{IsOwnShelf, book_in, rules_of}
 use Rattle.shelf.specs.declared.rules.Rules.{Rules}
 use Rattle.shelf.specs.declared.shelf.Shelf.{Shelf}
@@ -55,10 +54,6 @@ FindsNow view tells setup number disk result =
 -- What is begun on a disk without bytes.
 abbrev pub BeginsBare : {D : Type 0} → (D → View) → (tells : Bool) → Setup → Rules → View → Result (Shelf D Counting) Reopen → Type 0
 BeginsBare view tells setup rules disk result = IsTrue tells → disk.seen ≡ [] → BeginsEmpty view (scripts_of setup) rules result
-
--- A shelf that is begun on records of this program's own is its own.
-abbrev pub BeginsOwn : {D : Type 0} → (D → View) → (tells : Bool) → (number : ℕ) → View → Result (Shelf D Counting) Reopen → Type 0
-BeginsOwn view tells number disk result = IsTrue tells → IsOwnImage number disk.seen → IfOk result (IsOwnShelf view tells)
 
 -- Nothing is lost on a disk where a shelf is begun, nor where it is not, unless a call of the disk fails.
 abbrev pub StaysBegun : {D : Type 0} → (D → View) → (rack_tells tells : Bool) → Setup → Rules → View → Result (Shelf D Counting) Reopen

@@ -9,7 +9,8 @@ ghost use Rattle.play_desk.specs.Asking.{AsksForNone, AsksForOne, AsksForSome};
 ghost use Rattle.play_desk.specs.Opening.{CountStays, FailedFor, GivesOne, IsNeverDamaged, IsNeverOther, IsOutside, OpensOne, TakesEmpty, TakesOrLeaves, cause_of, disk_faults, faults_left, reopen_of};
 ghost use Rattle.shelf.specs.Views.{IsInOrder, IsOwnShelf};
 ghost use Rattle.play_desk.specs.Failing.{CountsFor, FailsOn, RisesInAll, StaysInAll};
-ghost use Rattle.play_desk.specs.Told.{BeginsBare, BeginsOwn, ComesBack, ComesBackOwn, FindsNow, GivesHeld, HasNoRoomIn, HoldsAsLeft, KeepsHeld, OpensBare, OutgrowsAfter, StandsAfter, StandsBegun, StaysBegun, StaysInOpening, StaysUnread};
+ghost use Rattle.shelf.specs.Calls.{BeginsOwn};
+ghost use Rattle.play_desk.specs.Told.{BeginsBare, ComesBack, ComesBackOwn, FindsNow, GivesHeld, HasNoRoomIn, HoldsAsLeft, KeepsHeld, OpensBare, OutgrowsAfter, StandsAfter, StandsBegun, StaysBegun, StaysInOpening, StaysUnread};
 
 use disk_trio::Disks;
 use play_steps::Reopen;

@@ -18,6 +18,7 @@ pub mod Preparing
 pub mod Recording
 pub mod Runs
 pub mod Visits
+pub mod Calls
 pub use Rattle.book_recovery.specs.JournalSpec
 pub use Rattle.book_recovery.specs.InstanceBook
 pub use Rattle.file_copies.specs.OfFileNotes

@@ -8,6 +8,7 @@ use Rattle.book_recovery.specs.SetupReader.Texts.{setup_of_texts, IsReadSetup}
 use Rattle.web_outside.specs.Causes.{Rose}
 use Rattle.web_disk.specs.View.{View, AreAmong, Only, NoNewImage, LeavesOnly}
 use Rattle.value_bytes.specs.Laws.{AreBytes}
+use Rattle.page_journal.specs.Calls.{HasAppended}
 use Rattle.page_journal.specs.Holding.{MayHold}
 use Rattle.page_journal.specs.Opened.{IsIntactOrEmpty, TellsFormat}
 use Rattle.page_journal.specs.Records as log
@@ -154,7 +155,7 @@ IsDoneUnlessOutside result = IsErrOf result fault.DiskFault ⊎ (IsErrOf result 
 -- A settled journal gets this body after its records; a crash at any moment leaves those, with it or without it. Where it is not added, the
 -- disk failed, or there was no memory and nothing was written.
 pub record TellsSetup {D T : Type 0} (view : D → View) (tells : Bool) (old new : Journal D) (body : List ℕ) (result : Result T BeginFault) : Type 0 where
-  pub added : IsTrue tells → OnOk result (IsSettled view new × (bodies_in view new ≡ bodies_in view old ++ body ∷ []))
+  pub added : IsTrue tells → OnOk result (HasAppended view old body new)
   pub len : OnOk result (length_of new ≡ length_with old body)
   pub bytes : OnOk result (AreBytes body)
   pub moments : IsTrue tells → LeavesOnly (view_of view old) (view_of view new) (MayHold newest (bodies_in view old) body)

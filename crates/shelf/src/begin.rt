@@ -1,4 +1,4 @@
-ghost use Rattle.std.specs.Prelude.{◌≡◌, ◌≤◌, ◌<◌, ◌^◌, [], false, length, None, is_some, IsTrue, IfOk, OnOk};
+ghost use Rattle.std.specs.Prelude.{◌≡◌, ◌≤◌, ◌<◌, ◌^◌, [], false, length, None, IsTrue, IfOk, OnOk};
 ghost use Rattle.script_nodes.specs.Views.{named_of, scripts_of, library_of};
 ghost use Rattle.book_recovery.specs.SetupReader.Texts.{IsReadSetup};
 ghost use Rattle.disk_trio.specs.Trio.{trio_view};
@@ -8,10 +8,10 @@ ghost use Rattle.journal_records.specs.Records.{IsInGrammar, begin_of, renewal_o
 ghost use Rattle.journal_records.specs.Views.{recorded_of};
 ghost use Rattle.book_recovery.specs.JournalSpec.Opening.{first_body, renewal_body};
 ghost use Rattle.book_recovery.specs.JournalSpec.Whole.{IsWhole, AreWhole};
-ghost use Rattle.book_recovery.specs.InstanceBook.Makes.{HasItsStates};
 ghost use Rattle.book_recovery.specs.Found.{IsBookInOrder};
 ghost use Rattle.shelf.specs.Faults.{begin_fault};
-ghost use Rattle.shelf.specs.Opening.{HasOwnRecords, OpensOwn, Opens, IsFollowedBy, TellsSetup, TellsFull, IsLibraryOf, with_book, WasFound};
+ghost use Rattle.shelf.specs.Calls.{GoesOn, GoesOnOwn, IsFullUnlessFits, OpensOwnFrom, OpensWith, TellsIfFits};
+ghost use Rattle.shelf.specs.Opening.{IsFollowedBy, TellsSetup, IsLibraryOf, WasFound};
 ghost use Rattle.file_copies.specs.OfFileNotes.Files.{IsNoted};
 ghost use Rattle.shelf.specs.Files.{KnowsRead, NotesBegun, NotesRenewed};
 ghost use Rattle.shelf.specs.Ranges.{AreInRange};
@@ -126,11 +126,10 @@ fn start<D: Disk>(
     requires settled { IsTrue D.tells → IsSettled D.view journal.old }
     requires read { IsReadSetup (scripts_of setup.now) }
     requires begins { IsInGrammar (begin_of number (scripts_of setup.now)) }
-    ensures told { length_with journal.old (first_body (scripts_of setup.now) number) ≤ 2 ^ 30
-        → TellsSetup D.view D.tells journal.old journal.new
+    ensures told { TellsIfFits D.view D.tells journal.old journal.new
         (first_body (scripts_of setup.now) number) result }
-    ensures full { 2 ^ 30 < length_with journal.old (first_body (scripts_of setup.now) number)
-        → TellsFull journal.old journal.new (first_body (scripts_of setup.now) number) result }
+    ensures full { IsFullUnlessFits journal.old journal.new
+        (first_body (scripts_of setup.now) number) result }
     ensures library { IfOk result (IsLibraryOf [] (scripts_of setup.now)) }
     ensures notes { OnOk result (NotesBegun (scripts_of setup.now) number notes.new) }
     ensures noted { IsNoted notes.new }
@@ -173,11 +172,10 @@ fn renew<D: Disk>(
     requires settled { IsTrue D.tells → IsSettled D.view journal.old }
     requires read { IsReadSetup (scripts_of setup.now) }
     requires renews { IsInGrammar (renewal_of (scripts_of setup.now)) }
-    ensures told { length_with journal.old (renewal_body (scripts_of setup.now)) ≤ 2 ^ 30
-        → TellsSetup D.view D.tells journal.old journal.new
+    ensures told { TellsIfFits D.view D.tells journal.old journal.new
         (renewal_body (scripts_of setup.now)) result }
-    ensures full { 2 ^ 30 < length_with journal.old (renewal_body (scripts_of setup.now))
-        → TellsFull journal.old journal.new (renewal_body (scripts_of setup.now)) result }
+    ensures full { IsFullUnlessFits journal.old journal.new
+        (renewal_body (scripts_of setup.now)) result }
     ensures library { OnOk result
         (IsLibraryOf (library_of library.old).all (scripts_of setup.now) library.new) }
     ensures notes { OnOk result (NotesRenewed (scripts_of setup.now) notes.old notes.new) }
@@ -228,11 +226,10 @@ fn go_on<D: Disk>(
     requires found { IsTrue D.tells
         → WasFound D.view number journal.old book.now (library_of library.old) }
     requires in_order { IsBookInOrder number book.now (library_of library.old) }
-    ensures opened { Opens D.view D.tells (scripts_of setup.now) number false journal.old journal.new
-        (with_book book.now library.new result) }
-    ensures own { IsTrue D.tells → HasOwnRecords D.view number journal.old
-        → HasItsStates (library_of library.old).all book.now
-        → IfOk (with_book book.now library.new result) (OpensOwn D.view number journal.new) }
+    ensures opened { GoesOn D.view D.tells setup.now number journal.old journal.new
+        book.now library.new result }
+    ensures own { GoesOnOwn D.view D.tells number journal.old journal.new
+        book.now library.old library.new result }
     ensures known { IsTrue D.tells → OnOk result (KnowsRead D.view number journal.new notes.new) }
     ensures noted { IsNoted notes.new }
     ensures newest { journal.new.format ≡ newest }
@@ -268,11 +265,10 @@ fn open<D: Disk>(
     requires read { IsReadSetup (scripts_of setup.now) }
     requires begins { IsInGrammar (begin_of number (scripts_of setup.now)) }
     requires leads { follower.old ≡ None }
-    ensures opened { Opens D.view D.tells (scripts_of setup.now) number (is_some follower.new)
+    ensures opened { OpensWith D.view D.tells setup.now number follower.new
         journal.old journal.new result }
     ensures follows { IsFollowedBy D.view D.tells number journal.new follower.new result }
-    ensures own { IsTrue D.tells → HasOwnRecords D.view number journal.old
-        → IfOk result (OpensOwn D.view number journal.new) }
+    ensures own { OpensOwnFrom D.view D.tells number journal.old journal.new result }
     ensures known { IsTrue D.tells → OnOk result (KnowsRead D.view number journal.new notes.new) }
     ensures noted { IsNoted notes.new }
     ensures newest { journal.new.format ≡ newest }
@@ -334,9 +330,9 @@ fn can_be_run(named: &NamedScript)
 }
 
 impl<F: Disk, N: Nonces + Drop> Shelf<Disks<F>, N> {
-    ghost use Rattle.shelf.specs.Views.{IsInOrder, IsOwnShelf};
-    ghost use Rattle.shelf.specs.Owning.{IsOwnImage};
-    ghost use Rattle.shelf.specs.Opening.{MakesShelf, IsOpenedAnew, OpensOneOf, StandsThroughout, MigratesThroughout, IsOfNow, OpensOwnIfEmpty, LeavesOwn, TellsFault, TellsCause, KeepsDisk, IsFullStill, HasRoomFor, disk_of, nonces_of};
+    ghost use Rattle.shelf.specs.Views.{IsInOrder};
+    ghost use Rattle.shelf.specs.Calls.{BeginsOwn, OpensOneIfNow, StandsIfNow};
+    ghost use Rattle.shelf.specs.Opening.{MakesShelf, IsOpenedAnew, MigratesThroughout, OpensOwnIfEmpty, LeavesOwn, TellsFault, TellsCause, KeepsDisk, IsFullStill, HasRoomFor, disk_of, nonces_of};
 
     /// Opens the shelf of these limits, which are in their ranges, on three disks: its book is what the records of the journal make,
     /// as after a crash. Disks without a record get the first, which tells the shelf's number and its scripts. A journal of an older
@@ -365,15 +361,12 @@ impl<F: Disk, N: Nonces + Drop> Shelf<Disks<F>, N> {
         ensures book { IsTrue F.tells
             → MakesShelf trio_view (scripts_of setup.now) rules.number disks result }
         ensures opened { IfOk result (IsOpenedAnew trio_view (scripts_of setup.now)) }
-        ensures one_of { IsTrue F.tells → IsOfNow (trio_view disks)
-            → OpensOneOf trio_view (scripts_of setup.now) rules.number disks result }
-        ensures any_moment { IsTrue F.tells → IsOfNow (trio_view disks)
-            → StandsThroughout trio_view (scripts_of setup.now) rules.number disks result }
+        ensures one_of { OpensOneIfNow trio_view F.tells setup.now rules.number disks result }
+        ensures any_moment { StandsIfNow trio_view F.tells setup.now rules.number disks result }
         ensures migration { IsTrue F.tells
             → MigratesThroughout trio_view (scripts_of setup.now) rules.number disks result }
         ensures in_order { IfOk result (λ s. IsInOrder trio_view F.tells s) }
-        ensures own { IsTrue F.tells → IsOwnImage rules.number (trio_view disks).seen
-            → IfOk result (IsOwnShelf trio_view F.tells) }
+        ensures own { BeginsOwn trio_view F.tells rules.number (trio_view disks) result }
         ensures own_if_empty { OpensOwnIfEmpty trio_view F.tells result }
         ensures own_moments { IsTrue F.tells → LeavesOwn trio_view rules.number disks result }
         ensures rules { IfOk result (λ s. s.rules ≡ rules) }

@@ -1,13 +1,13 @@
-ghost use Rattle.std.specs.Prelude.{◌≡◌, ◌<◌, ◌≤◌, ◌+◌, ◌^◌, false, IsTrue, IfOk, OnOk, IfErr, IsErrOf};
+ghost use Rattle.std.specs.Prelude.{◌≡◌, ◌<◌, ◌≤◌, ◌+◌, ◌^◌, false, IsTrue, IfOk, OnOk, IfErr};
 ghost use Rattle.script_nodes.specs.Views.{library_of};
 ghost use Rattle.disk_trio.specs.Trio.{trio_view};
 ghost use Rattle.page_journal.specs.Replacing.{IsWholeFile};
 ghost use Rattle.page_journal.specs.Scanned.{IsQuiet};
-ghost use Rattle.page_journal.specs.Settled.{HasFailed, IsSettled, IsSound, view_of, bodies_in, length_of, is_broken};
+ghost use Rattle.page_journal.specs.Settled.{IsSettled, IsSound, view_of, length_of, is_broken};
 ghost use Rattle.journal_records.specs.Fields.{numbers_end};
 ghost use Rattle.file_copies.specs.OfFileNotes.Files.{IsNoted};
-ghost use Rattle.file_copies.specs.declared.copying.CopyFault.TheVariants as copy_fault;
-ghost use Rattle.shelf.specs.Compacting.{IsPlanOf, IsPlannedFor, IsTooLongFor, IsWholeCopy, IsCopyFor, Replaces, Rewrites};
+ghost use Rattle.shelf.specs.Compacting.{IsPlanOf, IsPlannedFor, IsTooLongFor, IsWholeCopy, Replaces};
+ghost use Rattle.shelf.specs.Calls.{CountsInCopy, FailsInCopy, IsCopyIn, RewritesFor};
 
 use crate::doubt::{Doubt, Work};
 use crate::shelf::Shelf;
@@ -89,8 +89,8 @@ fn copied<F: Disk>(
     requires number { number < numbers_end + 1 }
     requires planned { IsPlanOf notes.now planned.now }
     ensures file { IfOk result (IsWholeCopy planned.now) }
-    ensures copy { IsTrue F.tells → IfOk result (λ file. IsCopyFor notes.now planned.now number
-        (bodies_in trio_view journal.old) file) }
+    ensures copy { IsTrue F.tells →
+        IfOk result (IsCopyIn trio_view journal.old notes.now planned.now number) }
     ensures quiet { IsQuiet (view_of trio_view journal.old) (view_of trio_view journal.new) }
     ensures faults { OnOk result ((view_of trio_view journal.new).faults ≡ (view_of trio_view journal.old).faults) }
     ensures len { length_of journal.new ≡ length_of journal.old }
@@ -98,10 +98,8 @@ fn copied<F: Disk>(
     ensures format { journal.new.format ≡ journal.old.format }
     ensures sound { IsSound journal.new }
     ensures settled { IsTrue F.tells → IsSettled trio_view journal.new }
-    ensures cause { IsErrOf result copy_fault.DiskFault →
-        HasFailed (view_of trio_view journal.old) (view_of trio_view journal.new) }
-    ensures memory { IsErrOf result copy_fault.Memory →
-        (view_of trio_view journal.new).faults ≡ (view_of trio_view journal.old).faults }
+    ensures cause { FailsInCopy trio_view journal.old journal.new result }
+    ensures memory { CountsInCopy trio_view journal.old journal.new result }
 {
     let Ok(body) = encode(alloc, &Recorded::Drawn { number }) else {
         return Err(CopyFault::Memory);
@@ -153,8 +151,8 @@ fn rewritten<F: Disk>(
     requires whole { is_broken journal.old ≡ false }
     requires noted { IsNoted notes.now }
     requires number { book.now.logged ≤ 2 ^ 62 }
-    ensures rewritten { Rewrites trio_view F.tells journal.old journal.new
-        notes.now book.now (library_of library.now) result }
+    ensures rewritten { RewritesFor trio_view F.tells journal.old journal.new
+        notes.now book.now library.now result }
     ensures sound { IsSound journal.new }
 {
     let planned = match plan_file(alloc, notes, book, library) {

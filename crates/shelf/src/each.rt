@@ -1,14 +1,15 @@
-ghost use Rattle.std.specs.Prelude.{◌≡◌, ◌≤◌, ◌^◌, List, ℕ, length, IsTrue, OnOk, OnErr};
-ghost use Rattle.page_journal.specs.Records.{at_rest};
+ghost use Rattle.std.specs.Prelude.{◌≡◌, IsTrue, OnOk, OnErr};
+ghost use Rattle.page_journal.specs.Calls.{TakesSome};
 ghost use Rattle.page_journal.specs.Scanned.{IsQuiet};
 ghost use Rattle.page_journal.specs.Settled.{HasFailed, view_of, bodies_in};
-ghost use Rattle.page_journal.specs.Taken.{TakesAll, TakesFront};
+ghost use Rattle.page_journal.specs.Taken.{TakesFront};
 
 use crate::shelf::Shelf;
 use page_journal::{DiskFault, Take};
 use web_disk::Disk;
 
 impl<D: Disk, N> Shelf<D, N> {
+    ghost use Rattle.shelf.specs.Calls.{TakesEach};
     ghost use Rattle.shelf.specs.Views.{IsInOrder};
     ghost use Rattle.shelf.specs.Following.{IsReadable};
 
@@ -17,13 +18,12 @@ impl<D: Disk, N> Shelf<D, N> {
     pub fn for_each<T: Take>(&mut self, taker: &mut T) -> Result<(), DiskFault>
         requires readable { IsReadable D.view D.tells self.old }
         requires ready { T.ready taker.old 8 }
-        ensures taken { IsTrue D.tells → OnOk result
-            (TakesAll T.takes taker.old 8 (bodies_in D.view self.old.journal) taker.new) }
+        ensures taken { IsTrue D.tells →
+            OnOk result (TakesEach T.takes D.view self.old taker.old taker.new) }
         ensures front { IsTrue D.tells →
             TakesFront T.takes taker.old (bodies_in D.view self.old.journal) taker.new }
         // What follows holds of a disk that does not tell its bytes too, and where a call of it failed.
-        ensures handed { (bodies : List (List ℕ)) × TakesAll T.takes taker.old 8 bodies taker.new
-            × (length (at_rest bodies) ≤ 2 ^ 30) }
+        ensures handed { TakesSome T.takes taker.old taker.new }
         ensures quiet { IsQuiet (view_of D.view self.old.journal) (view_of D.view self.new.journal) }
         ensures readable { IsReadable D.view D.tells self.new }
         ensures in_order { IsInOrder D.view D.tells self.old → IsInOrder D.view D.tells self.new }

@@ -3,13 +3,13 @@ ghost use Rattle.script_nodes.specs.Views.{library_of};
 ghost use Rattle.server_limits.specs.Limits.{most_fuel, most_life};
 ghost use Rattle.replay_spec.specs.Invariant.{IsOrderly};
 ghost use Rattle.book_recovery.specs.InstanceBook.Standing.{book_under};
-ghost use Rattle.book_visits.specs.Admissions.{FitsIn};
 ghost use Rattle.book_recovery.specs.InstanceBook.Changes.{HasRoomFor};
 ghost use Rattle.book_visits.specs.Fits.{IsRunnable};
 ghost use Rattle.book_recovery.specs.InstanceBook.Makes.{HasPlaces, StaysSame, KeepsPlaces, KeepsStates};
 ghost use Rattle.shelf.specs.Views.{IsRunIfAny, HasTargetScript};
 ghost use Rattle.shelf.specs.Tickets.{GoesOnIfThere};
-ghost use Rattle.shelf.specs.Preparing.{IsDecided, IsDecidedIfHeld, IsRefused, WantsMemory, CanBeLanded, ShowsState, TellsOfRun};
+ghost use Rattle.shelf.specs.Preparing.{IsRefused, WantsMemory, CanBeLanded, TellsOfRun};
+ghost use Rattle.shelf.specs.Calls.{DecidesIfFits, DecidesIfHeld, ShowsIfFits};
 
 use crate::rules::Rules;
 use crate::second::segment_now;
@@ -45,12 +45,9 @@ pub fn prepared(
     ensures states { KeepsStates book.old book.new }
     ensures room { IfOk result (λ p. HasRoomFor p.change book.new) }
     ensures landed { IfOk result (CanBeLanded (library_of library.now) book.old ticket.now) }
-    ensures shown { FitsIn (library_of library.now) book.old ticket.now.target ticket.now
-        → IfOk result (ShowsState (library_of library.now) book.old) }
-    ensures decided { FitsIn (library_of library.now) book.old ticket.now.target ticket.now
-        → IsDecided (library_of library.now) rules book.old ticket.now result }
-    ensures held { FitsIn (library_of library.now) book.old ticket.now.target ticket.now
-        → IsDecidedIfHeld (library_of library.now) rules book.old ticket.now segment result }
+    ensures shown { ShowsIfFits library.now book.old ticket.now result }
+    ensures decided { DecidesIfFits library.now rules book.old ticket.now result }
+    ensures held { DecidesIfHeld library.now rules book.old ticket.now segment result }
     ensures refused { IsRefused (library_of library.now) book.old ticket.now.target result }
     ensures tells { TellsOfRun result }
     ensures none { WantsMemory (library_of library.now) book.old ticket.now segment result }

@@ -24,7 +24,8 @@ impl<D: Disk, N: Nonces + Drop> Shelf<D, N> {
     ghost use Rattle.shelf.specs.Views.{IsInOrder, IsOwnShelf, IsOwnVisit, IsOut, IsRunFor, HasTargetScript, fate_by};
     ghost use Rattle.replay_spec.specs.Step.{plain};
     ghost use Rattle.shelf.specs.Tickets.{GoesOnFromItsPage, KeepsTickets};
-    ghost use Rattle.shelf.specs.Events.{IsPublish, TellsRefusal, IsToldIfHeld, WantsIfNone, SpendsNumber, SpendsOnly, HasMoments, HasOwnMoments, TellsFaults, LeavesItsDisk, CountsOn, TellsReply, CarriesOut, ShowsItsState, decision_of};
+    ghost use Rattle.shelf.specs.Events.{TellsRefusal, IsToldIfHeld, WantsIfNone, SpendsNumber, SpendsOnly, HasMoments, TellsFaults, LeavesItsDisk, CountsOn, CarriesOut, ShowsItsState};
+    ghost use Rattle.shelf.specs.Calls.{KeepsOwnMoments, PublishesOwn, TellsDecided};
     ghost use Rattle.shelf.specs.Preparing.{CanBeLanded};
 
     /// Publishes the segment of a ticket, which spends its number whatever the reply.
@@ -51,8 +52,7 @@ impl<D: Disk, N: Nonces + Drop> Shelf<D, N> {
         requires script { HasTargetScript (library_of self.old.library) ticket }
         requires goes { GoesOnFromItsPage D.view self.old ticket }
         requires segment { IsRunFor self.old ticket segment }
-        ensures event { IsOwnVisit D.view D.tells self.old ticket
-            → IsPublish D.view N.nonce self.old self.new ticket result }
+        ensures event { PublishesOwn D.view D.tells N.nonce self.old self.new ticket result }
         ensures in_order { IsInOrder D.view D.tells self.new }
         ensures own { IsOwnVisit D.view D.tells self.old ticket
             → IsOwnShelf D.view D.tells self.new }
@@ -60,9 +60,7 @@ impl<D: Disk, N: Nonces + Drop> Shelf<D, N> {
         ensures tickets { KeepsTickets D.view self.old self.new }
         ensures any_moment { IsTrue D.tells
             → HasMoments D.view self.old self.new }
-        ensures own_moments { IsTrue D.tells
-            → IsOwnVisit D.view D.tells self.old ticket
-            → HasOwnMoments D.view self.old self.new }
+        ensures own_moments { KeepsOwnMoments D.view D.tells self.old self.new ticket }
         ensures refused { TellsRefusal D.view self.old ticket.target result }
         ensures none { WantsIfNone D.view self.old ticket segment result }
         ensures held { IsOwnVisit D.view D.tells self.old ticket
@@ -113,8 +111,7 @@ impl<D: Disk, N: Nonces + Drop> Shelf<D, N> {
             → ShowsItsState self.old prepared.change }
         requires decided { IsOwnVisit D.view D.tells self.old ticket.now
             → CarriesOut D.view self.old ticket.now prepared }
-        ensures event { IsOwnVisit D.view D.tells self.old ticket.now
-            → IsPublish D.view N.nonce self.old self.new ticket.now result }
+        ensures event { PublishesOwn D.view D.tells N.nonce self.old self.new ticket.now result }
         ensures in_order { IsInOrder D.view D.tells self.new }
         ensures own { IsOwnVisit D.view D.tells self.old ticket.now
             → IsOwnShelf D.view D.tells self.new }
@@ -122,11 +119,8 @@ impl<D: Disk, N: Nonces + Drop> Shelf<D, N> {
         ensures tickets { KeepsTickets D.view self.old self.new }
         ensures any_moment { IsTrue D.tells
             → HasMoments D.view self.old self.new }
-        ensures own_moments { IsTrue D.tells
-            → IsOwnVisit D.view D.tells self.old ticket.now
-            → HasOwnMoments D.view self.old self.new }
-        ensures told { IsOwnVisit D.view D.tells self.old ticket.now
-            → TellsReply (decision_of D.view self.old ticket.now) (reply_of result) }
+        ensures own_moments { KeepsOwnMoments D.view D.tells self.old self.new ticket.now }
+        ensures told { TellsDecided D.view D.tells self.old ticket.now result }
         ensures memory { SpendsOnly D.view self.old self.new ticket.now result }
         ensures cause { TellsFaults D.view self.old self.new (reply_of result) }
         ensures quiet { LeavesItsDisk D.view self.old self.new (reply_of result) }

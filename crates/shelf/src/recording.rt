@@ -1,10 +1,11 @@
-ghost use Rattle.std.specs.Prelude.{◌≡◌, ◌≤◌, ◌+◌, ◌++◌, ◌∷◌, ◌^◌, [], false, length, option_map, IsTrue, IfOk, IfErr, OnOk, OnErr};
+ghost use Rattle.std.specs.Prelude.{◌≡◌, ◌≤◌, ◌+◌, ◌^◌, false, length, option_map, IsTrue, IfOk, IfErr, OnOk, OnErr};
 ghost use Rattle.web_outside.specs.Causes.{Rose};
-ghost use Rattle.web_disk.specs.View.{NoNewImage, Elapses, LeavesOnly};
-ghost use Rattle.page_journal.specs.Holding.{MayHold};
+ghost use Rattle.web_disk.specs.View.{NoNewImage, Elapses};
+ghost use Rattle.page_journal.specs.Calls.{HasAppended};
+ghost use Rattle.shelf.specs.Calls.{AddsThroughout};
 ghost use Rattle.page_journal.specs.Records.{newest};
 ghost use Rattle.value_bytes.specs.Laws.{AreBytes};
-ghost use Rattle.page_journal.specs.Settled.{IsSettled, IsReady, IsSound, view_of, bodies_in, length_of, length_with, is_broken};
+ghost use Rattle.page_journal.specs.Settled.{IsSettled, IsReady, IsSound, view_of, length_of, length_with, is_broken};
 ghost use Rattle.journal_records.specs.Records.{changes};
 ghost use Rattle.journal_records.specs.Views.{recorded_of};
 ghost use Rattle.book_visits.specs.Views.{reply_of};
@@ -152,11 +153,10 @@ pub fn added<D: Disk>(journal: &mut Journal<D>, body: &[u8]) -> Result<(), u64>
     ensures whole { OnOk result (is_broken journal.new ≡ false) }
     ensures len { OnOk result (length_of journal.new ≡ length_with journal.old body.now) }
     ensures same_len { OnErr result (length_of journal.new ≡ length_of journal.old) }
-    ensures ok { IsTrue D.tells → OnOk result (IsSettled D.view journal.new
-        × (bodies_in D.view journal.new ≡ bodies_in D.view journal.old ++ body.now ∷ [])) }
+    ensures ok { IsTrue D.tells →
+        OnOk result (HasAppended D.view journal.old body.now journal.new) }
     ensures any_moment { IsTrue D.tells →
-        LeavesOnly (view_of D.view journal.old) (view_of D.view journal.new)
-        (MayHold newest (bodies_in D.view journal.old) body.now) }
+        AddsThroughout D.view journal.old body.now journal.new }
     ensures bytes { AreBytes body.now }
     ensures count { IfErr result (λ count. count ≡ (view_of D.view journal.new).faults) }
     ensures cause { OnErr result

@@ -5,9 +5,10 @@ ghost use Rattle.book_recovery.specs.InstanceBook.Standing.{book_under};
 ghost use Rattle.book_visits.specs.Admissions.{refusal_for};
 ghost use Rattle.book_visits.specs.Fits.{IsRunnable};
 ghost use Rattle.book_visits.specs.Prepares.{AreOnCells};
-ghost use Rattle.shelf.specs.Views.{HaveTheirCells, HasTargetScript, IsRunOf, IsSegmentNow, KeepsStateNow, HoldNow};
+ghost use Rattle.shelf.specs.Views.{HaveTheirCells, HasTargetScript, IsRunOf};
+ghost use Rattle.shelf.specs.Calls.{ComesNow, KeepsNow, StaysIfHeld};
 ghost use Rattle.shelf.specs.Tickets.{GoesOnIfThere};
-ghost use Rattle.shelf.specs.Holding.{AreHeldNow, IsForItsVisit, IsWantOfMemory, ShowsWholeFrom};
+ghost use Rattle.shelf.specs.Holding.{AreHeldNow, IsWantOfMemory, ShowsWholeFrom};
 
 use crate::run_ticket;
 use book_recovery::books::Book;
@@ -39,13 +40,9 @@ pub fn segment_now(
     requires admitted { refusal_for (library_of library.now) book.now ticket.now.target ≡ None }
     requires goes { GoesOnIfThere (library_of library.now) book.now ticket.now }
     requires fuel { fuel < 2 ^ 63 }
-    ensures segment { IsForItsVisit (library_of library.now) book.now ticket.now
-        → IfOk result (IsSegmentNow fuel (book_under (library_of library.now) book.now) ticket.now) }
-    ensures state { IsForItsVisit (library_of library.now) book.now ticket.now
-        → IfOk result (KeepsStateNow (book_under (library_of library.now) book.now) ticket.now) }
-    ensures first { IsForItsVisit (library_of library.now) book.now ticket.now
-        → HoldNow (book_under (library_of library.now) book.now) ticket.now first
-        → result ≡ Ok first }
+    ensures segment { ComesNow fuel library.now book.now ticket.now result }
+    ensures state { KeepsNow library.now book.now ticket.now result }
+    ensures first { StaysIfHeld library.now book.now ticket.now first result }
     ensures on { IfOk result (λ r. AreOnCells book.now ticket.now (map effect_of r.effects.items)) }
     ensures held { IfOk result (AreHeldNow book.now ticket.now) }
     ensures whole { IfOk result (ShowsWholeFrom (library_of library.now).all ticket.now) }
