@@ -10,20 +10,24 @@ use Rattle.disk_trio.specs.Trio.{trio_view}
 use Rattle.disk_trio.specs.declared.trio.Disks.{Disks}
 use Rattle.script_nodes.specs.Views.{scripts_of}
 use Rattle.script_nodes.specs.declared.setup.Setup.{Setup}
+use Rattle.command_words.specs.declared.FeedOptions.{FeedOptions}
 use Rattle.command_words.specs.declared.LoadOptions.{LoadOptions}
+use Rattle.command_words.specs.declared.Options.{Options}
 use Rattle.command_words.specs.declared.Service.{Service}
 use Rattle.command_words.specs.declared.ShelvesOptions.{ShelvesOptions}
 use Rattle.page_follower.specs.OfShelf.declared.shelf.Shelf.{Shelf}
+use Rattle.site_serving.specs.Serving.{openings_of}
+use Rattle.site_serving.specs.Shelves.{Site}
 use Rattle.play_desk.specs.declared.opening.OpenCause.{OpenCause}
 use Rattle.play_desk.specs.declared.opening.OpenFault.{OpenFault}
 use Rattle.server_command.specs.declared.auditing.AuditEnd.{AuditEnd}
 use Rattle.server_command.specs.declared.program.Status.{Status}
 use Rattle.server_command.specs.Auditing.{ComesThrough, HoldYes, LeavesAudit}
 use Rattle.server_command.specs.Bare.{GivesBack, OpensOne}
-use Rattle.server_command.specs.Feeding.{PromotesOne}
+use Rattle.server_command.specs.Feeding.{LeavesExport, LeavesPromotes, PromotesOne}
 use Rattle.server_command.specs.Loading.{HasLeft}
-use Rattle.server_command.specs.Opening.{HasTaken, RefusesOn, seen_on}
-use Rattle.server_command.specs.Output.{sinks_of}
+use Rattle.server_command.specs.Opening.{HasTaken, OpensOn, RefusesOn, seen_on}
+use Rattle.server_command.specs.Output.{rules_for, sinks_of}
 use Rattle.server_command.specs.Racks.{Racks, racks_of}
 
 -- A rack before a call and after it: it tells its bytes where it tells what its disks may hold, and these tell theirs.
@@ -66,6 +70,25 @@ OpensShelf G view rack_tells fed old new shelf result =
 abbrev pub PromotesShelf : {D R : Type 0} → (G : Ghosts D) → (R → RackView) → (rack_tells : Bool) → (old new : R) → (shelf : ℕ) → Result Bool OpenCause → Type 0
 PromotesShelf G view rack_tells old new shelf result =
     PromotesOne (trio_view {G = G}) (rack_over view rack_tells G.tells old new) shelf result
+
+-- What exporting a shelf of a rack leaves on the rack and an output.
+abbrev pub ExportsOn : {D R O : Type 0} → (G : Ghosts D) → (R → RackView) → (rack_tells : Bool) → (O → SinkView) → FeedOptions → Status
+    → (old new : R) → (before after : O) → Type 0
+ExportsOn G view rack_tells sees options how old new before after =
+    LeavesExport (trio_view {G = G}) (rack_over view rack_tells G.tells old new) options.shelf how (sinks_of (sees before) (sees after))
+
+-- What promoting shelves of a rack leaves on the rack and an output.
+abbrev pub PromotesAll : {D R O : Type 0} → (G : Ghosts D) → (R → RackView) → (rack_tells : Bool) → (O → SinkView) → ShelvesOptions → Status
+    → (old new : R) → (before after : O) → Type 0
+PromotesAll G view rack_tells sees options how old new before after =
+    LeavesPromotes (trio_view {G = G}) (rack_over view rack_tells G.tells old new) options.shelves how (sinks_of (sees before) (sees after))
+
+-- The shelves of a site were opened on the disks of a rack, with this setup, under these limits and with these sources of nonces.
+abbrev pub OpensSite : {D R N : Type 0} → (G : Ghosts D) → (R → RackView) → (rack_tells : Bool) → (N → ℕ → ℕ) → Options → Setup → (sources : Vec N)
+    → (old new : R) → Site (Disks D G) N → Type 0
+OpensSite G view rack_tells nonce options setup sources old new site =
+    OpensOn (trio_view {G = G}) G.tells (IsTrue (rack_tells && G.tells)) nonce (rules_for options) (scripts_of setup) sources.items (view old) (view new)
+    (openings_of site.row.homes)
 
 -- The disks of a shelf were given back to a rack.
 abbrev pub GivesBackTo : {D R : Type 0} → (D → View) → (R → RackView) → (tells : Bool) → (shelf : ℕ) → D → (old new : R) → Type 0

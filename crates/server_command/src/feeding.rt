@@ -6,9 +6,9 @@ ghost use Rattle.page_follower.specs.OfShelf.Ranges.{AreInRange};
 ghost use Rattle.command_words.specs.Plain.{CanFeed, HasShelves};
 ghost use Rattle.play_desk.specs.Opening.{AreHome};
 ghost use Rattle.server_command.specs.Bare.{AsksOne, OpensAs, is_to_follow, untaken_for};
-ghost use Rattle.server_command.specs.Calls.{GivesBackTo, OpensShelf, PromotesShelf, rack_over};
-ghost use Rattle.server_command.specs.Feeding.{LeavesExport, LeavesFollow, LeavesPromotes, unpromoted_for};
-ghost use Rattle.server_command.specs.Output.{Hands, sinks_of};
+ghost use Rattle.server_command.specs.Calls.{ExportsOn, GivesBackTo, OpensShelf, PromotesAll, PromotesShelf, rack_over};
+ghost use Rattle.server_command.specs.Feeding.{LeavesFollow, unpromoted_for};
+ghost use Rattle.server_command.specs.Output.{Hands};
 ghost use Rattle.server_command.specs.Racks.{AreBack};
 
 use crate::program::Status;
@@ -92,7 +92,7 @@ fn open_shelf<D: Disk, R: Rack<D>>(
     opening: Opening,
 ) -> Result<Opened<D>, OpenCause>
     requires { shelf < most_shelves }
-    ensures { OpensShelf ⟦<D as Disk>⟧ R.view R.tells (is_to_follow opening)
+    ensures { OpensShelf D.Disk R.view R.tells (is_to_follow opening)
         rack.old rack.new shelf result }
 {
     let disks = match take_trio(rack, alloc, directory, shelf) {
@@ -137,9 +137,8 @@ pub(crate) fn export_shelf<O: Sink, D: Disk, R: Rack<D>>(
 ) -> Status
     requires range { CanFeed options.now }
     requires home { AreHome (R.view rack.old).out }
-    ensures leaves { LeavesExport (trio_view {G = ⟦<D as Disk>⟧})
-        (rack_over R.view R.tells D.tells rack.old rack.new)
-        options.now.shelf result (sinks_of (O.view output.old) (O.view output.new)) }
+    ensures leaves { ExportsOn D.Disk R.view R.tells O.view options.now result
+        rack.old rack.new output.old output.new }
     ensures hands { Hands result (O.view output.old) (O.view output.new) }
     ensures back { AreBack (R.view rack.old) (R.view rack.new) }
 {
@@ -171,7 +170,7 @@ pub(crate) fn follow_feed<I: Source, O: Sink, D: Disk, R: Rack<D>>(
 ) -> Status
     requires range { CanFeed options.now }
     requires home { AreHome (R.view rack.old).out }
-    ensures leaves { LeavesFollow (trio_view {G = ⟦<D as Disk>⟧})
+    ensures leaves { LeavesFollow (trio_view {G = D.Disk})
         (rack_over R.view R.tells D.tells rack.old rack.new)
         options.now.shelf result (I.view input.old) (I.view input.new)
         (O.view output.old) (O.view output.new) }
@@ -209,7 +208,7 @@ fn promote_shelf<D: Disk, R: Rack<D>>(
     number: u32,
 ) -> Result<bool, OpenCause>
     requires { number < most_shelves }
-    ensures promotes { PromotesShelf ⟦<D as Disk>⟧ R.view R.tells
+    ensures promotes { PromotesShelf D.Disk R.view R.tells
         rack.old rack.new number result }
     ensures rest { AsksOne (rack_over R.view R.tells D.tells rack.old rack.new) number }
 {
@@ -234,9 +233,8 @@ pub(crate) fn promote_all<O: Sink, D: Disk, R: Rack<D>>(
 ) -> Status
     requires range { HasShelves options.now }
     requires home { AreHome (R.view rack.old).out }
-    ensures leaves { LeavesPromotes (trio_view {G = ⟦<D as Disk>⟧})
-        (rack_over R.view R.tells D.tells rack.old rack.new)
-        options.now.shelves result (sinks_of (O.view output.old) (O.view output.new)) }
+    ensures leaves { PromotesAll D.Disk R.view R.tells O.view options.now result
+        rack.old rack.new output.old output.new }
     ensures hands { Hands result (O.view output.old) (O.view output.new) }
     ensures back { AreBack (R.view rack.old) (R.view rack.new) }
 {

@@ -1,17 +1,15 @@
 ghost use Rattle.std.specs.Prelude.{◌&&◌, ◌≡◌, ◌≤◌, ◌<◌, ◌+◌, length, Some, IsTrue, IfOk, IfErr, OnErr};
 ghost use Rattle.disk_trio.specs.Trio.{trio_view};
 ghost use Rattle.trio_rack.specs.Each.{GivesEach};
-ghost use Rattle.trio_rack.specs.Trios.{KeepsHome, LeavesAllDisks, shelves_of};
+ghost use Rattle.trio_rack.specs.Trios.{KeepsHome, LeavesAllDisks};
 ghost use Rattle.script_nodes.specs.Views.{scripts_of};
 ghost use Rattle.server_limits.specs.Limits.{most_shelves};
 ghost use Rattle.setup_reader.specs.Texts.{IsReadSetup};
 ghost use Rattle.site_serving.specs.Shelves as shelves;
 ghost use Rattle.site_serving.specs.Shelves.{AreNew, IsReady};
-ghost use Rattle.site_serving.specs.Serving.{openings_of};
 ghost use Rattle.command_words.specs.Plain.{AreInRange};
-ghost use Rattle.server_command.specs.Calls.{HasTakenAll, RefusesFor};
-ghost use Rattle.server_command.specs.Output.{rules_for};
-ghost use Rattle.server_command.specs.Opening.{AreAsked, AreFrom, AreGiven, AsksAsTaken, FailsAt, AreRulesFor, AreUntaken, CanBegin, OpensOn, TakesBack, unopened_by};
+ghost use Rattle.server_command.specs.Calls.{HasTakenAll, OpensSite, RefusesFor};
+ghost use Rattle.server_command.specs.Opening.{AreAsked, AreFrom, AreGiven, AsksAsTaken, FailsAt, AreRulesFor, AreUntaken, CanBegin, TakesBack, unopened_by};
 
 use command_words::Options;
 use disk_trio::Disks;
@@ -79,7 +77,7 @@ fn take_all<D: Disk, R: Rack<D>>(
 ) -> Result<Vec<Disks<D>>, OpenFault>
     requires { count ≤ most_shelves }
     ensures taken { IfOk result
-        (HasTakenAll ⟦<D as Disk>⟧ R.view R.tells rack.old rack.new count) }
+        (HasTakenAll D.Disk R.view R.tells rack.old rack.new count) }
     ensures fresh { IfOk result (λ disks. AreNew disks.items) }
     ensures from { IsTrue R.tells →
         IfOk result (λ disks. AreFrom trio_view (R.view rack.old) disks.items) }
@@ -128,9 +126,8 @@ pub fn open_site<W: Wait, D: Disk, R: Rack<D>, N: Nonces + Drop>(
     requires read { IsReadSetup (scripts_of setup) }
     requires begins { CanBegin options.now.shelves (scripts_of setup) }
     requires sources { length sources.items ≡ options.now.shelves }
-    ensures opened { IfOk result (λ site. OpensOn trio_view D.tells (IsTrue (R.tells && D.tells))
-        N.nonce (rules_for options.now) (scripts_of setup) sources.items
-        (R.view rack.old) (R.view rack.new) (openings_of site.row.homes)) }
+    ensures opened { IfOk result (OpensSite D.Disk R.view R.tells
+        N.nonce options.now setup sources rack.old rack.new) }
     ensures count { IfOk result (λ site. length site.row.homes ≡ options.now.shelves) }
     ensures ready { IfOk result IsReady }
     ensures refused { IfErr result (RefusesFor R.view (R.tells && D.tells) setup
