@@ -59,6 +59,7 @@ halts_on r left old new s t step halt.Memory is fitting (inl (told, came)) =
 halts_on r left old new s t step halt.Memory is fitting (inr (shelf, (crash, later, stands))) = inr (inr (shelf, (ap crashed_at (sym is) ∙ crash, later, stands)))
 halts_on r left old new s t step (halt.Reopen shelf reopen.Memory) is fitting halts = halts
 halts_on r left old new s t step (halt.Reopen shelf reopen.Disk) is fitting halts = ((ap crashed_at (sym is) ∙ halts.0.0, halts.0.1, halts.0.2), halts.1)
+halts_on r left old new s t step (halt.Reopen shelf reopen.NotEmpty) is fitting halts = (ap crashed_at (sym is) ∙ halts.0, halts.1, halts.2)
 halts_on r left old new s t step (halt.Reopen shelf (reopen.Damaged place)) is fitting halts = (ap crashed_at (sym is) ∙ halts.0, halts.1, halts.2)
 halts_on r left old new s t step (halt.Reopen shelf (reopen.Other place)) is fitting halts = (ap crashed_at (sym is) ∙ halts.0, halts.1, halts.2)
 halts_on r left old new s t step (halt.Reopen shelf (reopen.Full len)) is fitting halts = (ap crashed_at (sym is) ∙ halts.0, halts.1, halts.2)
@@ -76,6 +77,8 @@ halted r left start here there source k count course past halt.Memory few reache
 halted r left start here there source k count course past (halt.Reopen shelf reopen.Memory) few reached goes = goes
 halted r left start here there source k count course past (halt.Reopen shelf reopen.Disk) few reached goes =
     record { loses = lost r left start here there source k count shelf reopen.Disk course few reached goes.0; rose = goes.1 }
+halted r left start here there source k count course past (halt.Reopen shelf reopen.NotEmpty) few reached goes =
+    lost r left start here there source k count shelf reopen.NotEmpty course few reached goes
 halted r left start here there source k count course past (halt.Reopen shelf (reopen.Damaged place)) few reached goes =
     lost r left start here there source k count shelf (reopen.Damaged place) course few reached goes
 halted r left start here there source k count course past (halt.Reopen shelf (reopen.Other place)) few reached goes =

@@ -1,6 +1,6 @@
 ghost use Rattle.std.specs.Prelude.{◌≡◌, ◌<◌, ◌≤◌, ◌+◌, ◌^◌, IfOk, OnOk, IsTrue, string_bytes};
 ghost use Rattle.measured_run.specs.Fnv.{goes_on};
-ghost use Rattle.play_steps.specs.Losses.{LosesBy, NoneIsLostToDamage, NoneIsLostToMemory, NoneIsLostToOther, RoseAtLost, RoseForLost};
+ghost use Rattle.play_steps.specs.Losses.{LosesBy, NoneIsLostToBytes, NoneIsLostToDamage, NoneIsLostToMemory, NoneIsLostToOther, RoseAtLost, RoseForLost};
 ghost use Rattle.play_steps.specs.Rules.{KeepsShelves, StaysFirst, StaysUp};
 ghost use Rattle.play_steps.specs.Texts.{print};
 ghost use Rattle.measured_run.specs.Counting.{line_of};
@@ -99,6 +99,7 @@ fn go_on<T: Stage>(
     ensures failed_later { StaysUp (T.failed devices.old) (T.failed devices.new) }
     ensures asked { StaysFirst (T.asked devices.old) (T.asked devices.new) }
     ensures why { NoneIsLostToMemory (LosesBy result) }
+    ensures bytes { NoneIsLostToBytes (LosesBy result) }
     ensures damaged { IsTrue T.tells → NoneIsLostToDamage (LosesBy result) }
     ensures other { IsTrue T.tells → NoneIsLostToOther (LosesBy result) }
 {
@@ -162,6 +163,7 @@ pub fn load<T: Stage>(
     ensures failed_later { StaysUp (T.failed devices.old) (T.failed devices.new) }
     ensures asked { StaysFirst (T.asked devices.old) (T.asked devices.new) }
     ensures why { NoneIsLostToMemory (LosesBy result) }
+    ensures bytes { NoneIsLostToBytes (LosesBy result) }
     ensures damaged { IsTrue T.tells → NoneIsLostToDamage (LosesBy result) }
     ensures other { IsTrue T.tells → NoneIsLostToOther (LosesBy result) }
 {

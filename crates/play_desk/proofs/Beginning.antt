@@ -20,13 +20,13 @@ use Rattle.trio_rack.specs.Numbers.{IsOneOfThree}
 use Rattle.trio_rack.specs.Trios.{shelves_of, MayBeBare}
 use Rattle.trio_rack.proofs.Bare.{bare_among, of_another, some_among}
 use Rattle.trio_rack.proofs.Homes.{below_or_not}
+use Rattle.play_steps.specs.declared.stage.Reopen.{Reopen}
+use Rattle.play_steps.specs.declared.stage.Reopen.TheVariants as reopen
 use Rattle.play_desk.specs.Desk.{Desk, first_desk, first_shelves}
 use Rattle.play_steps.specs.Rules.{StaysUp}
 use Rattle.shelf.specs.Ranges.{numbered}
 use Rattle.play_desk.specs.Opening.{AreOpened, AllKept, AllStayKept, AreHome, CountStays, FailedFor, GivesOne, HoldImages, IsClosedBy, IsKept, IsRefusedBy, LeaveOthers, OpensNext, rules_at}
 use Rattle.play_desk.specs.Staff.{AreFit, HaveOwnNumbers, IsHome, desk_with, faults_in, numbers_in, shelf_at, total}
-use Rattle.play_desk.specs.declared.opening.OpenCause.{OpenCause}
-use Rattle.play_desk.specs.declared.opening.OpenCause.TheVariants as cause
 use Rattle.play_desk.proofs.Asking.{asked_more, asked_none}
 use Rattle.play_desk.proofs.Places.{in_push, none_there, same_Some, some_at}
 use Rattle.play_desk.proofs.Closing.{at_last, in_front}
@@ -92,24 +92,24 @@ module _ {D : Type 0} (view : D → View) (rack_tells tells : Bool) (scripts : L
   }
 
   -- why the next was not opened
-  pub closed_by : (limit : ℕ) (why : OpenCause) → AreOpened view rack_tells tells scripts rules first count xs now → count < limit
+  pub closed_by : (limit : ℕ) (why : Reopen) → AreOpened view rack_tells tells scripts rules first count xs now → count < limit
       → IsTrue rack_tells → IsTrue tells → IsRefusedBy now count why → limit ≤ most_shelves → IsClosedBy first limit count why
-  closed_by limit cause.NotEmpty o low rack_told told h most = (
+  closed_by limit reopen.NotEmpty o low rack_told told h most = (
     low,
     record {
       before = o.empty rack_told told;
       some = some_among now first count (λ number its. o.disks count number (omega arith) (omega (arith, low, most)) its) h;
     },
   )
-  closed_by limit (cause.Damaged place) o low rack_told told h most = h
-  closed_by limit (cause.Other place) o low rack_told told h most = h
-  closed_by limit (cause.Full len) o low rack_told told h most = h
-  closed_by limit cause.Disk o low rack_told told h most = (low, o.empty rack_told told)
-  closed_by limit cause.Memory o low rack_told told h most = (low, o.empty rack_told told)
+  closed_by limit (reopen.Damaged place) o low rack_told told h most = h
+  closed_by limit (reopen.Other place) o low rack_told told h most = h
+  closed_by limit (reopen.Full len) o low rack_told told h most = h
+  closed_by limit reopen.Disk o low rack_told told h most = (low, o.empty rack_told told)
+  closed_by limit reopen.Memory o low rack_told told h most = (low, o.empty rack_told told)
 
   -- then nothing was lost on any disk, but on the one of which a call failed
-  pub kept_all : (mid next : RackView) (why : OpenCause) → AreOpened view rack_tells tells scripts rules first count xs now → IsTrue rack_tells → IsTrue tells
-      → GivesOne count now mid → (why ≢ cause.Disk → AllKept scripts count ((shelves_of now).holds count) [] ((shelves_of mid).holds count)) → HoldImages view xs (shelves_of next).holds
+  pub kept_all : (mid next : RackView) (why : Reopen) → AreOpened view rack_tells tells scripts rules first count xs now → IsTrue rack_tells → IsTrue tells
+      → GivesOne count now mid → (why ≢ reopen.Disk → AllKept scripts count ((shelves_of now).holds count) [] ((shelves_of mid).holds count)) → HoldImages view xs (shelves_of next).holds
       → LeaveOthers xs mid next → AllStayKept scripts (shelves_of first).holds (shelves_of next).holds count why
   kept_all mid next why o rack_told told given kept images others = record {
     kept = λ n but left is.
@@ -129,7 +129,7 @@ module _ {D : Type 0} (view : D → View) (rack_tells tells : Bool) (scripts : L
           o.keeps rack_told told n x at left (images n x at left (subst (λ m. (shelves_of next).holds m left) (sym number) is))
 
       -- and of one that was not
-      beyond : (n : ℕ) → (why ≡ cause.Disk → n ≢ count) → (left : List ℕ) → (shelves_of next).holds n left → count ≤ n → IsKept scripts n ((shelves_of first).holds n) [] left
+      beyond : (n : ℕ) → (why ≡ reopen.Disk → n ≢ count) → (left : List ℕ) → (shelves_of next).holds n left → count ≤ n → IsKept scripts n ((shelves_of first).holds n) [] left
       beyond n but left is le =
           let held = others n (λ k e. let low = below o k n e in omega (arith, low, le)) left is in
           dite (ℕ_discrete n count)

@@ -154,6 +154,7 @@ room_fewer rules scripts shelf held holds b (reopen.Full len) h among = record {
   long = h.long;
   left = λ image is. h.left image (among image is);
 }
+room_fewer rules scripts shelf held holds b reopen.NotEmpty h among = tt
 room_fewer rules scripts shelf held holds b (reopen.Damaged place) h among = tt
 room_fewer rules scripts shelf held holds b (reopen.Other place) h among = tt
 room_fewer rules scripts shelf held holds b reopen.Disk h among = tt

@@ -8,9 +8,7 @@ use Rattle.shelf.specs.declared.begin.BeginFault.{BeginFault}
 use Rattle.shelf.specs.declared.begin.BeginFault.TheVariants as begin
 use Rattle.play_steps.specs.declared.stage.Reopen.{Reopen}
 use Rattle.play_steps.specs.declared.stage.Reopen.TheVariants as reopen
-use Rattle.play_desk.specs.Opening.{AllKept, IsKept, IsReadAtRest, KeepsBegun, KeepsOpened, cause_of, reopen_of}
-use Rattle.play_desk.specs.declared.opening.OpenCause.{OpenCause}
-use Rattle.play_desk.specs.declared.opening.OpenCause.TheVariants as cause
+use Rattle.play_desk.specs.Opening.{AllKept, IsKept, IsReadAtRest, KeepsBegun, KeepsOpened, reopen_of}
 
 -- what may be left of a disk that holds the records that were read of it
 as_read : (old new : View) → HoldsAsRead old new → (left : List ℕ) → new.images left → IsReadAtRest old.seen left
@@ -66,8 +64,10 @@ not_begun view scripts k old new holds begin.Memory reads keeps among =
 -- no empty shelf was opened on a disk without bytes
 pub not_opened : {D : Type 0} (view : D → View) (scripts : List Named) (k : ℕ) (old : View) (held : List ℕ → Type 0) (holds : ℕ → List ℕ → Type 0) (why : Reopen)
     → old.seen ≡ [] → AreAmong old.images held → KeepsBegun view scripts k old holds (Err why)
-    → KeepsOpened view scripts k held holds (Err (cause_of why))
+    → KeepsOpened view scripts k held holds (Err why)
 not_opened view scripts k old held holds reopen.Disk none among kept = tt
+not_opened view scripts k old held holds reopen.NotEmpty none among kept =
+    subst (λ read. AllKept scripts k held read (holds k)) none (all_kept_in scripts k held old.images old.seen (holds k) (holds k) among (λ image h. h) kept)
 not_opened view scripts k old held holds (reopen.Damaged place) none among kept =
     subst (λ read. AllKept scripts k held read (holds k)) none (all_kept_in scripts k held old.images old.seen (holds k) (holds k) among (λ image h. h) kept)
 not_opened view scripts k old held holds (reopen.Other place) none among kept =
@@ -78,21 +78,21 @@ not_opened view scripts k old held holds reopen.Memory none among kept =
     subst (λ read. AllKept scripts k held read (holds k)) none (all_kept_in scripts k held old.images old.seen (holds k) (holds k) among (λ image h. h) kept)
 
 -- nor on a disk that was not taken
-pub unread : {D : Type 0} (view : D → View) (scripts : List Named) (k : ℕ) (held : List ℕ → Type 0) (holds : ℕ → List ℕ → Type 0) (why : OpenCause)
+pub unread : {D : Type 0} (view : D → View) (scripts : List Named) (k : ℕ) (held : List ℕ → Type 0) (holds : ℕ → List ℕ → Type 0) (why : Reopen)
     → AreAmong (holds k) held → KeepsOpened view scripts k held holds (Err why)
-unread view scripts k held holds cause.Disk among = tt
-unread view scripts k held holds cause.NotEmpty among = untouched scripts k held (holds k) [] among
-unread view scripts k held holds (cause.Damaged place) among = untouched scripts k held (holds k) [] among
-unread view scripts k held holds (cause.Other place) among = untouched scripts k held (holds k) [] among
-unread view scripts k held holds (cause.Full len) among = untouched scripts k held (holds k) [] among
-unread view scripts k held holds cause.Memory among = untouched scripts k held (holds k) [] among
+unread view scripts k held holds reopen.Disk among = tt
+unread view scripts k held holds reopen.NotEmpty among = untouched scripts k held (holds k) [] among
+unread view scripts k held holds (reopen.Damaged place) among = untouched scripts k held (holds k) [] among
+unread view scripts k held holds (reopen.Other place) among = untouched scripts k held (holds k) [] among
+unread view scripts k held holds (reopen.Full len) among = untouched scripts k held (holds k) [] among
+unread view scripts k held holds reopen.Memory among = untouched scripts k held (holds k) [] among
 
 -- so it is told where the next shelf is not opened
-pub closed_kept : {D : Type 0} (view : D → View) (scripts : List Named) (k : ℕ) (held : List ℕ → Type 0) (holds : ℕ → List ℕ → Type 0) (why : OpenCause)
-    → KeepsOpened view scripts k held holds (Err why) → why ≢ cause.Disk → AllKept scripts k held [] (holds k)
-closed_kept view scripts k held holds cause.Disk kept other = absurd (other refl)
-closed_kept view scripts k held holds cause.NotEmpty kept other = kept
-closed_kept view scripts k held holds (cause.Damaged place) kept other = kept
-closed_kept view scripts k held holds (cause.Other place) kept other = kept
-closed_kept view scripts k held holds (cause.Full len) kept other = kept
-closed_kept view scripts k held holds cause.Memory kept other = kept
+pub closed_kept : {D : Type 0} (view : D → View) (scripts : List Named) (k : ℕ) (held : List ℕ → Type 0) (holds : ℕ → List ℕ → Type 0) (why : Reopen)
+    → KeepsOpened view scripts k held holds (Err why) → why ≢ reopen.Disk → AllKept scripts k held [] (holds k)
+closed_kept view scripts k held holds reopen.Disk kept other = absurd (other refl)
+closed_kept view scripts k held holds reopen.NotEmpty kept other = kept
+closed_kept view scripts k held holds (reopen.Damaged place) kept other = kept
+closed_kept view scripts k held holds (reopen.Other place) kept other = kept
+closed_kept view scripts k held holds (reopen.Full len) kept other = kept
+closed_kept view scripts k held holds reopen.Memory kept other = kept

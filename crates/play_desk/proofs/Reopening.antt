@@ -25,8 +25,7 @@ use Rattle.page_journal.specs.Records.{Intact, records}
 use Rattle.shelf.specs.declared.shelf.Shelf.{Shelf}
 use Rattle.play_steps.specs.declared.stage.Reopen.{Reopen}
 use Rattle.play_steps.specs.declared.stage.Reopen.TheVariants as reopen
-use Rattle.play_desk.specs.Opening.{CountRose, CountStays, Finds, FindsBook, HasCrashed, HoldsOpened, LeavesNoRoom, StandsLost, StaysLost, TellsRoom, cause_of}
-use Rattle.play_desk.specs.declared.opening.OpenCause.TheVariants as cause
+use Rattle.play_desk.specs.Opening.{CountRose, CountStays, Finds, FindsBook, HasCrashed, HoldsOpened, LeavesNoRoom, StandsLost, StaysLost, TellsRoom}
 
 -- a book that is found is the one after the event crash, what was in doubt lost or kept
 has_crashed : {D : Type 0} (view : D → View) → AReopenedShelfHasCrashed view → (scripts : List Named) (old : Shelf D Counting)
@@ -73,6 +72,7 @@ tells_room view make law scripts old stands images among (Err (reopen.Full len))
   long = found.3;
   left = left len refl;
 }
+tells_room view make law scripts old stands images among (Err reopen.NotEmpty) found holds left = tt
 tells_room view make law scripts old stands images among (Err (reopen.Damaged place)) found holds left = tt
 tells_room view make law scripts old stands images among (Err (reopen.Other place)) found holds left = tt
 tells_room view make law scripts old stands images among (Err reopen.Disk) found holds left = tt
@@ -96,6 +96,7 @@ undamaged view law scripts number disk b stands images among (Err (reopen.Damage
     (law setup_of_texts number b (if_kept stands.0 b) stands.1.0 found.0 (stands.1.1 found.0 (among found.0 found.1))) found.2
 undamaged view law scripts number disk b stands images among (Err (reopen.Other at)) found place is = let no : ⊥ = cc in no
 undamaged view law scripts number disk b stands images among (Err (reopen.Full len)) found place is = let no : ⊥ = cc in no
+undamaged view law scripts number disk b stands images among (Err reopen.NotEmpty) found place is = let no : ⊥ = cc in no
 undamaged view law scripts number disk b stands images among (Err reopen.Disk) found place is = let no : ⊥ = cc in no
 undamaged view law scripts number disk b stands images among (Err reopen.Memory) found place is = let no : ⊥ = cc in no
 
@@ -108,6 +109,7 @@ none_other view law scripts number disk b stands images among (Err (reopen.Other
     (law setup_of_texts number b (if_kept stands.0 b) stands.1.0 found.0 (stands.1.1 found.0 (among found.0 found.1))) found.2
 none_other view law scripts number disk b stands images among (Err (reopen.Damaged at)) found place is = let no : ⊥ = cc in no
 none_other view law scripts number disk b stands images among (Err (reopen.Full len)) found place is = let no : ⊥ = cc in no
+none_other view law scripts number disk b stands images among (Err reopen.NotEmpty) found place is = let no : ⊥ = cc in no
 none_other view law scripts number disk b stands images among (Err reopen.Disk) found place is = let no : ⊥ = cc in no
 none_other view law scripts number disk b stands images among (Err reopen.Memory) found place is = let no : ⊥ = cc in no
 
@@ -116,23 +118,7 @@ pub empty_is_own : (shelf : ℕ) (image : List ℕ) → image ≡ [] → IsOwnIm
 empty_is_own shelf image none bodies intact =
     absurd (let no : records [] ≡ Intact bodies = subst (λ (bytes : List ℕ). records bytes ≡ Intact bodies) none intact in let never : ⊥ = cc in never)
 
--- ---- causes
-
-pub disk_cause : (why : Reopen) → cause_of why ≡ cause.Disk → why ≡ reopen.Disk
-disk_cause reopen.Disk e = refl
-disk_cause (reopen.Damaged place) e = absurd (let no : ⊥ = cc in no)
-disk_cause (reopen.Other place) e = absurd (let no : ⊥ = cc in no)
-disk_cause (reopen.Full len) e = absurd (let no : ⊥ = cc in no)
-disk_cause reopen.Memory e = absurd (let no : ⊥ = cc in no)
-
--- nor is it told as not empty
-pub never_shut : (why : Reopen) → cause_of why ≡ cause.NotEmpty → ⊥
-never_shut reopen.Disk e = cc
-never_shut (reopen.Damaged place) e = cc
-never_shut (reopen.Other place) e = cc
-never_shut (reopen.Full len) e = cc
-never_shut reopen.Memory e = cc
-
+-- the count that rose after it stayed up rose over both
 pub rose_after : (old mid new disk : ℕ) → CountStays old 0 mid disk → CountRose mid disk new 0 → Rose old new
 rose_after old mid new disk stays rose = (let a = stays 0 in let b = rose 0 in omega (arith, a, b))
 

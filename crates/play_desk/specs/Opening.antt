@@ -37,8 +37,6 @@ use Rattle.play_desk.specs.Asking.{AsksForFirst, AsksForOne}
 use Rattle.play_desk.specs.Desk.{Desk, desk_rules, first_shelves}
 use Rattle.play_desk.specs.Staff.{AreNumbered, IsHome, desk_of, faults_in, numbers_in, shelf_at, total}
 use Rattle.play_desk.specs.declared.staff.Staff.{Staff}
-use Rattle.play_desk.specs.declared.opening.OpenCause.{OpenCause}
-use Rattle.play_desk.specs.declared.opening.OpenCause.TheVariants as cause
 
 -- what the events of the shelf of each number run under
 abbrev pub rules_at : Rules → (number : ℕ) → runs.Rules
@@ -52,6 +50,10 @@ pub record FailedFor (number : ℕ) (old new : RackView) : Type 0 where
 -- no count of calls that failed for a shelf fell
 abbrev pub FailuresStay : (old new : RackView) → Type 0
 FailuresStay old new = StaysUp (shelves_of old).failed (shelves_of new).failed
+
+-- the answer is not that the disks have bytes already
+abbrev pub IsNeverForBytes : {T : Type 0} → Result T Reopen → Type 0
+IsNeverForBytes result = IsErrOf result reopen.NotEmpty → ⊥
 
 -- the answer is not that a record on the disk is at fault
 abbrev pub IsNeverDamaged : {T : Type 0} → Result T Reopen → Type 0
@@ -166,15 +168,15 @@ disk_faults view (Err why) = 0
 
 -- why no empty shelf is opened on the disks of this number: of disks that are not empty one may hold some bytes, and empty ones are neither
 -- damaged nor another's, and have room for any setup
-abbrev pub IsRefusedBy : RackView → (number : ℕ) → OpenCause → Type 0
-IsRefusedBy rack number cause.NotEmpty = MayHoldSome rack number
-IsRefusedBy rack number (cause.Damaged place) = ⊥
-IsRefusedBy rack number (cause.Other place) = ⊥
-IsRefusedBy rack number (cause.Full len) = ⊥
+abbrev pub IsRefusedBy : RackView → (number : ℕ) → Reopen → Type 0
+IsRefusedBy rack number reopen.NotEmpty = MayHoldSome rack number
+IsRefusedBy rack number (reopen.Damaged place) = ⊥
+IsRefusedBy rack number (reopen.Other place) = ⊥
+IsRefusedBy rack number (reopen.Full len) = ⊥
 IsRefusedBy rack number _ = ⊤
 
 -- disks are taken without bytes where each may hold none
-abbrev pub TakesEmpty : {D : Type 0} → (D → View) → RackView → (number : ℕ) → Result D OpenCause → Type 0
+abbrev pub TakesEmpty : {D : Type 0} → (D → View) → RackView → (number : ℕ) → Result D Reopen → Type 0
 TakesEmpty view rack number (Ok disks) = ((view disks).seen ≡ []) × MayBeBare rack number
 TakesEmpty view rack number (Err why) = IsRefusedBy rack number why
 
@@ -216,38 +218,30 @@ KeepsBegun view scripts number disk holds (Err reopen.Disk) = ⊤
 KeepsBegun view scripts number disk holds (Err why) = AllKept scripts number disk.images disk.seen (holds number)
 
 -- a disk that is not taken, as it is not empty or a call failed, may hold nothing that it might not hold
-abbrev pub GivesUnread : {D : Type 0} → (D → View) → (held holds : List ℕ → Type 0) → Result D OpenCause → Type 0
+abbrev pub GivesUnread : {D : Type 0} → (D → View) → (held holds : List ℕ → Type 0) → Result D Reopen → Type 0
 GivesUnread view held holds (Ok disk) = AreAmong (view disk).images held
 GivesUnread view held holds (Err why) = AreAmong holds held
 
 -- nothing was lost on the disk of an empty shelf, where it was opened and where it was not, unless a call of the disk failed
 abbrev pub KeepsOpened : {D : Type 0} → (D → View) → List Named → (number : ℕ) → (held : List ℕ → Type 0) → (holds : ℕ → List ℕ → Type 0)
-    → Result (Shelf D Counting) OpenCause → Type 0
+    → Result (Shelf D Counting) Reopen → Type 0
 KeepsOpened view scripts number held holds (Ok s) = AllKept scripts number held [] (view s.journal.disk).images
-KeepsOpened view scripts number held holds (Err cause.Disk) = ⊤
+KeepsOpened view scripts number held holds (Err reopen.Disk) = ⊤
 KeepsOpened view scripts number held holds (Err why) = AllKept scripts number held [] (holds number)
 
 -- where a shelf is not opened, nothing was lost on its disk, unless a call of the disk failed
-abbrev pub KeepsClosed : {T : Type 0} → List Named → (number : ℕ) → (held holds : List ℕ → Type 0) → Result T OpenCause → Type 0
+abbrev pub KeepsClosed : {T : Type 0} → List Named → (number : ℕ) → (held holds : List ℕ → Type 0) → Result T Reopen → Type 0
 KeepsClosed scripts number held holds result =
-    IfErr result (λ why. why ≢ cause.Disk → AllKept scripts number held [] holds)
+    IfErr result (λ why. why ≢ reopen.Disk → AllKept scripts number held [] holds)
 
 -- No step was performed, as a shelf was not opened for this: nothing was lost on any disk, but on the one of which a call failed, and
 -- nothing was written on those after it.
-pub record AllStayKept (scripts : List Named) (before after : ℕ → List ℕ → Type 0) (shelf : ℕ) (why : OpenCause) : Type 0 where
-  pub kept : (n : ℕ) → (why ≡ cause.Disk → n ≢ shelf) → AllKept scripts n (before n) [] (after n)
+pub record AllStayKept (scripts : List Named) (before after : ℕ → List ℕ → Type 0) (shelf : ℕ) (why : Reopen) : Type 0 where
+  pub kept : (n : ℕ) → (why ≡ reopen.Disk → n ≢ shelf) → AllKept scripts n (before n) [] (after n)
   pub behind : (n : ℕ) → shelf < n → AreAmong (after n) (before n)
 
--- the cause for which a shelf was not opened
-abbrev pub cause_of : Reopen → OpenCause
-cause_of reopen.Disk = cause.Disk
-cause_of (reopen.Damaged place) = cause.Damaged place
-cause_of (reopen.Other place) = cause.Other place
-cause_of (reopen.Full len) = cause.Full len
-cause_of reopen.Memory = cause.Memory
-
 -- an empty shelf is opened where its disks may hold nothing
-abbrev pub OpensEmpty : {D : Type 0} → (D → View) → List Named → Rules → RackView → Result (Shelf D Counting) OpenCause → Type 0
+abbrev pub OpensEmpty : {D : Type 0} → (D → View) → List Named → Rules → RackView → Result (Shelf D Counting) Reopen → Type 0
 OpensEmpty view scripts rules rack (Ok s) =
     MayBeBare rack rules.number × (shelf_at view s ≡ empty_shelf (rules_of rules) scripts rules.number)
 OpensEmpty view scripts rules rack (Err why) = IsRefusedBy rack rules.number why
@@ -326,11 +320,11 @@ pub record IsNotEmpty (rack : RackView) (number : ℕ) : Type 0 where
 
 -- Why a desk was not opened, of disks that tell what they hold. The disks of the shelves before it may hold nothing; empty disks are
 -- neither damaged nor another's, and have room for any setup.
-abbrev pub IsClosedBy : RackView → (count number : ℕ) → OpenCause → Type 0
-IsClosedBy rack count number cause.NotEmpty = (number < count) × IsNotEmpty rack number
-IsClosedBy rack count number (cause.Damaged place) = ⊥
-IsClosedBy rack count number (cause.Other place) = ⊥
-IsClosedBy rack count number (cause.Full len) = ⊥
+abbrev pub IsClosedBy : RackView → (count number : ℕ) → Reopen → Type 0
+IsClosedBy rack count number reopen.NotEmpty = (number < count) × IsNotEmpty rack number
+IsClosedBy rack count number (reopen.Damaged place) = ⊥
+IsClosedBy rack count number (reopen.Other place) = ⊥
+IsClosedBy rack count number (reopen.Full len) = ⊥
 IsClosedBy rack count number _ = (number < count) × ((k : ℕ) → k < number → MayBeBare rack k)
 
 -- what the disk of each of these shelves may hold, now that it was given back, it might have held before

@@ -14,12 +14,11 @@ use Rattle.shelf.specs.Views.{IsOwnShelf, book_in, rules_of}
 use Rattle.shelf.specs.declared.rules.Rules.{Rules}
 use Rattle.shelf.specs.declared.shelf.Shelf.{Shelf}
 use Rattle.play_steps.specs.declared.stage.Reopen.{Reopen}
+use Rattle.play_steps.specs.declared.stage.Reopen.TheVariants as reopen
 use Rattle.play_desk.specs.Asking.{AsksForFirst}
 use Rattle.play_desk.specs.Desk.{first_desk}
 use Rattle.play_desk.specs.Opening.{AllStayKept, AreOpened, BeginsEmpty, CrashesShelf, Finds, GivesUnread, HasCrashed, HoldImages, HoldTheBooks, IsClosedBy, IsLeft, KeepsBegun, KeepsClosed, KeepsOpened, LeavesLost, LeavesNoRoom, OpensEmpty, OpensNext, StandsLost, StaysLost, TellsItsRoom, TellsRoom, left_on, rules_at}
 use Rattle.play_desk.specs.Staff.{IsOwn, desk_of}
-use Rattle.play_desk.specs.declared.opening.OpenCause.{OpenCause}
-use Rattle.play_desk.specs.declared.opening.OpenCause.TheVariants as cause
 use Rattle.play_desk.specs.declared.opening.OpenFault.{OpenFault}
 use Rattle.play_desk.specs.declared.staff.Staff.{Staff}
 
@@ -42,7 +41,7 @@ abbrev pub AllHoldAsLeft : {D : Type 0} → (D → View) → (rack_tells tells :
 AllHoldAsLeft view rack_tells tells shelves rack = IsTrue rack_tells → IsTrue tells → HoldImages view shelves (shelves_of rack).holds
 
 -- Disks that are taken unread, or given back so, may hold nothing that the rack might not hold.
-abbrev pub StaysUnread : {D : Type 0} → (D → View) → (rack_tells tells : Bool) → (number : ℕ) → (old new : RackView) → Result D OpenCause → Type 0
+abbrev pub StaysUnread : {D : Type 0} → (D → View) → (rack_tells tells : Bool) → (number : ℕ) → (old new : RackView) → Result D Reopen → Type 0
 StaysUnread view rack_tells tells number old new result =
     IsTrue rack_tells → IsTrue tells → GivesUnread view ((shelves_of old).holds number) ((shelves_of new).holds number) result
 
@@ -97,25 +96,25 @@ OutgrowsAfter view rack_tells tells setup shelf result rack =
     → IfErr result (TellsRoom (rules_of shelf.rules) (scripts_of setup) shelf.rules.number ((shelves_of rack).holds shelf.rules.number) (book_in view shelf))
 
 -- An empty shelf is opened where its disks may hold nothing.
-abbrev pub OpensBare : {D : Type 0} → (D → View) → (rack_tells tells : Bool) → Setup → Rules → RackView → Result (Shelf D Counting) OpenCause → Type 0
+abbrev pub OpensBare : {D : Type 0} → (D → View) → (rack_tells tells : Bool) → Setup → Rules → RackView → Result (Shelf D Counting) Reopen → Type 0
 OpensBare view rack_tells tells setup rules rack result =
     IsTrue rack_tells → IsTrue tells → OpensEmpty view (scripts_of setup) rules rack result
 
 -- Where an empty shelf is opened on the disks of a rack, it stands after the others.
-abbrev pub OpensLast : {D R T : Type 0} → (G : Ghosts D) → (R → RackView) → (rack_tells : Bool) → Setup → Rules → Result T OpenCause
+abbrev pub OpensLast : {D R T : Type 0} → (G : Ghosts D) → (R → RackView) → (rack_tells : Bool) → Setup → Rules → Result T Reopen
     → (shelves now : Vec (Shelf (Disks D G) Counting)) → (old new : R) → Type 0
 OpensLast G view rack_tells setup rules result shelves now old new =
     OnOk result (OpensNext (trio_view {G = G}) rack_tells G.tells (scripts_of setup) rules shelves.items now.items (view old) (view new))
 
 -- Nothing is lost on the disk of an empty shelf, where it is opened and where it is not, unless a call of the disk fails.
 abbrev pub StaysInOpening : {D : Type 0} → (D → View) → (rack_tells tells : Bool) → Setup → Rules → (old new : RackView)
-    → Result (Shelf D Counting) OpenCause → Type 0
+    → Result (Shelf D Counting) Reopen → Type 0
 StaysInOpening view rack_tells tells setup rules old new result =
     IsTrue rack_tells → IsTrue tells
     → KeepsOpened view (scripts_of setup) rules.number ((shelves_of old).holds rules.number) (shelves_of new).holds result
 
 -- Where a shelf is not opened, nothing is lost on its disk, unless a call of the disk fails.
-abbrev pub StaysIfClosed : {T : Type 0} → (rack_tells tells : Bool) → Setup → Rules → (old new : RackView) → Result T OpenCause → Type 0
+abbrev pub StaysIfClosed : {T : Type 0} → (rack_tells tells : Bool) → Setup → Rules → (old new : RackView) → Result T Reopen → Type 0
 StaysIfClosed rack_tells tells setup rules old new result =
     IsTrue rack_tells → IsTrue tells
     → KeepsClosed (scripts_of setup) rules.number ((shelves_of old).holds rules.number) ((shelves_of new).holds rules.number) result
@@ -147,7 +146,7 @@ IsFirst view rules setup now staff = desk_of view (scripts_of now) staff ≡ fir
 
 -- Where disks are not empty, those of their shelf and of the ones before it were asked for, and no others.
 abbrev pub AsksIfUsed : {T : Type 0} → Result T OpenFault → (old new : RackView) → Type 0
-AsksIfUsed result old new = IfErr result (λ e. e.why ≡ cause.NotEmpty → AsksForFirst (e.shelf + 1) old new)
+AsksIfUsed result old new = IfErr result (λ e. e.why ≡ reopen.NotEmpty → AsksForFirst (e.shelf + 1) old new)
 
 -- A crash of a shelf of an own staff, which is opened again with this setup, is the desk's.
 abbrev pub CrashesOwn : {D : Type 0} → (D → View) → (rack_tells tells : Bool) → Setup → (old : Staff D) → (place : ℕ) → Result ℕ Reopen

@@ -5,7 +5,7 @@ ghost use Rattle.trio_rack.specs.Trios.{shelves_of};
 ghost use Rattle.play_steps.specs.Rules.{StaysFirst};
 ghost use Rattle.setup_reader.specs.Texts.{IsReadSetup};
 ghost use Rattle.play_desk.specs.Asking.{HasAsked};
-ghost use Rattle.play_desk.specs.Opening.{FailuresStay, IsNeverDamaged, IsNeverOther, IsPutBack, KeepsShelvesBut};
+ghost use Rattle.play_desk.specs.Opening.{FailuresStay, IsNeverDamaged, IsNeverForBytes, IsNeverOther, IsPutBack, KeepsShelvesBut};
 ghost use Rattle.play_desk.specs.Staff.{AreLow, HaveOwnNumbers, IsFit, IsHome, KeepsOwn};
 ghost use Rattle.play_desk.specs.Failing.{FailsOf, FailsThere, FaultsRise, FaultsStay};
 ghost use Rattle.play_desk.specs.Told.{CrashesOwn, LeavesAll, LeavesOwn, OutgrowsOwn};
@@ -52,6 +52,7 @@ fn reopen_at<F: Disk, R: Rack<F>>(
     ensures room { OutgrowsOwn trio_view R.tells F.tells
         setup.now staff.old place result (R.view rack.new) }
     ensures home { IsHome staff.new.shelves.items (shelves_of (R.view rack.new)).out }
+    ensures bytes { IsNeverForBytes result }
     ensures damaged { IsTrue R.tells → IsTrue F.tells → IsNeverDamaged result }
     ensures other { IsTrue R.tells → IsTrue F.tells → IsNeverOther result }
     ensures disk { FaultsRise trio_view result
@@ -107,6 +108,7 @@ pub fn crash<F: Disk, R: Rack<F>>(
     ensures left { LeavesAll trio_view R.tells F.tells
         setup.now staff.old place result (R.view rack.new) }
     ensures home { IsHome staff.new.shelves.items (shelves_of (R.view rack.new)).out }
+    ensures bytes { IsNeverForBytes result }
     ensures damaged { IsTrue R.tells → IsTrue F.tells → IsNeverDamaged result }
     ensures other { IsTrue R.tells → IsTrue F.tells → IsNeverOther result }
     ensures disk { FaultsRise trio_view result

@@ -11,9 +11,10 @@ ghost use Rattle.play_desk.specs.Failing.{faults_beside};
 ghost use Rattle.play_desk.specs.Told.{AllHoldAsLeft, AllStayIfClosed, AsksIfUsed, ClosesOwn, IsFirst, OpensAll, OpensLast, StaysIfClosed, TellsCause, WereBare};
 
 use crate::desk::Desk;
-use crate::opening::{OpenCause, OpenFault, opened, put_back};
+use crate::opening::{OpenFault, opened, put_back};
 use crate::staff::{Staff, no_tickets};
 use disk_trio::Disks;
+use play_steps::Reopen;
 use script_nodes::Setup;
 use shelf::{Rules, Shelf};
 use std::alloc::Global;
@@ -54,7 +55,7 @@ fn open_next<F: Disk, R: Rack<F>>(
     rack: &mut R,
     shelves: &mut Vec<Shelf<Disks<F>, Counting>>,
     rules: Rules,
-) -> Result<(), OpenCause>
+) -> Result<(), Reopen>
     requires range { AreInRange rules }
     requires read { IsReadSetup (scripts_of setup.now) }
     requires home { (shelves_of (R.view rack.old)).out rules.number ≡ false }
@@ -66,12 +67,12 @@ fn open_next<F: Disk, R: Rack<F>>(
         IfErr result (IsRefusedBy (R.view rack.old) rules.number) }
     ensures keeps { StaysIfClosed R.tells F.tells setup.now rules
         (R.view rack.old) (R.view rack.new) result }
-    ensures disk { IsErrOf result OpenCause.Disk →
+    ensures disk { IsErrOf result Reopen.Disk →
         FailedFor rules.number (R.view rack.old) (R.view rack.new) }
     ensures later { OnErr result
         (CountStays (R.view rack.old).faults 0 (R.view rack.new).faults 0) }
     ensures asked { OnErr result (AsksForSome rules.number (R.view rack.old) (R.view rack.new)) }
-    ensures asked_shut { IsErrOf result OpenCause.NotEmpty →
+    ensures asked_shut { IsErrOf result Reopen.NotEmpty →
         AsksForOne rules.number (R.view rack.old) (R.view rack.new) }
 {
     let shelf = opened(alloc, setup, directory, rack, rules)?;
@@ -79,7 +80,7 @@ fn open_next<F: Disk, R: Rack<F>>(
         Ok(()) => Ok(()),
         Err(refused) => {
             put_back(rack, refused.value);
-            Err(OpenCause::Memory)
+            Err(Reopen::Memory)
         }
     }
 }
@@ -102,7 +103,7 @@ fn open_all<F: Disk, R: Rack<F>>(
     ensures keeps { AllStayIfClosed R.tells F.tells setup.now
         (R.view rack.old) (R.view rack.new) result }
     ensures all_home { IfErr result (λ e. AreHome (shelves_of (R.view rack.new)).out) }
-    ensures disk { IfErr result (λ e. e.why ≡ OpenCause.Disk →
+    ensures disk { IfErr result (λ e. e.why ≡ Reopen.Disk →
         FailedFor e.shelf (R.view rack.old) (R.view rack.new)) }
     ensures later { (R.view rack.old).faults ≤ (R.view rack.new).faults }
     ensures failed_later { FailuresStay (R.view rack.old) (R.view rack.new) }
@@ -153,7 +154,7 @@ pub fn open_desk<'s, F: Disk, R: Rack<F>>(
     ensures keeps { AllStayIfClosed R.tells F.tells setup
         (R.view rack.old) (R.view rack.new) result }
     ensures all_home { IfErr result (λ e. AreHome (shelves_of (R.view rack.new)).out) }
-    ensures disk { IfErr result (λ e. e.why ≡ OpenCause.Disk →
+    ensures disk { IfErr result (λ e. e.why ≡ Reopen.Disk →
         FailedFor e.shelf (R.view rack.old) (R.view rack.new)) }
     ensures later { (R.view rack.old).faults ≤ (R.view rack.new).faults }
     ensures failed_later { FailuresStay (R.view rack.old) (R.view rack.new) }

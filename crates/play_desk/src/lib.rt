@@ -14,7 +14,7 @@ mod staff;
 pub use answer::answer_to;
 pub use desk::Desk;
 pub use desk_disks::open_desk;
-pub use opening::{OpenCause, OpenFault};
+pub use opening::{OpenFault, why_not};
 pub use staff::segment_of;
 
 /// The printed transcript of lines is the print of the replies of the runs of events that the lines are, and the last

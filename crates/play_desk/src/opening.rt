@@ -6,7 +6,7 @@ ghost use Rattle.server_limits.specs.Limits.{most_shelves};
 ghost use Rattle.trio_rack.specs.Trios.{shelves_of, AreFrom};
 ghost use Rattle.shelf.specs.Ranges.{AreInRange};
 ghost use Rattle.play_desk.specs.Asking.{AsksForNone, AsksForOne, AsksForSome};
-ghost use Rattle.play_desk.specs.Opening.{CountStays, FailedFor, GivesOne, IsNeverDamaged, IsNeverOther, IsOutside, OpensOne, TakesEmpty, TakesOrLeaves, cause_of, disk_faults, faults_left, reopen_of};
+ghost use Rattle.play_desk.specs.Opening.{CountStays, FailedFor, GivesOne, IsNeverDamaged, IsNeverForBytes, IsNeverOther, IsOutside, OpensOne, TakesEmpty, TakesOrLeaves, disk_faults, faults_left, reopen_of};
 ghost use Rattle.shelf.specs.Views.{IsInOrder, IsOwnShelf};
 ghost use Rattle.play_desk.specs.Failing.{CountsFor, FailsOn, RisesInAll, StaysInAll};
 ghost use Rattle.shelf.specs.Calls.{BeginsOwn};
@@ -21,50 +21,11 @@ use trio_rack::{give_trio, take_trio};
 use web_disk::{Disk, Rack, RackFault};
 use web_outside::Counting;
 
-/// Why a shelf was not opened.
-#[derive(Clone, Copy, Debug, PartialEq, Eq)]
-pub enum OpenCause {
-    /// One of the disks has bytes already.
-    NotEmpty,
-    /// The rack or a disk failed.
-    Disk,
-    /// What stands at this place of its journal is no record.
-    Damaged { place: u64 },
-    /// The record at this place is that of another shelf.
-    Other { place: u64 },
-    /// With the setup that it is opened with, its journal would have this length in bytes, too many.
-    Full { len: u64 },
-    /// There was no memory.
-    Memory,
-}
-
-impl OpenCause {
-    /// The cause for which a shelf was not begun.
-    pub fn by(fault: BeginFault) -> OpenCause
-        ensures { result ≡ cause_of (reopen_of fault) }
-    {
-        OpenCause::of(why_not(fault))
-    }
-
-    /// The cause for which a shelf was not opened again.
-    pub fn of(why: Reopen) -> OpenCause
-        ensures { result ≡ cause_of why }
-    {
-        match why {
-            Reopen::Disk => OpenCause::Disk,
-            Reopen::Damaged { place } => OpenCause::Damaged { place },
-            Reopen::Other { place } => OpenCause::Other { place },
-            Reopen::Full { len } => OpenCause::Full { len },
-            Reopen::Memory => OpenCause::Memory,
-        }
-    }
-}
-
 /// The shelf whose disks are at fault, and why the desk was not opened.
 #[derive(Clone, Copy, Debug, PartialEq, Eq)]
 pub struct OpenFault {
     pub shelf: u32,
-    pub why: OpenCause,
+    pub why: Reopen,
 }
 
 // Takes the disks of the shelf of this number out of the rack.
@@ -96,8 +57,8 @@ fn taken<F: Disk, R: Rack<F>>(
     }
 }
 
-// Why a shelf was not begun, as it is told.
-fn why_not(fault: BeginFault) -> Reopen
+/// Why a shelf is told as not opened, where this fault kept it from being begun.
+pub fn why_not(fault: BeginFault) -> Reopen
     ensures { result ≡ reopen_of fault }
 {
     match fault {
@@ -141,6 +102,7 @@ fn begun<F: Disk, R: Rack<F>>(
         (R.view rack.old) (R.view rack.new) }
     ensures later { StaysInAll trio_view result (trio_view disks)
         (R.view rack.old) (R.view rack.new) }
+    ensures bytes { IsNeverForBytes result }
     ensures asked { AsksForNone (R.view rack.old) (R.view rack.new) }
 {
     match Shelf::begin(alloc, disks, nonces, setup, rules) {
@@ -191,6 +153,7 @@ pub fn reopened<F: Disk, R: Rack<F>>(
         setup.now shelf result (R.view rack.new) }
     ensures room { OutgrowsAfter trio_view R.tells F.tells
         setup.now shelf result (R.view rack.new) }
+    ensures bytes { IsNeverForBytes result }
     ensures damaged { IsTrue R.tells → IsTrue F.tells → IsNeverDamaged result }
     ensures other { IsTrue R.tells → IsTrue F.tells → IsNeverOther result }
     ensures rack { OpensOne shelf.rules.number result (R.view rack.old) (R.view rack.new) }
@@ -216,7 +179,7 @@ fn taken_empty<F: Disk, R: Rack<F>>(
     directory: &str,
     rack: &mut R,
     number: u32,
-) -> Result<Disks<F>, OpenCause>
+) -> Result<Disks<F>, Reopen>
     requires low { number < most_shelves }
     requires home { (shelves_of (R.view rack.old)).out number ≡ false }
     ensures unopened { IfOk result (λ disks. disks.known ≡ false) }
@@ -225,29 +188,29 @@ fn taken_empty<F: Disk, R: Rack<F>>(
     ensures images { StaysUnread trio_view R.tells F.tells number
         (R.view rack.old) (R.view rack.new) result }
     ensures rack { OpensOne number result (R.view rack.old) (R.view rack.new) }
-    ensures disk { IsErrOf result OpenCause.Disk →
+    ensures disk { IsErrOf result Reopen.Disk →
         FailedFor number (R.view rack.old) (R.view rack.new) }
     ensures later { CountStays (R.view rack.old).faults 0
         (R.view rack.new).faults (disk_faults trio_view result) }
     ensures rack_later { OnOk result ((R.view rack.old).faults ≤ (R.view rack.new).faults) }
     ensures asked { AsksForSome number (R.view rack.old) (R.view rack.new) }
     ensures asked_all { OnOk result (AsksForOne number (R.view rack.old) (R.view rack.new)) }
-    ensures asked_shut { IsErrOf result OpenCause.NotEmpty →
+    ensures asked_shut { IsErrOf result Reopen.NotEmpty →
         AsksForOne number (R.view rack.old) (R.view rack.new) }
 {
     let mut disks = match taken(alloc, directory, rack, number) {
         Ok(disks) => disks,
-        Err(why) => return Err(OpenCause::of(why)),
+        Err(why) => return Err(why),
     };
     match disks.are_empty() {
         Ok(true) => Ok(disks),
         Ok(false) => {
             give_trio(rack, number, disks);
-            Err(OpenCause::NotEmpty)
+            Err(Reopen::NotEmpty)
         }
         Err(_) => {
             give_trio(rack, number, disks);
-            Err(OpenCause::Disk)
+            Err(Reopen::Disk)
         }
     }
 }
@@ -259,7 +222,7 @@ pub fn opened<F: Disk, R: Rack<F>>(
     directory: &str,
     rack: &mut R,
     rules: Rules,
-) -> Result<Shelf<Disks<F>, Counting>, OpenCause>
+) -> Result<Shelf<Disks<F>, Counting>, Reopen>
     requires range { AreInRange rules }
     requires read { IsReadSetup (scripts_of setup.now) }
     requires home { (shelves_of (R.view rack.old)).out rules.number ≡ false }
@@ -271,7 +234,7 @@ pub fn opened<F: Disk, R: Rack<F>>(
     ensures keeps { StaysInOpening trio_view R.tells F.tells setup.now rules
         (R.view rack.old) (R.view rack.new) result }
     ensures rack { OpensOne rules.number result (R.view rack.old) (R.view rack.new) }
-    ensures disk { IsErrOf result OpenCause.Disk →
+    ensures disk { IsErrOf result Reopen.Disk →
         FailedFor rules.number (R.view rack.old) (R.view rack.new) }
     ensures later { CountStays (R.view rack.old).faults 0
         (R.view rack.new).faults (faults_left trio_view result) }
@@ -279,12 +242,12 @@ pub fn opened<F: Disk, R: Rack<F>>(
     ensures asked { AsksForSome rules.number (R.view rack.old) (R.view rack.new) }
     ensures asked_all { OnOk result
         (AsksForOne rules.number (R.view rack.old) (R.view rack.new)) }
-    ensures asked_shut { IsErrOf result OpenCause.NotEmpty →
+    ensures asked_shut { IsErrOf result Reopen.NotEmpty →
         AsksForOne rules.number (R.view rack.old) (R.view rack.new) }
 {
     let disks = taken_empty(alloc, directory, rack, rules.number)?;
     match begun(alloc, setup, rack, disks, Counting::new(), rules) {
         Ok(shelf) => Ok(shelf),
-        Err(why) => Err(OpenCause::of(why)),
+        Err(why) => Err(why),
     }
 }

@@ -101,6 +101,8 @@ crash_performs r left s t step shelf (Err reopen.Memory) result at alike told co
     subst (λ (x : Result (Vec Report Global) Halt). Performs r left step x s t) (sym told) (inr (shelf, (at, le, stands)))
 crash_performs r left s t step shelf (Err reopen.Disk) result at alike told comes rose le stands =
     subst (λ (x : Result (Vec Report Global) Halt). Performs r left step x s t) (sym told) ((at, le, stands), rose refl)
+crash_performs r left s t step shelf (Err reopen.NotEmpty) result at alike told comes rose le stands =
+    subst (λ (x : Result (Vec Report Global) Halt). Performs r left step x s t) (sym told) (at, le, stands)
 crash_performs r left s t step shelf (Err (reopen.Damaged place)) result at alike told comes rose le stands =
     subst (λ (x : Result (Vec Report Global) Halt). Performs r left step x s t) (sym told) (at, le, stands)
 crash_performs r left s t step shelf (Err (reopen.Other place)) result at alike told comes rose le stands =

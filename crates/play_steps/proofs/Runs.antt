@@ -282,6 +282,8 @@ halts r left_of all start here there number step left halt.Memory fitting by sam
 halts r left_of all start here there number step left (halt.Reopen shelf reopen.Memory) fitting by same reached = absurd by
 halts r left_of all start here there number step left (halt.Reopen shelf reopen.Disk) fitting by same reached =
     record { loses = lost r left_of all start here there number step shelf reopen.Disk left by.0 fitting reached same; rose = by.1 }
+halts r left_of all start here there number step left (halt.Reopen shelf reopen.NotEmpty) fitting by same reached =
+    lost r left_of all start here there number step shelf reopen.NotEmpty left by fitting reached same
 halts r left_of all start here there number step left (halt.Reopen shelf (reopen.Damaged place)) fitting by same reached =
     lost r left_of all start here there number step shelf (reopen.Damaged place) left by fitting reached same
 halts r left_of all start here there number step left (halt.Reopen shelf (reopen.Other place)) fitting by same reached =

@@ -34,6 +34,10 @@ RoseAtLost lost before now = (shelf : ℕ) → lost shelf reopen.Disk → Rose (
 abbrev pub NoneIsLostToMemory : (lost : (shelf : ℕ) → Reopen → Type 0) → Type 0
 NoneIsLostToMemory lost = (shelf : ℕ) → lost shelf reopen.Memory → ⊥
 
+-- No shelf was lost because its disks had bytes already.
+abbrev pub NoneIsLostToBytes : (lost : (shelf : ℕ) → Reopen → Type 0) → Type 0
+NoneIsLostToBytes lost = (shelf : ℕ) → lost shelf reopen.NotEmpty → ⊥
+
 -- No shelf was lost to bytes that are no record.
 abbrev pub NoneIsLostToDamage : (lost : (shelf : ℕ) → Reopen → Type 0) → Type 0
 NoneIsLostToDamage lost = (shelf place : ℕ) → lost shelf (reopen.Damaged place) → ⊥

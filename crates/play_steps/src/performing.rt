@@ -5,7 +5,7 @@ ghost use Rattle.play_steps.specs.Transcript.{fits};
 ghost use Rattle.play_steps.specs.Views.{meaning};
 ghost use Rattle.play_steps.specs.Played.{Lengthens, TellsCrash, TellsOne};
 ghost use Rattle.play_steps.specs.Staged.{Performed, SweepsEach};
-ghost use Rattle.play_steps.specs.Losses.{LosesBy, NoneIsLostToDamage, NoneIsLostToMemory, NoneIsLostToOther, RoseAtLost, RoseForLost};
+ghost use Rattle.play_steps.specs.Losses.{LosesBy, NoneIsLostToBytes, NoneIsLostToDamage, NoneIsLostToMemory, NoneIsLostToOther, RoseAtLost, RoseForLost};
 ghost use Rattle.play_steps.specs.declared.performing.Halt.TheVariants.{Memory as HaltMemory};
 
 use crate::report::Report;
@@ -137,6 +137,7 @@ pub fn perform<T: Stage>(
     ensures failed_later { StaysUp (T.failed devices.old) (T.failed devices.new) }
     ensures asked { StaysFirst (T.asked devices.old) (T.asked devices.new) }
     ensures why { NoneIsLostToMemory (LosesBy result) }
+    ensures bytes { NoneIsLostToBytes (LosesBy result) }
     ensures damaged { IsTrue T.tells → NoneIsLostToDamage (LosesBy result) }
     ensures other { IsTrue T.tells → NoneIsLostToOther (LosesBy result) }
 {

@@ -3,7 +3,7 @@ ghost use Rattle.web_outside.specs.Causes.{Rose};
 ghost use Rattle.play_steps.specs.Step.{IsTold, IsWithin, is_told, steps_of};
 ghost use Rattle.play_steps.specs.Played.{end_of};
 ghost use Rattle.play_steps.specs.Staged.{Edited, Played, Stepped};
-ghost use Rattle.play_steps.specs.Losses.{LosesAtEnd, LosesInTurn, NoneIsLostToDamage, NoneIsLostToMemory, NoneIsLostToOther, RoseAtLost, RoseForLost};
+ghost use Rattle.play_steps.specs.Losses.{LosesAtEnd, LosesInTurn, NoneIsLostToBytes, NoneIsLostToDamage, NoneIsLostToMemory, NoneIsLostToOther, RoseAtLost, RoseForLost};
 ghost use Rattle.play_steps.specs.Rules.{StaysAt, StaysFirst, StaysHome, StaysUp};
 ghost use Rattle.play_steps.specs.Views.{meaning};
 
@@ -91,6 +91,7 @@ fn play_step<T: Stage, O: Sink>(
     ensures failed_later { StaysUp (T.failed devices.old) (T.failed devices.new) }
     ensures asked { StaysFirst (T.asked devices.old) (T.asked devices.new) }
     ensures why { NoneIsLostToMemory (LosesInTurn result) }
+    ensures bytes { NoneIsLostToBytes (LosesInTurn result) }
     ensures damaged { IsTrue T.tells → NoneIsLostToDamage (LosesInTurn result) }
     ensures other { IsTrue T.tells → NoneIsLostToOther (LosesInTurn result) }
 {
@@ -147,6 +148,7 @@ pub fn play<T: Stage, O: Sink>(
     ensures failed_later { StaysUp (T.failed devices.old) (T.failed devices.new) }
     ensures asked { StaysFirst (T.asked devices.old) (T.asked devices.new) }
     ensures why { NoneIsLostToMemory (LosesAtEnd result) }
+    ensures bytes { NoneIsLostToBytes (LosesAtEnd result) }
     ensures damaged { IsTrue T.tells → NoneIsLostToDamage (LosesAtEnd result) }
     ensures other { IsTrue T.tells → NoneIsLostToOther (LosesAtEnd result) }
 {

@@ -7,9 +7,11 @@ ghost use Rattle.play_steps.specs.declared.stage.Reopen.{Reopen};
 use script_value::Reply;
 use std::alloc::AllocError;
 
-/// Why a shelf was not opened again.
+/// Why a shelf was not opened, at first or after a crash.
 #[derive(Clone, Copy, Debug, PartialEq, Eq)]
 pub enum Reopen {
+    /// One of its disks has bytes already, where they have to be empty: no crash tells this.
+    NotEmpty,
     /// A device failed.
     Disk,
     /// What stands at this place of its journal is no record.
@@ -141,6 +143,7 @@ pub trait Stage {
             Rose (failed devices.old shelf) (failed devices.new shelf) }
         ensures failed_later { StaysUp (failed devices.old) (failed devices.new) }
         ensures asked { StaysFirst (asked devices.old) (asked devices.new) }
+        ensures bytes { IsErrOf result Reopen.NotEmpty → ⊥ }
         ensures damaged { IsTrue tells → (place : ℕ) → IsErrOf result (Reopen.Damaged place) → ⊥ }
         ensures other { IsTrue tells → (place : ℕ) → IsErrOf result (Reopen.Other place) → ⊥ };
 

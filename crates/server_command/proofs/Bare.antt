@@ -22,8 +22,8 @@ use Rattle.page_follower.specs.OfShelf.declared.begin.BeginFault.TheVariants as 
 use Rattle.page_follower.specs.OfShelf.declared.shelf.Shelf.{Shelf}
 use Rattle.play_steps.specs.Rules.{StaysUp}
 use Rattle.play_desk.specs.Asking.{AsksForOne}
-use Rattle.play_desk.specs.Opening.{LeavesOthers, TakesOne, cause_of, reopen_of}
-use Rattle.play_desk.specs.declared.opening.OpenCause.TheVariants as cause
+use Rattle.play_desk.specs.Opening.{LeavesOthers, TakesOne, reopen_of}
+use Rattle.play_steps.specs.declared.stage.Reopen.TheVariants as cause
 use Rattle.play_desk.proofs.Asking.{asked_all}
 use Rattle.server_command.specs.Bare.{AsksOne, GivesBack, HasOpened, IsUnfitBare, OpensAs, OpensSafely, StaysShut, refused, untaken, untaken_for}
 use Rattle.server_command.specs.Racks.{ShelfFailed, racks_of}
@@ -166,7 +166,7 @@ shelf_failed view told tells before mid after shelf disk fresh none takes later 
 -- ---- opened, or not
 
 -- the bytes are why a shelf was not opened
-unfit_bare : (shelf : ℕ) (v : View) (e : BeginFault) → IsBareFault shelf v e → IsUnfitBare shelf v.seen (cause_of (reopen_of e))
+unfit_bare : (shelf : ℕ) (v : View) (e : BeginFault) → IsBareFault shelf v e → IsUnfitBare shelf v.seen (reopen_of e)
 unfit_bare shelf v (begin.Damaged place) p = p
 unfit_bare shelf v (begin.Other place) p = p
 unfit_bare shelf v (begin.Full n) p = p
@@ -184,7 +184,7 @@ lawful_before true shelf (made m) is = tt
 lawful_before true shelf (damaged p) is = is
 lawful_before true shelf (other p) is = is
 
-disk_fault : (e : BeginFault) → cause_of (reopen_of e) ≡ cause.Disk → e ≡ begin.DiskFault
+disk_fault : (e : BeginFault) → reopen_of e ≡ cause.Disk → e ≡ begin.DiskFault
 disk_fault (begin.Damaged place) is = absurd (let no : ⊥ = cc in no)
 disk_fault (begin.Other place) is = absurd (let no : ⊥ = cc in no)
 disk_fault (begin.Full n) is = absurd (let no : ⊥ = cc in no)
@@ -222,12 +222,12 @@ module _ {D : Type 0} (view : D → View) (tells told fed : Bool) (before mid : 
 
   -- it was not, and they were given back
   pub refused_shut : (after : RackView) (given : D) (e : BeginFault) (n : Counting) → OpensAs view tells fed shelf disk (Err (e, given, n))
-      → GivesBack view (IsTrue told) shelf given mid after → StaysShut view fed (racks_of told before after) shelf (cause_of (reopen_of e))
+      → GivesBack view (IsTrue told) shelf given mid after → StaysShut view fed (racks_of told before after) shelf (reopen_of e)
   refused_shut after given e n p g = record {
     rest = asks_one view (IsTrue told) told before mid after shelf given asked takes later g;
     failed = λ is. shelf_failed view (IsTrue told) told before mid after shelf given (view disk).faults fresh takes later g
         (p.cause (ap (λ f. Err f) (disk_fault e is)));
     shut = refused disk given (record { among = among; reads = reads; left = g.left }) (λ t. unfit_bare shelf (view disk) e (p.refused (knows t)))
-        (λ t other. p.keeps (knows t) (λ x. let same : e ≡ begin.DiskFault = cc in other (ap (λ f. cause_of (reopen_of f)) same)))
+        (λ t other. p.keeps (knows t) (λ x. let same : e ≡ begin.DiskFault = cc in other (ap (λ f. reopen_of f) same)))
         (λ t. p.safely (knows t));
   }

@@ -17,7 +17,7 @@ use Rattle.server_command.specs.declared.program.Status.{Status}
 use Rattle.server_command.specs.declared.program.Status.TheVariants as status
 use Rattle.web_disk.specs.View.{RackView}
 use Rattle.disk_trio.proofs.Views.{rose_later}
-use Rattle.play_desk.specs.declared.opening.OpenCause.TheVariants as cause
+use Rattle.play_steps.specs.declared.stage.Reopen.TheVariants as cause
 use Rattle.server_command.specs.Racks.{Racks, AtRest, racks_of}
 use Rattle.server_command.specs.Remains.{IsAny, Remains, RemainsUnwritten, unopened}
 use Rattle.server_command.specs.Output.{Chances, Sinks, output_of, counted, told_scripts, ending_of, faulty, sinks, Tells, Answers, BreaksOff, nothing}

@@ -24,8 +24,8 @@ use Rattle.page_follower.specs.Held.{HasFollowed}
 use Rattle.page_follower.specs.Moments.{HasFed}
 use Rattle.page_follower.specs.declared.fault.FollowEnd.{FollowEnd}
 use Rattle.page_follower.specs.declared.fault.FollowEnd.TheVariants as end
-use Rattle.play_desk.specs.declared.opening.OpenCause.{OpenCause}
-use Rattle.play_desk.specs.declared.opening.OpenCause.TheVariants as cause
+use Rattle.play_steps.specs.declared.stage.Reopen.{Reopen}
+use Rattle.play_steps.specs.declared.stage.Reopen.TheVariants as cause
 use Rattle.server_command.specs.declared.program.Status.{Status}
 use Rattle.server_command.specs.declared.program.Status.TheVariants as status
 use Rattle.server_command.specs.Bare.{AreLent, AsksOne, GivesBack, HasOpened, HasRead, OpensSafely}
@@ -202,7 +202,7 @@ feed_told shelf e line status.Memory out is at p = feeding.untold refl p
 feed_told shelf e line how out is at p = absurd p
 
 -- the line of a shelf
-pub unopened_told : (shelf : ℕ) (e : FollowEnd) (why : OpenCause) (how : Status) (out : Sinks) → unopened_line shelf why ≡ Some (followed_line shelf e)
+pub unopened_told : (shelf : ℕ) (e : FollowEnd) (why : Reopen) (how : Status) (out : Sinks) → unopened_line shelf why ≡ Some (followed_line shelf e)
     → followed_status e ≡ unopened_status why → TellsUnopened shelf why how out → TellsFollowed shelf e how out
 unopened_told shelf e why how out is at (telling.told line named same prints) =
     feeding.told (same ∙ sym at) (subst (PrintsTo out) (same_Some _ _ (sym named ∙ is)) prints)

@@ -20,9 +20,7 @@ use Rattle.web_disk.specs.View.{RackView}
 use Rattle.play_desk.specs.Desk.{Desk, desk_rules, is_fault}
 use Rattle.play_desk.specs.Laws.{TranscriptsAreRuns}
 use Rattle.play_desk.specs.Asking.{AsksForFirst, AsksUntil}
-use Rattle.play_desk.specs.Opening.{AllStayKept, HoldTheBooks, IsClosedBy, IsLeft, cause_of}
-use Rattle.play_desk.specs.declared.opening.OpenCause.{OpenCause}
-use Rattle.play_desk.specs.declared.opening.OpenCause.TheVariants as first
+use Rattle.play_desk.specs.Opening.{AllStayKept, HoldTheBooks, IsClosedBy, IsLeft}
 use Rattle.measured_run.specs.Generator.{Source, source_of}
 use Rattle.measured_run.specs.Tallies.{summary_text}
 use Rattle.measured_run.specs.declared.measuring.Measure.{Measure}
@@ -169,7 +167,7 @@ memory_leaves rack l s old new before after is line remains =
     subst (λ (x : Status). HasLeft rack l x (sinks old new before after)) (sym is) (x.0, (line, x.1))
 
 -- no step was performed
-pub none_loaded : (rack : Racks) (l : LoadOptions) (shelf : ℕ) (why : OpenCause) → IsUnopened rack load_scripts shelf why
+pub none_loaded : (rack : Racks) (l : LoadOptions) (shelf : ℕ) (why : Reopen) → IsUnopened rack load_scripts shelf why
     → rack.before.faults ≤ rack.after.faults → (chances : Chances) × RemainsLoaded rack l chances IsAny 0
 none_loaded rack l shelf why is later =
     (no_chances, (unopened shelf why tt refl is, (let none : count_by is_fault [] ≡ 0 = refl in omega (arith, none, later))))
@@ -177,18 +175,18 @@ none_loaded rack l shelf why is later =
 -- nor was the rack touched
 pub untouched : (known : Bool) (rack : RackView) (l : LoadOptions) → (chances : Chances) × RemainsLoaded (racks_of known rack rack) l chances IsAny 0
 untouched known rack l =
-    none_loaded (racks_of known rack rack) l 0 first.Memory
+    none_loaded (racks_of known rack rack) l 0 reopen.Memory
     (record { asked = inr (refl, refl); before = λ k low. absurd (omega (arith, low)); failed = λ e. let no : ⊥ = cc in absurd no; kept = record { kept = λ n but left is. inl is; behind = λ n above left is. is } }) (omega arith)
 
 -- a disk holds something
 some_leaves : (rack : Racks) (l : LoadOptions) (shelf : ℕ) (old new : Option (List ℕ)) (before after : ℕ) → (IsTrue rack.tells → HoldsSome rack l.options shelf)
-    → (IsTrue rack.tells → AllStayKept load_scripts (shelves_of rack.before).holds (shelves_of rack.after).holds shelf first.NotEmpty)
+    → (IsTrue rack.tells → AllStayKept load_scripts (shelves_of rack.before).holds (shelves_of rack.after).holds shelf reopen.NotEmpty)
     → AsksForFirst (shelf + 1) rack.before rack.after → AppendsUnlessFault old new (unfit_line shelf not_empty) before after → HasLeft rack l status.Journal (sinks old new before after)
 some_leaves rack l shelf old new before after full kept asked line =
     decided rack.tells (λ chances. GivesLoad rack l chances 8 (sinks old new before after) × AreAllKept rack load_scripts (length chances.disks)) no_chances
     (λ t. shut (full t) (kept t))
   where
-    shut : HoldsSome rack l.options shelf → AllStayKept load_scripts (shelves_of rack.before).holds (shelves_of rack.after).holds shelf first.NotEmpty
+    shut : HoldsSome rack l.options shelf → AllStayKept load_scripts (shelves_of rack.before).holds (shelves_of rack.after).holds shelf reopen.NotEmpty
         → (chances : Chances) × (GivesLoad rack l chances 8 (sinks old new before after) × AreAllKept rack load_scripts (length chances.disks))
     shut p stay =
         let images : List (List ℕ) = replicate shelf [] ++ (p.byte ∷ p.bytes) ∷ [] in
@@ -212,14 +210,14 @@ some_leaves rack l shelf old new before after full kept asked line =
         )
 
 -- the run did not begin
-pub first_leaves : (rack : Racks) (l : LoadOptions) (shelf : ℕ) (why : OpenCause) (s : Status) (old new : Option (List ℕ)) (before after : ℕ)
-    → (IsTrue rack.tells → IsClosedBy rack.before l.options.shelves shelf why) → (why ≡ first.Disk → ShelfFailed rack shelf)
+pub first_leaves : (rack : Racks) (l : LoadOptions) (shelf : ℕ) (why : Reopen) (s : Status) (old new : Option (List ℕ)) (before after : ℕ)
+    → (IsTrue rack.tells → IsClosedBy rack.before l.options.shelves shelf why) → (why ≡ reopen.Disk → ShelfFailed rack shelf)
     → (IsTrue rack.tells → AllStayKept load_scripts (shelves_of rack.before).holds (shelves_of rack.after).holds shelf why) → AsksUntil (shelf + 1) shelf rack.before rack.after
-    → (why ≡ first.NotEmpty → AsksForFirst (shelf + 1) rack.before rack.after) → rack.before.faults ≤ rack.after.faults
+    → (why ≡ reopen.NotEmpty → AsksForFirst (shelf + 1) rack.before rack.after) → rack.before.faults ≤ rack.after.faults
     → TellsUnopened shelf why s (sinks old new before after) → HasLeft rack l s (sinks old new before after)
 first_leaves rack l shelf why s old new before after closed failed kept asked all later (untold is line) =
     memory_leaves rack l s old new before after is line (λ t. none_loaded rack l shelf why (is_unopened rack load_scripts l.options.shelves shelf why (closed t) failed (kept t) asked) later)
-first_leaves rack l shelf first.Disk s old new before after closed failed kept asked all later (told line is same p) =
+first_leaves rack l shelf reopen.Disk s old new before after closed failed kept asked all later (told line is same p) =
     subst (λ x. HasLeft rack l x (sinks old new before after)) (sym same) (
       no_chances,
       (
@@ -228,20 +226,20 @@ first_leaves rack l shelf first.Disk s old new before after closed failed kept a
         subst (λ w. AppendsUnlessFault old new w before after) (sym (same_Some _ _ is)) p,
         λ t. (
           at_first,
-          (unopened shelf first.Disk (refl, refl) refl (is_unopened rack load_scripts l.options.shelves shelf first.Disk (closed t) failed (kept t) asked), (let rose = (failed refl).all in let none : count_by is_fault [] ≡ 0 = refl in omega (arith, none, rose))),
+          (unopened shelf reopen.Disk (refl, refl) refl (is_unopened rack load_scripts l.options.shelves shelf reopen.Disk (closed t) failed (kept t) asked), (let rose = (failed refl).all in let none : count_by is_fault [] ≡ 0 = refl in omega (arith, none, rose))),
         ),
       ),
     )
-first_leaves rack l shelf first.NotEmpty s old new before after closed failed kept asked all later (told line is same p) =
+first_leaves rack l shelf reopen.NotEmpty s old new before after closed failed kept asked all later (told line is same p) =
     subst (λ x. HasLeft rack l x (sinks old new before after)) (sym same)
     (some_leaves rack l shelf old new before after (λ t. holds_some rack l.options shelf (closed t)) kept (all refl) (subst (λ w. AppendsUnlessFault old new w before after) (sym (same_Some _ _ is)) p))
-first_leaves rack l shelf (first.Damaged place) s old new before after closed failed kept asked all later (told line is same p) =
+first_leaves rack l shelf (reopen.Damaged place) s old new before after closed failed kept asked all later (told line is same p) =
     subst (λ x. HasLeft rack l x (sinks old new before after)) (sym same) (no_chances, λ t. absurd (closed t))
-first_leaves rack l shelf (first.Other place) s old new before after closed failed kept asked all later (told line is same p) =
+first_leaves rack l shelf (reopen.Other place) s old new before after closed failed kept asked all later (told line is same p) =
     subst (λ x. HasLeft rack l x (sinks old new before after)) (sym same) (no_chances, λ t. absurd (closed t))
-first_leaves rack l shelf (first.Full size) s old new before after closed failed kept asked all later (told line is same p) =
+first_leaves rack l shelf (reopen.Full size) s old new before after closed failed kept asked all later (told line is same p) =
     subst (λ x. HasLeft rack l x (sinks old new before after)) (sym same) (no_chances, λ t. absurd (closed t))
-first_leaves rack l shelf first.Memory s old new before after closed failed kept asked all later (told line is same p) = absurd (let no : None ≡ Some line = is in cc)
+first_leaves rack l shelf reopen.Memory s old new before after closed failed kept asked all later (told line is same p) = absurd (let no : None ≡ Some line = is in cc)
 
 -- what was left by it is left after the closing too
 unfoldable shelf_with : (left left' : Desk → ℕ → Reopen → Type 0) → ((d : Desk) (k : ℕ) (w : Reopen) → left d k w → left' d k w) → (count : ℕ) (source : Source)
@@ -293,6 +291,7 @@ module _ (rack : Racks) (l : LoadOptions) (left : Desk → ℕ → Reopen → Ty
   unfolding shelf_with
   loses_by shelf reopen.Disk start before t h =
       record { loses = shelf_with left (IsLeft rack.after) f most_steps (source_of l.number) shelf reopen.Disk (spot desk_rules start before) t h.loses; rose = λ e. h.rose }
+  loses_by shelf reopen.NotEmpty start before t h = lost_else shelf reopen.NotEmpty start before t (λ e. let no : ⊥ = cc e in no) h
   loses_by shelf (reopen.Damaged place) start before t h = lost_else shelf (reopen.Damaged place) start before t (λ e. let no : ⊥ = cc e in no) h
   loses_by shelf (reopen.Other place) start before t h = lost_else shelf (reopen.Other place) start before t (λ e. let no : ⊥ = cc e in no) h
   loses_by shelf (reopen.Full size) start before t h = lost_else shelf (reopen.Full size) start before t (λ e. let no : ⊥ = cc e in no) h
@@ -408,15 +407,16 @@ LosesTold rack l k chances = IsLost rack l chances k × RemainsLoaded rack l cha
 
 -- a shelf was not opened again
 pub again_leaves : (rack : Racks) (l : LoadOptions) (shelf : ℕ) (why : Reopen) (s : Status) (old new : Option (List ℕ)) (before after : ℕ)
-    → (IsTrue rack.tells → LostLoad rack l shelf why) → (why ≡ reopen.Disk → ShelfFailed rack shelf) → (IsTrue rack.tells → (place : ℕ) → why ≡ reopen.Damaged place → ⊥)
-    → (IsTrue rack.tells → (place : ℕ) → why ≡ reopen.Other place → ⊥) → TellsUnopened shelf (cause_of why) s (sinks old new before after)
+    → (IsTrue rack.tells → LostLoad rack l shelf why) → (why ≡ reopen.Disk → ShelfFailed rack shelf) → (why ≡ reopen.NotEmpty → ⊥)
+    → (IsTrue rack.tells → (place : ℕ) → why ≡ reopen.Damaged place → ⊥)
+    → (IsTrue rack.tells → (place : ℕ) → why ≡ reopen.Other place → ⊥) → TellsUnopened shelf why s (sinks old new before after)
     → HasLeft rack l s (sinks old new before after)
-again_leaves rack l shelf why s old new before after lost_so failed damaged other (untold is line) =
+again_leaves rack l shelf why s old new before after lost_so failed bytes damaged other (untold is line) =
     memory_leaves rack l s old new before after is line
     (λ t.
     let q = lost_so t in
     let x = remains_lost rack l shelf why q in (chances_of l.options x.0.0, (lost shelf why x.0.1 tt x.0.2 x.0.3 q.begins.began, x.1.0)))
-again_leaves rack l shelf reopen.Disk s old new before after lost_so failed damaged other (told line is same p) =
+again_leaves rack l shelf reopen.Disk s old new before after lost_so failed bytes damaged other (told line is same p) =
     subst (λ x. HasLeft rack l x (sinks old new before after)) (sym same) (x.0, (shelf, failed refl, shown, x.1))
   where
     shown : AppendsUnlessFault old new (disk_line shelf) before after
@@ -429,13 +429,14 @@ again_leaves rack l shelf reopen.Disk s old new before after lost_so failed dama
 
     x : (chances : Chances) × (IsTrue rack.tells → LosesTold rack l shelf chances)
     x = decided rack.tells (LosesTold rack l shelf) no_chances (λ t. here (lost_so t))
-again_leaves rack l shelf (reopen.Damaged place) s old new before after lost_so failed damaged other (told line is same p) =
+again_leaves rack l shelf reopen.NotEmpty s old new before after lost_so failed bytes damaged other (told line is same p) = absurd (bytes refl)
+again_leaves rack l shelf (reopen.Damaged place) s old new before after lost_so failed bytes damaged other (told line is same p) =
     subst (λ x. HasLeft rack l x (sinks old new before after)) (sym same) (no_chances, λ t. absurd (damaged t place refl))
-again_leaves rack l shelf (reopen.Other place) s old new before after lost_so failed damaged other (told line is same p) =
+again_leaves rack l shelf (reopen.Other place) s old new before after lost_so failed bytes damaged other (told line is same p) =
     subst (λ x. HasLeft rack l x (sinks old new before after)) (sym same) (no_chances, λ t. absurd (other t place refl))
-again_leaves rack l shelf (reopen.Full size) s old new before after lost_so failed damaged other (told line is same p) =
+again_leaves rack l shelf (reopen.Full size) s old new before after lost_so failed bytes damaged other (told line is same p) =
     subst (λ x. HasLeft rack l x (sinks old new before after)) (sym same) (no_chances, λ t. absurd (never_full rack l shelf size (lost_so t)))
-again_leaves rack l shelf reopen.Memory s old new before after lost_so failed damaged other (told line is same p) =
+again_leaves rack l shelf reopen.Memory s old new before after lost_so failed bytes damaged other (told line is same p) =
     absurd (let no : None ≡ Some line = is in cc)
 
 -- its steps are events

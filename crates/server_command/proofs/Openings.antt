@@ -12,8 +12,8 @@ use Rattle.trio_rack.proofs.Homes.{below_or_not}
 use Rattle.play_steps.specs.Rules.{StaysUp}
 use Rattle.play_desk.specs.Asking.{AsksForFirst, AsksForNone, AsksForOne, AsksUntil}
 use Rattle.play_desk.specs.Opening.{FailedFor}
-use Rattle.play_desk.specs.declared.opening.OpenCause.{OpenCause}
-use Rattle.play_desk.specs.declared.opening.OpenCause.TheVariants as cause
+use Rattle.play_steps.specs.declared.stage.Reopen.{Reopen}
+use Rattle.play_steps.specs.declared.stage.Reopen.TheVariants as cause
 use Rattle.server_command.specs.Opening.{AsksAsTaken, AsksByCause, HasTaken, IsRefused, IsUntaken, RefusesInOrder, TakesBack, seen_on}
 use Rattle.play_desk.proofs.Asking.{asked_more, asked_none}
 use Rattle.server_command.proofs.Racks.{held_more}
@@ -104,7 +104,7 @@ failed_since number before mid after le up failed =
     let here = up number in let rose = failed.here in record { all = rose_later before.faults mid.faults after.faults le failed.all; here = omega (arith, here, rose) }
 
 -- no disk that holds something was looked at
-pub untaken_refused : (told : Type 0) (risen : ℕ → Type 0) (scripts : List Named) (images : List (List ℕ)) (shelf : ℕ) (why : OpenCause)
+pub untaken_refused : (told : Type 0) (risen : ℕ → Type 0) (scripts : List Named) (images : List (List ℕ)) (shelf : ℕ) (why : Reopen)
     → IsUntaken risen shelf why → IsRefused told risen scripts images shelf why
 untaken_refused told risen scripts images shelf cause.Disk h = h
 untaken_refused told risen scripts images shelf cause.NotEmpty h = h
@@ -206,7 +206,7 @@ until_disk before after count shelf (inl until) = until
 until_disk before after count shelf (inr none) = absurd (let is = none.0 in let no : ⊥ = cc is in no)
 
 -- a disk was not taken, and nothing was written on any
-pub untaken_in_order : (scripts : List Named) (before after : RackView) (count : ℕ) (risen : ℕ → Type 0) (shelf : ℕ) (why : OpenCause)
+pub untaken_in_order : (scripts : List Named) (before after : RackView) (count : ℕ) (risen : ℕ → Type 0) (shelf : ℕ) (why : Reopen)
     → IsUntaken risen shelf why → AsksAsTaken before after count shelf why → LeavesAllDisks before after
     → RefusesInOrder scripts before after count [] shelf why
 untaken_in_order scripts before after count risen shelf cause.Disk h asked left =
@@ -217,7 +217,7 @@ untaken_in_order scripts before after count risen shelf (cause.Other place) h as
 untaken_in_order scripts before after count risen shelf (cause.Full length) h asked left = absurd h
 untaken_in_order scripts before after count risen shelf cause.Memory h asked left = tt
 
-pub untaken_asked : (before after : RackView) (count : ℕ) (risen : ℕ → Type 0) (shelf : ℕ) (why : OpenCause)
+pub untaken_asked : (before after : RackView) (count : ℕ) (risen : ℕ → Type 0) (shelf : ℕ) (why : Reopen)
     → IsUntaken risen shelf why → AsksAsTaken before after count shelf why → AsksByCause before after count shelf why
 untaken_asked before after count risen shelf cause.Disk h asked = inr (until_disk before after count shelf asked)
 untaken_asked before after count risen shelf cause.NotEmpty h asked = absurd h
@@ -227,7 +227,7 @@ untaken_asked before after count risen shelf (cause.Full length) h asked = absur
 untaken_asked before after count risen shelf cause.Memory h asked = ⊎_elim (λ until. inr (inr until)) (λ none. inl none.1) asked
 
 -- all disks were taken
-pub taken_asked : (before after : RackView) (count shelf : ℕ) (why : OpenCause) → AsksForFirst count before after → AsksByCause before after count shelf why
+pub taken_asked : (before after : RackView) (count shelf : ℕ) (why : Reopen) → AsksForFirst count before after → AsksByCause before after count shelf why
 taken_asked before after count shelf cause.Disk asked = inl asked
 taken_asked before after count shelf cause.NotEmpty asked = asked
 taken_asked before after count shelf (cause.Damaged place) asked = asked

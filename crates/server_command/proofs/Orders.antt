@@ -14,8 +14,8 @@ use Rattle.server_command.specs.declared.program.Status.TheVariants as status
 use Rattle.server_command.specs.declared.auditing.AuditEnd.{AuditEnd}
 use Rattle.server_command.specs.declared.serving.ServeFault.{ServeFault}
 use Rattle.server_command.specs.declared.serving.ServeFault.TheVariants as fault
-use Rattle.play_desk.specs.declared.opening.OpenCause.{OpenCause}
-use Rattle.play_desk.specs.declared.opening.OpenCause.TheVariants as cause
+use Rattle.play_steps.specs.declared.stage.Reopen.{Reopen}
+use Rattle.play_steps.specs.declared.stage.Reopen.TheVariants as cause
 use Rattle.play_desk.specs.declared.opening.OpenFault.{OpenFault}
 use Rattle.play_desk.specs.Asking.{AsksForAll, AsksForFirst, AsksForNone, AsksUntil}
 use Rattle.server_command.specs.Opening.{AsksByCause}
@@ -58,10 +58,10 @@ setup_order asks rack shelves bytes out s (inl h) still = faulty_order asks rack
 setup_order asks rack shelves bytes out s (inr h) still = subst (ServesInOrder asks rack shelves) (sym h.0) (inl still.disks.asked)
 
 -- a shelf was not opened
-abbrev Shut : Asks → Racks → (shelves shelf : ℕ) → OpenCause → Type 0
+abbrev Shut : Asks → Racks → (shelves shelf : ℕ) → Reopen → Type 0
 Shut asks rack shelves shelf why = asks.drawn shelves × asks.shut × AsksByCause rack.before rack.after shelves shelf why
 
-few_asked : (rack : Racks) (shelves shelf : ℕ) (why : OpenCause) → AsksByCause rack.before rack.after shelves shelf why → AsksForFew rack shelves
+few_asked : (rack : Racks) (shelves shelf : ℕ) (why : Reopen) → AsksByCause rack.before rack.after shelves shelf why → AsksForFew rack shelves
 few_asked rack shelves shelf cause.Disk (inl all) = inr (inl all)
 few_asked rack shelves shelf cause.Disk (inr until) = inr (inr (shelf, until))
 few_asked rack shelves shelf cause.NotEmpty all = inr (inl all)
@@ -72,7 +72,7 @@ few_asked rack shelves shelf cause.Memory (inl none) = inl none
 few_asked rack shelves shelf cause.Memory (inr (inl all)) = inr (inl all)
 few_asked rack shelves shelf cause.Memory (inr (inr until)) = inr (inr (shelf, until))
 
-shut_order : (asks : Asks) (rack : Racks) (shelves shelf : ℕ) (why : OpenCause) → Shut asks rack shelves shelf why
+shut_order : (asks : Asks) (rack : Racks) (shelves shelf : ℕ) (why : Reopen) → Shut asks rack shelves shelf why
     → ServesInOrder asks rack shelves (unopened_status why)
 shut_order asks rack shelves shelf cause.Disk (drawn, shut, inl all) = (drawn, shut, inl all)
 shut_order asks rack shelves shelf cause.Disk (drawn, shut, inr until) = (drawn, shut, inr (shelf, until))
@@ -82,7 +82,7 @@ shut_order asks rack shelves shelf (cause.Other place) p = p
 shut_order asks rack shelves shelf (cause.Full length) p = p
 shut_order asks rack shelves shelf cause.Memory p = few_asked rack shelves shelf cause.Memory p.2
 
-unopened_order : (asks : Asks) (rack : Racks) (shelves shelf : ℕ) (why : OpenCause) (out : Sinks) (s : Status) → Shut asks rack shelves shelf why
+unopened_order : (asks : Asks) (rack : Racks) (shelves shelf : ℕ) (why : Reopen) (out : Sinks) (s : Status) → Shut asks rack shelves shelf why
     → TellsUnopened shelf why s out → ServesInOrder asks rack shelves s
 unopened_order asks rack shelves shelf why out s p (told line is same prints) =
     subst (ServesInOrder asks rack shelves) (sym same) (shut_order asks rack shelves shelf why p)
@@ -143,7 +143,7 @@ pub memory_asked : (rack : Racks) (shelves : ℕ) (s : Status) → s ≡ status.
     → PlaysInOrder rack shelves s
 memory_asked rack shelves s is asked = subst (PlaysInOrder rack shelves) (sym is) asked
 
-cause_asked : (rack : Racks) (shelves : ℕ) (why : OpenCause) → AsksForShelves rack shelves → PlaysInOrder rack shelves (unopened_status why)
+cause_asked : (rack : Racks) (shelves : ℕ) (why : Reopen) → AsksForShelves rack shelves → PlaysInOrder rack shelves (unopened_status why)
 cause_asked rack shelves cause.Disk asked = asked
 cause_asked rack shelves cause.NotEmpty asked = asked
 cause_asked rack shelves (cause.Damaged place) asked = asked
@@ -151,7 +151,7 @@ cause_asked rack shelves (cause.Other place) asked = asked
 cause_asked rack shelves (cause.Full length) asked = asked
 cause_asked rack shelves cause.Memory asked = inr asked
 
-pub unopened_asked : (rack : Racks) (shelves shelf : ℕ) (why : OpenCause) (s : Status) (out : Sinks) → TellsUnopened shelf why s out
+pub unopened_asked : (rack : Racks) (shelves shelf : ℕ) (why : Reopen) (s : Status) (out : Sinks) → TellsUnopened shelf why s out
     → AsksForShelves rack shelves → PlaysInOrder rack shelves s
 unopened_asked rack shelves shelf why s out (told line is same prints) asked =
     subst (PlaysInOrder rack shelves) (sym same) (cause_asked rack shelves why asked)

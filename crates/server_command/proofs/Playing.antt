@@ -28,8 +28,6 @@ use Rattle.play_desk.specs.Desk.{Desk, desk_rules, is_fault}
 use Rattle.play_desk.specs.Laws.{TranscriptsAreRuns}
 use Rattle.play_desk.specs.Asking.{AsksForFirst, AsksUntil}
 use Rattle.play_desk.specs.Opening.{AllStayKept, HoldTheBooks, IsClosedBy, IsLeft}
-use Rattle.play_desk.specs.declared.opening.OpenCause.{OpenCause}
-use Rattle.play_desk.specs.declared.opening.OpenCause.TheVariants as cause
 use Rattle.server_command.specs.Racks.{Racks, AreHeld, AreTaken, HaveBegun, ShelfFailed, full, not_empty, first_unfit, unfit_new, disk_line, unfit_line, held_anew}
 use Rattle.server_command.specs.Output.{Chances, Output, output_of, desk_for, run_of, steps_for, finished, ended, sinks, Tells, BreaksOff, at_line, replies, at_first, at_crash, unless_shut}
 use Rattle.server_command.specs.Remains.{AreAllKept, HaveFailed, IsAny, IsBehind, IsFailed, IsLostBehind, IsUnopened, Loses, Pauses, Remains, RemainsShut, RemainsUnwritten, TellsOutgrown, unopened, performed, lost}
@@ -485,7 +483,7 @@ outgrown_outputs rack o bytes setup shelf size old mid new before between after 
 -- ---- a run of steps that does not begin
 
 pub unread_outputs : (rack : Racks) (o : Options) (bytes : List ℕ) (setup : Parsed) (shelf : ℕ) (old new : Option (List ℕ)) (before after : ℕ)
-    → setup_of Steps bytes ≡ Ok setup → ShelfFailed rack shelf → (IsTrue rack.tells → IsUnopened rack setup.scripts shelf cause.Disk)
+    → setup_of Steps bytes ≡ Ok setup → ShelfFailed rack shelf → (IsTrue rack.tells → IsUnopened rack setup.scripts shelf reopen.Disk)
     → AppendsUnlessFault old new (disk_line shelf) before after → Outputs rack (Play o) bytes status.Disk (sinks old new before after)
 unread_outputs rack o bytes setup shelf old new before after h failed kept told = (
   no_chances,
@@ -497,7 +495,7 @@ unread_outputs rack o bytes setup shelf old new before after h failed kept told 
       at_first o refl,
       tells old old new [] (disk_line shelf) before after (appends_none old) told,
       subst (λ (r : Result Parsed Fault). Remains rack (Play o) r no_chances [] (IsFailed shelf) 1) (sym h) (
-        unopened shelf cause.Disk (refl, refl) refl (kept (tells_of rack o bytes setup h settles)),
+        unopened shelf reopen.Disk (refl, refl) refl (kept (tells_of rack o bytes setup h settles)),
         (let none : count_by is_fault [] ≡ 0 = refl in let rose = failed.all in omega (arith, none, rose)),
       ),
     ),
@@ -505,22 +503,22 @@ unread_outputs rack o bytes setup shelf old new before after h failed kept told 
 )
 
 -- the disks before the first that is not opened may hold nothing
-pub closed_before : (rack : RackView) (count shelf : ℕ) (why : OpenCause) → IsClosedBy rack count shelf why → (k : ℕ) → k < shelf → MayBeBare rack k
-closed_before rack count shelf cause.NotEmpty h = h.1.before
-closed_before rack count shelf (cause.Damaged place) h = absurd h
-closed_before rack count shelf (cause.Other place) h = absurd h
-closed_before rack count shelf (cause.Full length) h = absurd h
-closed_before rack count shelf cause.Disk h = h.1
-closed_before rack count shelf cause.Memory h = h.1
+pub closed_before : (rack : RackView) (count shelf : ℕ) (why : Reopen) → IsClosedBy rack count shelf why → (k : ℕ) → k < shelf → MayBeBare rack k
+closed_before rack count shelf reopen.NotEmpty h = h.1.before
+closed_before rack count shelf (reopen.Damaged place) h = absurd h
+closed_before rack count shelf (reopen.Other place) h = absurd h
+closed_before rack count shelf (reopen.Full length) h = absurd h
+closed_before rack count shelf reopen.Disk h = h.1
+closed_before rack count shelf reopen.Memory h = h.1
 
-pub is_unopened : (rack : Racks) (scripts : List Named) (count shelf : ℕ) (why : OpenCause) → IsClosedBy rack.before count shelf why
-    → (why ≡ cause.Disk → ShelfFailed rack shelf) → AllStayKept scripts (shelves_of rack.before).holds (shelves_of rack.after).holds shelf why
+pub is_unopened : (rack : Racks) (scripts : List Named) (count shelf : ℕ) (why : Reopen) → IsClosedBy rack.before count shelf why
+    → (why ≡ reopen.Disk → ShelfFailed rack shelf) → AllStayKept scripts (shelves_of rack.before).holds (shelves_of rack.after).holds shelf why
     → AsksUntil (shelf + 1) shelf rack.before rack.after → IsUnopened rack scripts shelf why
 is_unopened rack scripts count shelf why closed failed kept asked =
     record { asked = inl asked; before = closed_before rack.before count shelf why closed; failed = failed; kept = kept }
 
 -- memory ran out, or was not there to tell why a shelf was not opened
-pub unopened_early : (rack : Racks) (o : Options) (bytes : List ℕ) (setup : Parsed) (shelf : ℕ) (why : OpenCause) (s : Status) (old new : Option (List ℕ)) (before after : ℕ)
+pub unopened_early : (rack : Racks) (o : Options) (bytes : List ℕ) (setup : Parsed) (shelf : ℕ) (why : Reopen) (s : Status) (old new : Option (List ℕ)) (before after : ℕ)
     → setup_of Steps bytes ≡ Ok setup → (IsTrue rack.tells → IsUnopened rack setup.scripts shelf why) → rack.before.faults ≤ rack.after.faults → s ≡ status.Memory
     → AppendsUnlessFault old new (codes "error 10 memory\n") before after → Outputs rack (Play o) bytes s (sinks old new before after)
 unopened_early rack o bytes setup shelf why s old new before after h kept later is line =
@@ -549,7 +547,7 @@ some_held holds (suc n) k image m is each here =
     (each k (omega (arith, is)), some_held holds n (k + 1) image m (omega (arith, is)) each here)
 
 -- nothing was lost where one disk is not empty, and those after it were not taken
-pub all_stay : (rack : Racks) (scripts : List Named) (shelf : ℕ) (image : List ℕ) → AllStayKept scripts (shelves_of rack.before).holds (shelves_of rack.after).holds shelf cause.NotEmpty
+pub all_stay : (rack : Racks) (scripts : List Named) (shelf : ℕ) (image : List ℕ) → AllStayKept scripts (shelves_of rack.before).holds (shelves_of rack.after).holds shelf reopen.NotEmpty
     → AsksForFirst (shelf + 1) rack.before rack.after → AreAllKept rack scripts (length (replicate shelf [] ++ image ∷ []))
 all_stay rack scripts shelf image stay asked = record {
   asked =
@@ -564,13 +562,13 @@ all_stay rack scripts shelf image stay asked = record {
 
 pub some_outputs : (rack : Racks) (o : Options) (bytes : List ℕ) (setup : Parsed) (shelf : ℕ) (old new : Option (List ℕ)) (before after : ℕ)
     → setup_of Steps bytes ≡ Ok setup → (IsTrue rack.tells → HoldsSome rack o shelf)
-    → (IsTrue rack.tells → AllStayKept setup.scripts (shelves_of rack.before).holds (shelves_of rack.after).holds shelf cause.NotEmpty)
+    → (IsTrue rack.tells → AllStayKept setup.scripts (shelves_of rack.before).holds (shelves_of rack.after).holds shelf reopen.NotEmpty)
     → AsksForFirst (shelf + 1) rack.before rack.after → AppendsUnlessFault old new (unfit_line shelf not_empty) before after → Outputs rack (Play o) bytes status.Journal (sinks old new before after)
 some_outputs rack o bytes setup shelf old new before after h held kept asked told =
     by_tells rack o bytes setup h (λ chances. LeavesShut rack (Play o) bytes chances (sinks old new before after))
     (λ t. let x = shut (held t) (kept t) in (x.0, inl x.1))
   where
-    shut : HoldsSome rack o shelf → AllStayKept setup.scripts (shelves_of rack.before).holds (shelves_of rack.after).holds shelf cause.NotEmpty
+    shut : HoldsSome rack o shelf → AllStayKept setup.scripts (shelves_of rack.before).holds (shelves_of rack.after).holds shelf reopen.NotEmpty
         → (chances : Chances) × (Gives rack (Play o) bytes chances 8 (sinks old new before after) × RemainsShut rack (Play o) (setup_of Steps bytes) chances)
     shut p stay =
         let images : List (List ℕ) = replicate shelf [] ++ (p.byte ∷ p.bytes) ∷ [] in

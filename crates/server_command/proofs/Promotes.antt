@@ -26,8 +26,8 @@ use Rattle.page_follower.specs.OfShelf.declared.shelf.Shelf.{Shelf}
 use Rattle.play_steps.specs.Rules.{StaysUp}
 use Rattle.play_desk.specs.Asking.{numbers_below}
 use Rattle.play_desk.specs.Opening.{AreHome}
-use Rattle.play_desk.specs.declared.opening.OpenCause.{OpenCause}
-use Rattle.play_desk.specs.declared.opening.OpenCause.TheVariants as cause
+use Rattle.play_steps.specs.declared.stage.Reopen.{Reopen}
+use Rattle.play_steps.specs.declared.stage.Reopen.TheVariants as cause
 use Rattle.play_desk.proofs.Asking.{asked_none, asked_one_more, asked_until}
 use Rattle.server_command.specs.declared.program.Status.{Status}
 use Rattle.server_command.specs.declared.program.Status.TheVariants as status
@@ -71,7 +71,7 @@ module _ {D : Type 0} (view : D → View) (tells : Bool) where
   settled s t (inr p) none = p.readable.settled t
 
 -- what a promotion came to, as it is told
-abbrev pub promoted_for : Result Bool Reply → Result Bool OpenCause
+abbrev pub promoted_for : Result Bool Reply → Result Bool Reopen
 promoted_for (Ok followed) = Ok followed
 promoted_for (Err r) = Err (unpromoted_for r)
 
@@ -97,7 +97,7 @@ module _ {D : Type 0} (view : D → View) (tells told : Bool) (before mid after 
       (let none = h.fresh in omega (arith, none, rose))
 
   module _ (moments : IsTrue tells → AddsThroughout view s new (body_of promotes)) where
-    unpromoted : (why : OpenCause) → CanBeFed s → (IsTrue told → CannotPromote (bodies_after shelf (view h.taken).seen) why)
+    unpromoted : (why : Reopen) → CanBeFed s → (IsTrue told → CannotPromote (bodies_after shelf (view h.taken).seen) why)
         → (IsTrue told → why ≢ cause.Disk → KeepsRecords shelf [] (view h.taken) (view new.journal.disk))
         → IsUnpromoted view (IsTrue told) before after shelf why
     unpromoted why can cannot keeps = record {
@@ -113,7 +113,7 @@ module _ {D : Type 0} (view : D → View) (tells told : Bool) (before mid after 
     }
 
     -- nothing was written after the opening
-    still : (why : OpenCause) → following.StaysFed view s new → (IsTrue told → CannotPromote (bodies_after shelf (view h.taken).seen) why)
+    still : (why : Reopen) → following.StaysFed view s new → (IsTrue told → CannotPromote (bodies_after shelf (view h.taken).seen) why)
         → IsUnpromoted view (IsTrue told) before after shelf why
     still why p cannot =
         unpromoted why p.could cannot
@@ -170,13 +170,13 @@ module _ {D : Type 0} (view : D → View) (tells told : Bool) (before mid after 
     promotes_one (Err r) p = absurd p
 
 -- a shelf was not opened
-pub shut_one : {D : Type 0} (view : D → View) (rack : Racks) (shelf : ℕ) (why : OpenCause) → StaysShut view false rack shelf why
+pub shut_one : {D : Type 0} (view : D → View) (rack : Racks) (shelf : ℕ) (why : Reopen) → StaysShut view false rack shelf why
     → PromotesOne view rack shelf (Err why)
 shut_one view rack shelf why p = (p.failed, inl p.shut)
 
 -- ---- what is told after a text
 
-pub tells_behind : (text : List ℕ) (shelf : ℕ) (why : OpenCause) (how : Status) (old mid new : Option (List ℕ)) (first between last : ℕ) → first ≤ between
+pub tells_behind : (text : List ℕ) (shelf : ℕ) (why : Reopen) (how : Status) (old mid new : Option (List ℕ)) (first between last : ℕ) → first ≤ between
     → Appends old mid text → TellsUnopened shelf why how (sinks mid new between last) → TellsBehind text shelf why how (sinks old new first last)
 tells_behind text shelf why how old mid new first between last le front (telling.told line is same prints) =
     told_behind line is same (tells_line old mid new text line first last front (since mid new line first between last le prints))
@@ -211,7 +211,7 @@ promoted_wider view told first before after last shelf followed front back p = r
   lawful = p.lawful;
 }
 
-unpromoted_wider : {D : Type 0} (view : D → View) (told : Type 0) (first before after : RackView) (shelf : ℕ) (why : OpenCause)
+unpromoted_wider : {D : Type 0} (view : D → View) (told : Type 0) (first before after : RackView) (shelf : ℕ) (why : Reopen)
     → (told → AreAmong ((shelves_of before).holds shelf) ((shelves_of first).holds shelf))
     → IsUnpromoted view told before after shelf why → IsUnpromoted view told first after shelf why
 unpromoted_wider view told first before after shelf why front p = record {
@@ -226,7 +226,7 @@ unpromoted_wider view told first before after shelf why front p = record {
   keeps = p.keeps;
 }
 
-shut_wider : {D : Type 0} (view : D → View) (told : Type 0) (fed : Bool) (first before after : RackView) (shelf : ℕ) (why : OpenCause)
+shut_wider : {D : Type 0} (view : D → View) (told : Type 0) (fed : Bool) (first before after : RackView) (shelf : ℕ) (why : Reopen)
     → (told → AreAmong ((shelves_of before).holds shelf) ((shelves_of first).holds shelf))
     → IsShut view told fed before after shelf why → IsShut view told fed first after shelf why
 shut_wider view told fed first before after shelf why front (untaken outside among) = untaken outside (λ t image h. front t image (among t image h))
@@ -284,7 +284,7 @@ module _ {D : Type 0} (view : D → View) (tells : Bool) (before now after : Rac
   }
 
   -- one was not
-  stops_at : (count : ℕ) (followed : List Bool) (why : OpenCause) → length followed < count → HavePromoted view (racks_of tells before now) followed
+  stops_at : (count : ℕ) (followed : List Bool) (why : Reopen) → length followed < count → HavePromoted view (racks_of tells before now) followed
       → StaysUp (shelves_of before).failed (shelves_of now).failed → PromotesOne view (racks_of tells now after) (length followed) (Err why)
       → AsksOne (racks_of tells now after) (length followed) → StopsAtShelf view (racks_of tells before after) count followed why
   stops_at count followed why low p up q rest = record {
@@ -363,7 +363,7 @@ module _ {D : Type 0} (view : D → View) (tells : Bool) (before now after : Rac
   untold_leaves count f how first between last low le q line = absurd line
 
   -- one was not promoted, and that was told
-  pub stopped_leaves : (count : ℕ) (why : OpenCause) (how : Status) (first between last : ℕ) → n < count → first ≤ between
+  pub stopped_leaves : (count : ℕ) (why : Reopen) (how : Status) (first between last : ℕ) → n < count → first ≤ between
       → PromotesOne view (racks_of tells now after) n (Err why) → TellsUnopened n why how (sinks mid new between last)
       → LeavesPromotes view (racks_of tells before after) count how (sinks old new first last)
   stopped_leaves count why how first between last low le q line =

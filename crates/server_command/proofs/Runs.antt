@@ -170,6 +170,7 @@ paused rack o scripts text old mid first last before after b left f h books from
 pub loses : (left : Desk → ℕ → Reopen → Type 0) (steps : List (Option Step)) (shelf : ℕ) (why : Reopen) (before after : Scene desk_rules)
     → Leaves desk_rules left steps (Lost_at shelf why) before after → LosesBy left steps shelf why before after
 loses left steps shelf reopen.Disk before after p = record { loses = p.loses; rose = λ e. p.rose }
+loses left steps shelf reopen.NotEmpty before after p = record { loses = p; rose = λ e. absurd (let no : ⊥ = cc e in no) }
 loses left steps shelf (reopen.Damaged place) before after p = record { loses = p; rose = λ e. absurd (let no : ⊥ = cc e in no) }
 loses left steps shelf (reopen.Other place) before after p = record { loses = p; rose = λ e. absurd (let no : ⊥ = cc e in no) }
 loses left steps shelf (reopen.Full size) before after p = record { loses = p; rose = λ e. absurd (let no : ⊥ = cc e in no) }

@@ -27,8 +27,8 @@ use Rattle.server_command.specs.declared.program.Status.TheVariants as status
 use Rattle.server_command.specs.declared.auditing.AuditEnd.{AuditEnd}
 use Rattle.server_command.specs.declared.serving.ServeFault.{ServeFault}
 use Rattle.server_command.specs.declared.serving.ServeFault.TheVariants as fault
-use Rattle.play_desk.specs.declared.opening.OpenCause.{OpenCause}
-use Rattle.play_desk.specs.declared.opening.OpenCause.TheVariants as cause
+use Rattle.play_steps.specs.declared.stage.Reopen.{Reopen}
+use Rattle.play_steps.specs.declared.stage.Reopen.TheVariants as cause
 use Rattle.play_desk.specs.declared.opening.OpenFault.{OpenFault}
 use Rattle.server_command.specs.Command.{TellsFaultLine, TellsNoSetup}
 use Rattle.server_command.specs.Opening.{FailsAt, IsRefused, LeavesFrom, OpensOn, RefusesInOrder, RefusesOn}
@@ -143,12 +143,12 @@ pub refuses_of : {D P L N : Type 0} (o : Outside D P L N) (s : Service) (scripts
     → (p : RefusesOn (IsTrue o.rack.tells) scripts s.options.shelves o.rack.before o.rack.after f) → ServesBy (serves_over o) s scripts p.images (Err (fault.Shelf f))
 refuses_of o s scripts f none p = (none, by_why f.why p.refused p.in_order p.kept)
   where
-    Keeps : OpenCause → Type 0
+    Keeps : Reopen → Type 0
     Keeps w =
         IsTrue o.rack.tells → (k : ℕ) (read left : List ℕ) → slice_get p.images k ≡ Some read → (shelves_of o.rack.after).holds k left → (w ≡ cause.Disk → k ≢ f.shelf)
         → IsKept scripts k ((shelves_of o.rack.before).holds k) read left
 
-    all_kept : (w : OpenCause) → IsTrue o.rack.tells → Keeps w → (w ≡ cause.Disk → ⊥) → NoneIsLost o.rack scripts p.images
+    all_kept : (w : Reopen) → IsTrue o.rack.tells → Keeps w → (w ≡ cause.Disk → ⊥) → NoneIsLost o.rack scripts p.images
     all_kept w t kept not = record {
       held = p.held t;
       read = λ k read left read_is left_is. kept t k read left read_is left_is (λ e. absurd (not e));
@@ -156,7 +156,7 @@ refuses_of o s scripts f none p = (none, by_why f.why p.refused p.in_order p.kep
     }
 
     -- nothing was opened on what a disk holds
-    shuts : (w : OpenCause) (why : Unfit) → (IsTrue o.rack.tells → first_unfit (unfit_left scripts) 0 p.images ≡ Some (f.shelf, why))
+    shuts : (w : Reopen) (why : Unfit) → (IsTrue o.rack.tells → first_unfit (unfit_left scripts) 0 p.images ≡ Some (f.shelf, why))
         → (IsTrue o.rack.tells → AsksForFirst s.options.shelves o.rack.before o.rack.after × (length p.images ≡ s.options.shelves) × AreBare o.rack.before o.rack.after p.images f.shelf) → Keeps w
         → (w ≡ cause.Disk → ⊥) → Shuts o.rack s scripts p.images f.shelf why
     shuts w why h order kept not t = (
@@ -168,7 +168,7 @@ refuses_of o s scripts f none p = (none, by_why f.why p.refused p.in_order p.kep
       (order t).2,
     )
 
-    by_why : (w : OpenCause) → IsRefused (IsTrue o.rack.tells) (FailsAt s.options.shelves o.rack.before o.rack.after) scripts p.images f.shelf w
+    by_why : (w : Reopen) → IsRefused (IsTrue o.rack.tells) (FailsAt s.options.shelves o.rack.before o.rack.after) scripts p.images f.shelf w
         → (IsTrue o.rack.tells → RefusesInOrder scripts o.rack.before o.rack.after s.options.shelves p.images f.shelf w) → Keeps w
         → ShutsBy o.rack s scripts p.images f.shelf w
     by_why cause.Disk h order kept = (
@@ -201,7 +201,7 @@ memory_left serves v bytes s out door seeds is line none rest =
     subst (λ (x : Status). (chances : Chances) × LeavesInput serves v bytes chances x out door seeds) (sym is) (no_chances, (line, inl (none, rest)))
 
 -- what is kept where a shelf was not opened
-keeps_but : (rack : Racks) (v : Service) (scripts : List Named) (images : List (List ℕ)) (shelf : ℕ) (why : OpenCause) → ShutsBy rack v scripts images shelf why
+keeps_but : (rack : Racks) (v : Service) (scripts : List Named) (images : List (List ℕ)) (shelf : ℕ) (why : Reopen) → ShutsBy rack v scripts images shelf why
     → KeepsAllBut rack scripts images
 keeps_but rack v scripts images shelf cause.Disk h = inr (shelf, h.1, h.2)
 keeps_but rack v scripts images shelf cause.NotEmpty h = absurd h
@@ -211,7 +211,7 @@ keeps_but rack v scripts images shelf (cause.Full length) h = inl (λ t. (h t).2
 keeps_but rack v scripts images shelf cause.Memory h = inl h
 
 -- a shelf was not opened, and that was told
-pub shuts_told : (serves : Serves) (v : Service) (scripts : List Named) (images : List (List ℕ)) (shelf : ℕ) (why : OpenCause) (s : Status) (out : Sinks)
+pub shuts_told : (serves : Serves) (v : Service) (scripts : List Named) (images : List (List ℕ)) (shelf : ℕ) (why : Reopen) (s : Status) (out : Sinks)
     (door seeds : Faults) → serves.unopened × ShutsBy serves.rack v scripts images shelf why → TellsUnopened shelf why s out
     → LeavesServing serves v scripts images s out door seeds
 shuts_told serves v scripts images shelf why s out door seeds by (untold is line) =

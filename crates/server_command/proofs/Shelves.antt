@@ -26,11 +26,11 @@ use Rattle.play_desk.proofs.Closing.{holds_book}
 use Rattle.site_serving.specs.Pages.{faults_told}
 use Rattle.site_serving.specs.Serving.{AreEnded, AreUntouched, IsEnded, opened_as, openings_of}
 use Rattle.command_words.specs.declared.Options.{Options}
-use Rattle.play_desk.specs.declared.opening.OpenCause.TheVariants as cause
+use Rattle.play_steps.specs.declared.stage.Reopen.TheVariants as cause
 use Rattle.server_command.specs.Opening.{AreAsked, IsRefused, RefusesInOrder, seen_on}
 use Rattle.server_command.specs.Output.{rules_for}
 use Rattle.play_desk.specs.Asking.{AsksForFirst}
-use Rattle.play_desk.specs.Opening.{IsKept, IsReadAtRest, cause_of, reopen_of}
+use Rattle.play_desk.specs.Opening.{IsKept, IsReadAtRest, reopen_of}
 use Rattle.server_command.specs.Racks.{AreBare, IsBare, Unfit, found_unfit, first_unfit, unfit_file, unfit_left, unfit_made, unfit_read, damaged, other, full}
 use Rattle.server_command.specs.Serving.{AreOpened, AreOwn, IsOpened, StandsBehind}
 use Rattle.server_command.proofs.Unfit.{long_anew, long_behind, made_fits}
@@ -163,7 +163,7 @@ first_bad view scripts k (suc i) n (x ∷ disks) d why is fit here bad =
 pub refused_at : {D N : Type 0} (view : D → View) (tells : Bool) (scripts : List Named) (told : Type 0) (disks : List D) (nonces : List N)
     (f : SiteFault D N) (risen : ℕ → Type 0) → (told → IsTrue tells) → IsNotBegun view tells scripts disks nonces f
     → ((k : ℕ) (e : D) → slice_get f.disks.items k ≡ Some e → 1 ≤ (view e).faults → risen k)
-    → IsRefused told (λ k. (k < length disks) × risen k) scripts (seen_on view disks) f.shelf (cause_of (reopen_of f.fault))
+    → IsRefused told (λ k. (k < length disks) × risen k) scripts (seen_on view disks) f.shelf (reopen_of f.fault)
 refused_at {D = D} view tells scripts told disks nonces f risen knows not rises = by_fault f.fault refl
   where
     there : (d : D) × (slice_get disks f.shelf ≡ Some d)
@@ -193,7 +193,7 @@ refused_at {D = D} view tells scripts told disks nonces f risen knows not rises 
     too_long size (inl anew) = long_anew scripts f.shelf (view there.0).seen size anew
     too_long size (inr behind) = long_behind scripts f.shelf (view there.0).seen size behind
 
-    by_fault : (e : BeginFault) → f.fault ≡ e → IsRefused told (λ k. (k < length disks) × risen k) scripts (seen_on view disks) f.shelf (cause_of (reopen_of e))
+    by_fault : (e : BeginFault) → f.fault ≡ e → IsRefused told (λ k. (k < length disks) × risen k) scripts (seen_on view disks) f.shelf (reopen_of e)
     by_fault (fault.Damaged place) is = λ t. found t (damaged place) (unread_at (why_not t (fault.Damaged place) is))
     by_fault (fault.Other place) is = λ t. found t (other place) (unread_at (why_not t (fault.Other place) is))
     by_fault (fault.Full size) is = λ t.
@@ -233,14 +233,14 @@ pub refused_in_order : {D N : Type 0} (view : D → View) (tells : Bool) (script
     (before after : RackView) (count : ℕ) → IsTrue tells → ((d : D) → (view d).images (view d).seen) → IsNotBegun view tells scripts disks nonces f → length (seen_on view disks) ≡ count
     → ((k : ℕ) (d : D) → slice_get disks k ≡ Some d → AreAmong (view d).images ((shelves_of before).holds k))
     → ((k : ℕ) (e : D) → slice_get f.disks.items k ≡ Some e → AreAmong ((shelves_of after).holds k) (view e).images)
-    → AsksForFirst count before after → RefusesInOrder scripts before after count (seen_on view disks) f.shelf (cause_of (reopen_of f.fault))
+    → AsksForFirst count before after → RefusesInOrder scripts before after count (seen_on view disks) f.shelf (reopen_of f.fault)
 refused_in_order view tells scripts disks nonces f before after count t reads not many held given asked = by_fault f.fault refl
   where
     bare : (e : BeginFault) → f.fault ≡ e → (e ≡ fault.Memory → ⊥) → (e ≡ fault.DiskFault → ⊥) → AreBare before after (seen_on view disks) f.shelf
     bare e is memory disk =
         bare_at view tells scripts disks nonces f before after t reads not held given (λ m. memory (sym is ∙ m)) f.shelf (omega arith) (λ here d. disk (sym is ∙ d))
 
-    by_fault : (e : BeginFault) → f.fault ≡ e → RefusesInOrder scripts before after count (seen_on view disks) f.shelf (cause_of (reopen_of e))
+    by_fault : (e : BeginFault) → f.fault ≡ e → RefusesInOrder scripts before after count (seen_on view disks) f.shelf (reopen_of e)
     by_fault (fault.Damaged place) is = (asked, many, bare (fault.Damaged place) is (λ m. let no : ⊥ = cc m in no) (λ d. let no : ⊥ = cc d in no))
     by_fault (fault.Other place) is = (asked, many, bare (fault.Other place) is (λ m. let no : ⊥ = cc m in no) (λ d. let no : ⊥ = cc d in no))
     by_fault (fault.Full size) is = (asked, many, bare (fault.Full size) is (λ m. let no : ⊥ = cc m in no) (λ d. let no : ⊥ = cc d in no))
@@ -262,13 +262,13 @@ pub kept_at : {D N : Type 0} (view : D → View) (tells : Bool) (scripts : List 
     (f : SiteFault D N) (before after : ℕ → List ℕ → Type 0) → (told → IsTrue tells) → (told → (d : D) → (view d).images (view d).seen) → IsNotBegun view tells scripts disks nonces f
     → (told → (k : ℕ) (d : D) → slice_get disks k ≡ Some d → AreAmong (view d).images (before k))
     → (told → (k : ℕ) (e : D) → slice_get f.disks.items k ≡ Some e → AreAmong (after k) (view e).images)
-    → told → (k : ℕ) (read left : List ℕ) → slice_get (seen_on view disks) k ≡ Some read → after k left → (cause_of (reopen_of f.fault) ≡ cause.Disk → k ≢ f.shelf)
+    → told → (k : ℕ) (read left : List ℕ) → slice_get (seen_on view disks) k ≡ Some read → after k left → (reopen_of f.fault ≡ cause.Disk → k ≢ f.shelf)
     → IsKept scripts k (before k) read left
 kept_at view tells scripts told disks nonces f before after knows reads not held given t k read left read_is left_is but =
     let d = map_get (λ x. (view x).seen) disks k read read_is in
     let low = slice_get_within disks k d.0 d.1 in
     let e = get_there f.disks.items k (let size = not.disks_back.returned.many in omega (arith, low, size)) in
-    let keeps = not.disks_back.keep (knows t) k d.0 e.0 d.1 e.1 (λ here why. but (ap (λ (e : BeginFault). cause_of (reopen_of e)) why) here) in
+    let keeps = not.disks_back.keep (knows t) k d.0 e.0 d.1 e.1 (λ here why. but (ap (λ (e : BeginFault). reopen_of e) why) here) in
     subst (λ r. IsKept scripts k (before k) r left) d.2
     (nothing_lost scripts k (view d.0) (view e.0) (before k) (held t k d.0 d.1 (view d.0).seen (reads t d.0)) (held t k d.0 d.1) keeps left (given t k e.0 e.1 left left_is))
 

@@ -25,8 +25,8 @@ use Rattle.page_follower.specs.OfShelf.declared.shelf.Shelf.{Shelf}
 use Rattle.play_steps.specs.Rules.{StaysUp}
 use Rattle.play_desk.specs.Asking.{AsksForNone, AsksForOne, AsksForSome}
 use Rattle.play_desk.specs.Opening.{GivesOne, TakesOne}
-use Rattle.play_desk.specs.declared.opening.OpenCause.{OpenCause}
-use Rattle.play_desk.specs.declared.opening.OpenCause.TheVariants as cause
+use Rattle.play_steps.specs.declared.stage.Reopen.{Reopen}
+use Rattle.play_steps.specs.declared.stage.Reopen.TheVariants as cause
 use Rattle.server_command.specs.declared.feeding.Opening.{Opening}
 use Rattle.server_command.specs.declared.feeding.Opening.TheVariants as opening
 use Rattle.server_command.specs.Racks.{Racks, ShelfFailed}
@@ -48,7 +48,7 @@ abbrev pub follows_on : (fed : Bool) → (shelf : ℕ) → List ℕ → Bool
 follows_on fed shelf image = follows_by (made_in (opened_bare fed shelf (now_in_bytes shelf image)))
 
 -- The bytes are why a shelf is not opened on them without a setup, unless the outside failed. It asks for no empty disks.
-abbrev pub IsUnfitBare : (shelf : ℕ) → List ℕ → OpenCause → Type 0
+abbrev pub IsUnfitBare : (shelf : ℕ) → List ℕ → Reopen → Type 0
 IsUnfitBare shelf image cause.Disk = ⊤
 IsUnfitBare shelf image cause.NotEmpty = ⊥
 IsUnfitBare shelf image (cause.Damaged place) = book_in_bytes setup_of_texts shelf image ≡ damaged place
@@ -57,7 +57,7 @@ IsUnfitBare shelf image (cause.Full n) = IsTooLongAnew (format_of image) shelf (
 IsUnfitBare shelf image cause.Memory = ⊤
 
 -- why disks were not taken
-abbrev pub untaken_for : RackFault → OpenCause
+abbrev pub untaken_for : RackFault → Reopen
 untaken_for rack_fault.Failed = cause.Disk
 untaken_for rack_fault.Memory = cause.Memory
 
@@ -105,14 +105,14 @@ pub record AreLent {D : Type 0} (view : D → View) (told : Type 0) (before afte
   pub left : told → AreAmong ((shelves_of after).holds shelf) (view given).images
 
 -- the outside failed, or memory ran out
-abbrev pub IsOutside : OpenCause → Type 0
+abbrev pub IsOutside : Reopen → Type 0
 IsOutside cause.Disk = ⊤
 IsOutside cause.Memory = ⊤
 IsOutside _ = ⊥
 
 -- Why a shelf was not opened without a setup, and what is left of its disks: they were not taken, and nothing was written on them; or they were, and
 -- unless a call of one failed, nothing was lost on them and nothing added.
-pub data IsShut {D : Type 0} (view : D → View) (told : Type 0) (fed : Bool) (before after : RackView) (shelf : ℕ) (why : OpenCause) : Type 0 where
+pub data IsShut {D : Type 0} (view : D → View) (told : Type 0) (fed : Bool) (before after : RackView) (shelf : ℕ) (why : Reopen) : Type 0 where
   untaken : IsOutside why → (told → AreAmong ((shelves_of after).holds shelf) ((shelves_of before).holds shelf))
       → IsShut view told fed before after shelf why
   refused : (taken given : D) → AreLent view told before after shelf taken given → (told → IsUnfitBare shelf (view taken).seen why)
@@ -120,7 +120,7 @@ pub data IsShut {D : Type 0} (view : D → View) (told : Type 0) (fed : Bool) (b
       → (told → OpensSafely fed shelf (view taken) (view given)) → IsShut view told fed before after shelf why
 
 -- A shelf was not opened without a setup. Its disk failed where that is told.
-pub record StaysShut {D : Type 0} (view : D → View) (fed : Bool) (rack : Racks) (shelf : ℕ) (why : OpenCause) : Type 0 where
+pub record StaysShut {D : Type 0} (view : D → View) (fed : Bool) (rack : Racks) (shelf : ℕ) (why : Reopen) : Type 0 where
   pub rest : AsksOne rack shelf
   pub failed : why ≡ cause.Disk → ShelfFailed rack shelf
   pub shut : IsShut view (IsTrue rack.tells) fed rack.before rack.after shelf why
@@ -146,7 +146,7 @@ pub record HasOpened {D : Type 0} (view : D → View) (tells : Bool) (fed : Bool
   pub lawful : IsTrue rack.tells → IsLawful (making_after shelf (view taken))
 
 -- What opening a shelf without a setup came to.
-abbrev pub OpensOne : {D : Type 0} → (D → View) → (tells : Bool) → (fed : Bool) → Racks → (shelf : ℕ) → Result (Shelf D Counting) OpenCause → Type 0
+abbrev pub OpensOne : {D : Type 0} → (D → View) → (tells : Bool) → (fed : Bool) → Racks → (shelf : ℕ) → Result (Shelf D Counting) Reopen → Type 0
 OpensOne view tells fed rack shelf (Ok s) = HasOpened view tells fed rack shelf s
 OpensOne view tells fed rack shelf (Err why) = StaysShut view fed rack shelf why
 

@@ -18,7 +18,7 @@ use Rattle.command_words.specs.declared.ShelvesOptions.{ShelvesOptions}
 use Rattle.page_follower.specs.OfShelf.declared.shelf.Shelf.{Shelf}
 use Rattle.site_serving.specs.Serving.{openings_of}
 use Rattle.site_serving.specs.Shelves.{Site}
-use Rattle.play_desk.specs.declared.opening.OpenCause.{OpenCause}
+use Rattle.play_steps.specs.declared.stage.Reopen.{Reopen}
 use Rattle.play_desk.specs.declared.opening.OpenFault.{OpenFault}
 use Rattle.server_command.specs.declared.auditing.AuditEnd.{AuditEnd}
 use Rattle.server_command.specs.declared.program.Status.{Status}
@@ -62,12 +62,12 @@ LoadsAll view rack_tells tells sees options how old new before after =
 
 -- What opening a shelf of a rack came to, without a setup.
 abbrev pub OpensShelf : {D R : Type 0} → (G : Ghosts D) → (R → RackView) → (rack_tells fed : Bool) → (old new : R) → (shelf : ℕ)
-    → Result (Shelf (Disks D G) Counting) OpenCause → Type 0
+    → Result (Shelf (Disks D G) Counting) Reopen → Type 0
 OpensShelf G view rack_tells fed old new shelf result =
     OpensOne (trio_view {G = G}) G.tells fed (rack_over view rack_tells G.tells old new) shelf result
 
 -- What promoting a shelf of a rack came to.
-abbrev pub PromotesShelf : {D R : Type 0} → (G : Ghosts D) → (R → RackView) → (rack_tells : Bool) → (old new : R) → (shelf : ℕ) → Result Bool OpenCause → Type 0
+abbrev pub PromotesShelf : {D R : Type 0} → (G : Ghosts D) → (R → RackView) → (rack_tells : Bool) → (old new : R) → (shelf : ℕ) → Result Bool Reopen → Type 0
 PromotesShelf G view rack_tells old new shelf result =
     PromotesOne (trio_view {G = G}) (rack_over view rack_tells G.tells old new) shelf result
 

@@ -23,8 +23,8 @@ use Rattle.page_follower.specs.declared.fault.FeedFault.TheVariants as feed
 use Rattle.page_follower.specs.declared.fault.FollowEnd.{FollowEnd}
 use Rattle.page_follower.specs.declared.fault.FollowEnd.TheVariants as end
 use Rattle.play_desk.specs.Asking.{AsksForFirst, AsksForOne, AsksUntil}
-use Rattle.play_desk.specs.declared.opening.OpenCause.{OpenCause}
-use Rattle.play_desk.specs.declared.opening.OpenCause.TheVariants as cause
+use Rattle.play_steps.specs.declared.stage.Reopen.{Reopen}
+use Rattle.play_steps.specs.declared.stage.Reopen.TheVariants as cause
 use Rattle.server_command.specs.declared.program.Status.{Status}
 use Rattle.server_command.specs.declared.program.Status.TheVariants as status
 use Rattle.server_command.specs.Bare.{AsksOne, HasRead, AreLent, IsShut, OpensSafely, StaysShut, bare_records, follows_on}
@@ -92,7 +92,7 @@ abbrev pub TellsFeedFault : FeedFault → Status → Sinks → Type 0
 TellsFeedFault fault how out = (shelf : ℕ) → TellsFollowed shelf (end.Feed fault) how out
 
 -- why a shelf was not promoted
-abbrev pub unpromoted_for : Reply → OpenCause
+abbrev pub unpromoted_for : Reply → Reopen
 unpromoted_for (reply.JournalFull n) = cause.Full n
 unpromoted_for (reply.Down count) = cause.Disk
 unpromoted_for (reply.DiskFault count) = cause.Disk
@@ -101,7 +101,7 @@ unpromoted_for _ = cause.Memory
 -- ---- what is told of a shelf after a text
 
 -- After this text it was told why a shelf was not opened or promoted, or that its disk failed; or there was no memory for its line.
-pub data TellsBehind (text : List ℕ) (shelf : ℕ) (why : OpenCause) (how : Status) (out : Sinks) : Type 0 where
+pub data TellsBehind (text : List ℕ) (shelf : ℕ) (why : Reopen) (how : Status) (out : Sinks) : Type 0 where
   told_behind : (line : List ℕ) → unopened_line shelf why ≡ Some line → how ≡ unopened_status why → Tells text line out → TellsBehind text shelf why how out
   untold_behind : how ≡ status.Memory → Tells text memory_line out → TellsBehind text shelf why how out
 
@@ -123,7 +123,7 @@ TellsFailure feed shelf how out =
 -- What exporting leaves: the shelf was not opened; or the feed of all records that its disks held was written, and handed on; or a part of it, since a
 -- write failed; or a part of it, since a disk failed, and this was told. Nothing was written on the disks but what an opening writes.
 pub data LeavesExport {D : Type 0} (view : D → View) (rack : Racks) (shelf : ℕ) (how : Status) (out : Sinks) : Type 0 where
-  unopened : (why : OpenCause) → StaysShut view false rack shelf why → TellsUnopened shelf why how out → LeavesExport view rack shelf how out
+  unopened : (why : Reopen) → StaysShut view false rack shelf why → TellsUnopened shelf why how out → LeavesExport view rack shelf how out
   sent : (r : HasRead view false rack shelf) → how ≡ status.Done
       → (IsTrue rack.tells → Appends out.held out.holds (feed_on shelf (view r.taken).seen)) → LeavesExport view rack shelf how out
   unsent : (r : HasRead view false rack shelf) → how ≡ status.Write → Rose out.before out.after
@@ -179,7 +179,7 @@ pub record HavePromoted {D : Type 0} (view : D → View) (rack : Racks) (followe
   pub later : rack.before.faults ≤ rack.after.faults
 
 -- why a shelf that follows is not promoted, which has these records: with the one that tells it its journal would be too long; or the outside failed
-abbrev pub CannotPromote : List (List ℕ) → OpenCause → Type 0
+abbrev pub CannotPromote : List (List ℕ) → Reopen → Type 0
 CannotPromote bodies cause.Disk = ⊤
 CannotPromote bodies cause.NotEmpty = ⊥
 CannotPromote bodies (cause.Damaged place) = ⊥
@@ -188,7 +188,7 @@ CannotPromote bodies (cause.Full n) = (n ≡ length (at_rest bodies) + 6) × (2 
 CannotPromote bodies cause.Memory = ⊤
 
 -- A shelf was opened and follows, and was not promoted. Unless a call of its disks failed, nothing was lost on them, and nothing added.
-pub record IsUnpromoted {D : Type 0} (view : D → View) (told : Type 0) (before after : RackView) (shelf : ℕ) (why : OpenCause) : Type 0 where
+pub record IsUnpromoted {D : Type 0} (view : D → View) (told : Type 0) (before after : RackView) (shelf : ℕ) (why : Reopen) : Type 0 where
   pub taken : D
   pub opened : D
   pub given : D
@@ -209,7 +209,7 @@ pub record HaveComeTo {D : Type 0} (view : D → View) (rack : Racks) (count : �
   pub later : rack.before.faults ≤ rack.after.faults
 
 -- The shelf after those was not opened or not promoted, for this.
-pub record StopsAtShelf {D : Type 0} (view : D → View) (rack : Racks) (count : ℕ) (followed : List Bool) (why : OpenCause) : Type 0 where
+pub record StopsAtShelf {D : Type 0} (view : D → View) (rack : Racks) (count : ℕ) (followed : List Bool) (why : Reopen) : Type 0 where
   pub come : HaveComeTo view rack count followed
   pub failed : why ≡ cause.Disk → ShelfFailed rack (length followed)
   pub stops : IsShut view (IsTrue rack.tells) false rack.before rack.after (length followed) why
@@ -222,7 +222,7 @@ pub data LeavesPromotes {D : Type 0} (view : D → View) (rack : Racks) (count :
       → Appends out.held out.holds (promoted_text 0 followed) → LeavesPromotes view rack count how out
   cut_short : (followed : List Bool) → HavePromoted view rack followed → length followed ≤ count → how ≡ status.Write → Rose out.before out.after
       → AppendsPart out.held out.holds (promoted_text 0 followed) → LeavesPromotes view rack count how out
-  stopped : (followed : List Bool) (why : OpenCause) → StopsAtShelf view rack count followed why
+  stopped : (followed : List Bool) (why : Reopen) → StopsAtShelf view rack count followed why
       → TellsBehind (promoted_text 0 followed) (length followed) why how out → LeavesPromotes view rack count how out
   not_told : (followed : List Bool) (last : Bool) → HavePromoted view rack (followed ++ last ∷ []) → length followed < count → how ≡ status.Memory
       → Tells (promoted_text 0 followed) memory_line out → LeavesPromotes view rack count how out
@@ -235,7 +235,7 @@ TellsPromoted shelf followed (Err status.Memory) out = PrintsTo out memory_line
 TellsPromoted shelf followed (Err how) out = ⊥
 
 -- What promoting one shelf came to: it followed or not; or it was not opened, or not promoted.
-abbrev pub PromotesOne : {D : Type 0} → (D → View) → Racks → (shelf : ℕ) → Result Bool OpenCause → Type 0
+abbrev pub PromotesOne : {D : Type 0} → (D → View) → Racks → (shelf : ℕ) → Result Bool Reopen → Type 0
 PromotesOne view rack shelf (Ok followed) =
     AsksForOne shelf rack.before rack.after × IsPromoted view (IsTrue rack.tells) rack.before rack.after shelf followed
 PromotesOne view rack shelf (Err why) =
@@ -275,7 +275,7 @@ pub record HasReason (rack : Racks) (shelf : ℕ) (from left : SourceView) (old 
 -- What following a feed leaves: the shelf was not opened; or it does not follow, and nothing was read of the feed; or it was compared with the feed,
 -- and was fed what it did not hold.
 pub data LeavesFollow {D : Type 0} (view : D → View) (rack : Racks) (shelf : ℕ) (how : Status) (from left : SourceView) (old new : SinkView) : Type 0 where
-  not_opened : (why : OpenCause) → StaysShut view true rack shelf why → left ≡ from → TellsUnopened shelf why how (sinks_of old new)
+  not_opened : (why : Reopen) → StaysShut view true rack shelf why → left ≡ from → TellsUnopened shelf why how (sinks_of old new)
       → LeavesFollow view rack shelf how from left old new
   leads : (r : HasRead view true rack shelf) → (IsTrue rack.tells → follows_on true shelf (view r.taken).seen ≡ false) → left ≡ from
       → TellsFollowed shelf end.Promoted how (sinks_of old new) → LeavesFollow view rack shelf how from left old new

@@ -10,7 +10,6 @@ use Rattle.play_steps.specs.Transcript.{done}
 use Rattle.play_desk.specs.Desk.{Desk, desk_rules}
 use Rattle.play_desk.specs.Laws.{IsRunOfEvents}
 use Rattle.play_desk.specs.Opening.{HoldTheBooks, IsLeft}
-use Rattle.play_desk.specs.declared.opening.OpenCause.{OpenCause}
 use Rattle.measured_run.specs.Generator.{source_of}
 use Rattle.measured_run.specs.Tallies.{summary_text}
 use Rattle.measured_run.specs.declared.measuring.Measure.{Measure}
@@ -70,7 +69,7 @@ pub record IsLoaded (l : LoadOptions) (fates : List Fate) (last : Desk) : Type 0
   pub state : (run_drawn desk_rules count (source_of l.number) (desk_for l.options load_scripts) fates).state ≡ last
 
 -- what remains where not all steps of a measured run were performed, a lost shelf is told, and so many calls failed besides
-abbrev pub RemainsLoaded : Racks → LoadOptions → Chances → (ℕ → OpenCause → Type 0) → (more : ℕ) → Type 0
+abbrev pub RemainsLoaded : Racks → LoadOptions → Chances → (ℕ → Reopen → Type 0) → (more : ℕ) → Type 0
 RemainsLoaded rack l chances IsTold more =
     AreLeft rack l.options.shelves load_scripts [] IsTold (IsLoaded l chances.fates) (IsLostBehind rack l chances) × HaveFailed rack chances.fates more
 

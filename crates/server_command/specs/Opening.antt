@@ -11,9 +11,9 @@ use Rattle.server_command.specs.Output.{rules_for}
 use Rattle.play_steps.specs.Rules.{StaysUp}
 use Rattle.play_steps.specs.Played.{RoseBy}
 use Rattle.play_desk.specs.Asking.{AsksForFirst, AsksForNone, AsksUntil}
-use Rattle.play_desk.specs.Opening.{FailedFor, IsKept, cause_of, reopen_of}
-use Rattle.play_desk.specs.declared.opening.OpenCause.{OpenCause}
-use Rattle.play_desk.specs.declared.opening.OpenCause.TheVariants as cause
+use Rattle.play_desk.specs.Opening.{FailedFor, IsKept, reopen_of}
+use Rattle.play_steps.specs.declared.stage.Reopen.{Reopen}
+use Rattle.play_steps.specs.declared.stage.Reopen.TheVariants as cause
 use Rattle.play_desk.specs.declared.opening.OpenFault.{OpenFault}
 use Rattle.server_command.specs.Racks.{AreBare, AreHeld, FailsInOrder, damaged, other, full, first_unfit, unfit_left}
 use Rattle.server_command.specs.Serving.{AreOpened}
@@ -75,14 +75,14 @@ AreFrom view before disks = (k : ℕ) (d : _) → slice_get disks k ≡ Some d �
 
 -- the shelf of this number was not opened for this
 abbrev pub unopened_by : (shelf : ℕ) → BeginFault → OpenFault
-unopened_by shelf e = record { shelf = shelf; why = cause_of (reopen_of e) }
+unopened_by shelf e = record { shelf = shelf; why = reopen_of e }
 
 -- this is one of so many shelves, and a take of its disk failed, or a call of that disk
 abbrev pub FailsAt : (count : ℕ) → (before after : RackView) → (shelf : ℕ) → Type 0
 FailsAt count before after shelf = (shelf < count) × FailedFor shelf before after
 
 -- why the disk of this shelf was not taken
-abbrev pub IsUntaken : (risen : ℕ → Type 0) → (shelf : ℕ) → OpenCause → Type 0
+abbrev pub IsUntaken : (risen : ℕ → Type 0) → (shelf : ℕ) → Reopen → Type 0
 IsUntaken risen shelf cause.Disk = risen shelf
 IsUntaken risen shelf cause.Memory = ⊤
 IsUntaken risen shelf _ = ⊥
@@ -92,7 +92,7 @@ abbrev pub AreUntaken : (risen : ℕ → Type 0) → OpenFault → Type 0
 AreUntaken risen f = IsUntaken risen f.shelf f.why
 
 -- why this shelf was not opened, of those on disks that hold these
-abbrev pub IsRefused : (told : Type 0) → (risen : ℕ → Type 0) → List Named → (images : List (List ℕ)) → (shelf : ℕ) → OpenCause → Type 0
+abbrev pub IsRefused : (told : Type 0) → (risen : ℕ → Type 0) → List Named → (images : List (List ℕ)) → (shelf : ℕ) → Reopen → Type 0
 IsRefused told risen scripts images shelf cause.Disk = risen shelf
 IsRefused told risen scripts images shelf cause.NotEmpty = ⊥
 IsRefused told risen scripts images shelf (cause.Damaged place) =
@@ -105,19 +105,19 @@ IsRefused told risen scripts images shelf cause.Memory = ⊤
 
 -- In which order disks were asked for until this shelf was not opened: all were taken, in order, before one was opened. Unless memory ended, nothing
 -- was added to the records on the disks after it, nor on its own, but where a call of that failed.
-abbrev pub RefusesInOrder : List Named → (before after : RackView) → (count : ℕ) → (images : List (List ℕ)) → (shelf : ℕ) → OpenCause → Type 0
+abbrev pub RefusesInOrder : List Named → (before after : RackView) → (count : ℕ) → (images : List (List ℕ)) → (shelf : ℕ) → Reopen → Type 0
 RefusesInOrder scripts before after count images shelf cause.Disk = FailsInOrder scripts before after count images shelf
 RefusesInOrder scripts before after count images shelf cause.Memory = ⊤
 RefusesInOrder scripts before after count images shelf why =
     AsksForFirst count before after × (length images ≡ count) × AreBare before after images shelf
 
 -- the disks of the shelves up to this one were asked for, which was not taken; or none was, for want of memory
-abbrev pub AsksAsTaken : (before after : RackView) → (count shelf : ℕ) → OpenCause → Type 0
+abbrev pub AsksAsTaken : (before after : RackView) → (count shelf : ℕ) → Reopen → Type 0
 AsksAsTaken before after count shelf why = AsksUntil count shelf before after ⊎ ((why ≡ cause.Memory) × AsksForNone before after)
 
 -- the disks that were asked for until a shelf was not opened for this: all, each once and in order; or up to its own, where that was not
 -- taken; or none, for want of memory
-abbrev pub AsksByCause : (before after : RackView) → (count shelf : ℕ) → OpenCause → Type 0
+abbrev pub AsksByCause : (before after : RackView) → (count shelf : ℕ) → Reopen → Type 0
 AsksByCause before after count shelf cause.Disk = AsksForFirst count before after ⊎ AsksUntil count shelf before after
 AsksByCause before after count shelf cause.Memory =
     AsksForNone before after ⊎ (AsksForFirst count before after ⊎ AsksUntil count shelf before after)

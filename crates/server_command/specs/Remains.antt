@@ -14,9 +14,7 @@ use Rattle.play_steps.specs.Played.{RoseBy}
 use Rattle.play_steps.specs.Transcript.{text_of}
 use Rattle.play_desk.specs.Desk.{Desk, is_fault}
 use Rattle.play_desk.specs.Asking.{AsksForFirst, AsksForNone, AsksUntil}
-use Rattle.play_desk.specs.Opening.{AllKept, AllStayKept, HoldTheBooks, IsLeft, cause_of}
-use Rattle.play_desk.specs.declared.opening.OpenCause.{OpenCause}
-use Rattle.play_desk.specs.declared.opening.OpenCause.TheVariants as cause
+use Rattle.play_desk.specs.Opening.{AllKept, AllStayKept, HoldTheBooks, IsLeft}
 use Rattle.command_words.specs.declared.Command.{Command}
 use Rattle.command_words.specs.declared.Command.TheVariants.{Check, Play}
 use Rattle.command_words.specs.declared.Options.{Options}
@@ -35,37 +33,37 @@ pub record AreAllKept (rack : Racks) (scripts : List Named) (taken : ℕ) : Type
 
 -- the disks of the shelves before this one and its own up to one of them were asked for, each once and in order, and no other; or none was,
 -- for want of memory
-abbrev pub AsksForShelf : Racks → (shelf : ℕ) → OpenCause → Type 0
+abbrev pub AsksForShelf : Racks → (shelf : ℕ) → Reopen → Type 0
 AsksForShelf rack shelf why =
-    AsksUntil (shelf + 1) shelf rack.before rack.after ⊎ ((why ≡ cause.Memory) × AsksForNone rack.before rack.after)
+    AsksUntil (shelf + 1) shelf rack.before rack.after ⊎ ((why ≡ reopen.Memory) × AsksForNone rack.before rack.after)
 
 -- a shelf was not opened at first, for this, and no step was performed: no disk after its own was asked for, those before it may hold
 -- nothing, and nothing was lost on any, but on the one of which a call failed
-pub record IsUnopened (rack : Racks) (scripts : List Named) (shelf : ℕ) (why : OpenCause) : Type 0 where
+pub record IsUnopened (rack : Racks) (scripts : List Named) (shelf : ℕ) (why : Reopen) : Type 0 where
   pub asked : AsksForShelf rack shelf why
   pub before : (k : ℕ) → k < shelf → MayBeBare rack.before k
-  pub failed : why ≡ cause.Disk → ShelfFailed rack shelf
+  pub failed : why ≡ reopen.Disk → ShelfFailed rack shelf
   pub kept : AllStayKept scripts (shelves_of rack.before).holds (shelves_of rack.after).holds shelf why
 
 -- What is left on the disks of so many shelves, by which one is told, and for which cause: that one was not opened at first; or none has to
 -- be told, and each disk stands for the book of its shelf, as the last of some steps left it; or that one crashed, and was not opened again:
 -- each disk stands for the book that its shelf had before that crash. Steps are performed where all shelves were begun.
-pub data AreLeft (rack : Racks) (count : ℕ) (scripts : List Named) (text : List ℕ) (IsTold : ℕ → OpenCause → Type 0) (IsLast : Desk → Type 0)
+pub data AreLeft (rack : Racks) (count : ℕ) (scripts : List Named) (text : List ℕ) (IsTold : ℕ → Reopen → Type 0) (IsLast : Desk → Type 0)
     (IsLost : ℕ → Reopen → Desk → Type 0) : Type 0 where
-  unopened : (shelf : ℕ) (why : OpenCause) → IsTold shelf why → text ≡ [] → IsUnopened rack scripts shelf why
+  unopened : (shelf : ℕ) (why : Reopen) → IsTold shelf why → text ≡ [] → IsUnopened rack scripts shelf why
       → AreLeft rack count scripts text IsTold IsLast IsLost
-  performed : (last : Desk) → ((shelf : ℕ) (why : OpenCause) → IsTold shelf why) → IsLast last → HoldTheBooks last (shelves_of rack.after).holds
+  performed : (last : Desk) → ((shelf : ℕ) (why : Reopen) → IsTold shelf why) → IsLast last → HoldTheBooks last (shelves_of rack.after).holds
       → HaveBegun rack count → AreLeft rack count scripts text IsTold IsLast IsLost
-  lost : (shelf : ℕ) (why : Reopen) (last : Desk) → IsTold shelf (cause_of why) → IsLost shelf why last → IsLeft rack.after last shelf why
+  lost : (shelf : ℕ) (why : Reopen) (last : Desk) → IsTold shelf why → IsLost shelf why last → IsLeft rack.after last shelf why
       → HaveBegun rack count → AreLeft rack count scripts text IsTold IsLast IsLost
 
 -- any shelf may be meant, and any cause, where none is told
-abbrev pub IsAny : (shelf : ℕ) → OpenCause → Type 0
+abbrev pub IsAny : (shelf : ℕ) → Reopen → Type 0
 IsAny shelf why = ⊤
 
 -- the shelf is the one that is told, and its disk failed
-abbrev pub IsFailed : (told shelf : ℕ) → OpenCause → Type 0
-IsFailed told shelf why = (shelf ≡ told) × (why ≡ cause.Disk)
+abbrev pub IsFailed : (told shelf : ℕ) → Reopen → Type 0
+IsFailed told shelf why = (shelf ≡ told) × (why ≡ reopen.Disk)
 
 -- this is the desk after the first of the steps, of which so much is printed, or more
 pub record IsBehind (o : Options) (setup : Parsed) (fates : List Fate) (text : List ℕ) (last : Desk) : Type 0 where
@@ -83,7 +81,7 @@ IsLostBehind o setup fates text shelf last =
 
 -- what remains on the disks where the steps of a setup were told up to this text, with a shelf that is lost, and so many calls
 -- failed besides; a check takes no disks, nor are any taken where the input is no setup
-abbrev pub Remains : Racks → Command → Result Parsed Fault → Chances → (text : List ℕ) → (ℕ → OpenCause → Type 0) → (more : ℕ) → Type 0
+abbrev pub Remains : Racks → Command → Result Parsed Fault → Chances → (text : List ℕ) → (ℕ → Reopen → Type 0) → (more : ℕ) → Type 0
 Remains rack (Play o) (Ok setup) chances text IsTold more =
     AreLeft rack o.shelves setup.scripts text IsTold (IsBehind o setup chances.fates text)
     (λ shelf why last. IsLostBehind o setup chances.fates text shelf last)

@@ -32,8 +32,8 @@ use Rattle.site_serving.specs.Pages.{faults_told}
 use Rattle.site_serving.specs.Serving.{IsUnserved, Leaves, Pasts, Views, opened_as}
 use Rattle.server_command.specs.declared.program.Status.{Status}
 use Rattle.server_command.specs.declared.program.Status.TheVariants as status
-use Rattle.play_desk.specs.declared.opening.OpenCause.{OpenCause}
-use Rattle.play_desk.specs.declared.opening.OpenCause.TheVariants as cause
+use Rattle.play_steps.specs.declared.stage.Reopen.{Reopen}
+use Rattle.play_steps.specs.declared.stage.Reopen.TheVariants as cause
 use Rattle.server_command.specs.declared.serving.ServeFault.{ServeFault}
 use Rattle.server_command.specs.declared.serving.ServeFault.TheVariants as fault
 use Rattle.server_command.specs.Output.{memory_line, Chances, Output, Sinks, PrintsTo, Answers, BreaksOff, rules_for, served}
@@ -224,7 +224,7 @@ KeepsAllBut rack scripts images =
     KeepsAll rack scripts images ⊎ ((shelf : ℕ) × ShelfFailed rack shelf × (IsTrue rack.tells → AreKeptBut rack scripts images shelf))
 
 -- why this shelf was not opened
-abbrev pub ShutsBy : Racks → Service → List Named → List (List ℕ) → (shelf : ℕ) → OpenCause → Type 0
+abbrev pub ShutsBy : Racks → Service → List Named → List (List ℕ) → (shelf : ℕ) → Reopen → Type 0
 ShutsBy rack s scripts images shelf cause.Disk =
     (shelf < s.options.shelves) × ShelfFailed rack shelf
     × (IsTrue rack.tells → AreKeptBut rack scripts images shelf)

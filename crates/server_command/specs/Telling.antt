@@ -2,8 +2,8 @@
 use Rattle.std.specs.Prelude.{◌≡◌, ℕ, List, Option, Some, None, Result, Ok, Err, codes}
 use Rattle.request_workers.specs.declared.tally.Tally.{Tally}
 use Rattle.request_workers.specs.Tallies.{count_of}
-use Rattle.play_desk.specs.declared.opening.OpenCause.{OpenCause}
-use Rattle.play_desk.specs.declared.opening.OpenCause.TheVariants as cause
+use Rattle.play_steps.specs.declared.stage.Reopen.{Reopen}
+use Rattle.play_steps.specs.declared.stage.Reopen.TheVariants as cause
 use Rattle.server_command.specs.declared.program.Status.{Status}
 use Rattle.server_command.specs.declared.program.Status.TheVariants as status
 use Rattle.server_command.specs.declared.serving.ServeFault.{ServeFault}
@@ -14,7 +14,7 @@ use Rattle.server_command.specs.Output.{memory_line, Sinks, PrintsTo}
 use Rattle.server_command.specs.Racks.{not_empty, damaged, other, full, disk_line, unfit_line}
 
 -- the line that names a shelf which was not opened for this cause; want of memory has a line of its own
-abbrev pub unopened_line : (shelf : ℕ) → OpenCause → Option (List ℕ)
+abbrev pub unopened_line : (shelf : ℕ) → Reopen → Option (List ℕ)
 unopened_line shelf cause.Disk = Some (disk_line shelf)
 unopened_line shelf cause.NotEmpty = Some (unfit_line shelf not_empty)
 unopened_line shelf (cause.Damaged place) = Some (unfit_line shelf (damaged place))
@@ -23,7 +23,7 @@ unopened_line shelf (cause.Full length) = Some (unfit_line shelf (full length))
 unopened_line shelf cause.Memory = None
 
 -- the status of a shelf that was not opened for this cause
-abbrev pub unopened_status : OpenCause → Status
+abbrev pub unopened_status : Reopen → Status
 unopened_status cause.Disk = status.Disk
 unopened_status cause.NotEmpty = status.Journal
 unopened_status (cause.Damaged place) = status.Journal
@@ -32,7 +32,7 @@ unopened_status (cause.Full length) = status.Journal
 unopened_status cause.Memory = status.Memory
 
 -- the line that names this shelf, which was not opened for this cause, was told, or there was no memory for it
-pub data TellsUnopened (shelf : ℕ) (why : OpenCause) (s : Status) (out : Sinks) : Type 0 where
+pub data TellsUnopened (shelf : ℕ) (why : Reopen) (s : Status) (out : Sinks) : Type 0 where
   told : (line : List ℕ) → unopened_line shelf why ≡ Some line → s ≡ unopened_status why → PrintsTo out line → TellsUnopened shelf why s out
   untold : s ≡ status.Memory → PrintsTo out memory_line → TellsUnopened shelf why s out
 

@@ -17,7 +17,8 @@ use command_words::{FeedOptions, ShelvesOptions};
 use disk_trio::Disks;
 use page_follower::shelves::{BeginFault, Rules, Shelf};
 use page_follower::{ExportFault, export, follow};
-use play_desk::{OpenCause, OpenFault};
+use play_desk::{OpenFault, why_not};
+use play_steps::Reopen;
 use script_value::Reply;
 use std::alloc::Global;
 use trio_rack::{give_trio, take_trio};
@@ -74,12 +75,12 @@ fn open_on<D: Disk>(
 }
 
 // Why the disks of a shelf were not taken.
-fn untaken(fault: RackFault) -> OpenCause
+fn untaken(fault: RackFault) -> Reopen
     ensures { result ≡ untaken_for fault }
 {
     match fault {
-        RackFault::Failed => OpenCause::Disk,
-        RackFault::Memory => OpenCause::Memory,
+        RackFault::Failed => Reopen::Disk,
+        RackFault::Memory => Reopen::Memory,
     }
 }
 
@@ -90,7 +91,7 @@ fn open_shelf<D: Disk, R: Rack<D>>(
     directory: &str,
     shelf: u32,
     opening: Opening,
-) -> Result<Opened<D>, OpenCause>
+) -> Result<Opened<D>, Reopen>
     requires { shelf < most_shelves }
     ensures { OpensShelf D.Disk R.view R.tells (is_to_follow opening)
         rack.old rack.new shelf result }
@@ -103,7 +104,7 @@ fn open_shelf<D: Disk, R: Rack<D>>(
         Ok(opened) => Ok(opened),
         Err((fault, disks, _nonces)) => {
             give_back(rack, shelf, disks);
-            Err(OpenCause::by(fault))
+            Err(why_not(fault))
         }
     }
 }
@@ -154,7 +155,7 @@ pub(crate) fn export_shelf<O: Sink, D: Disk, R: Rack<D>>(
         Ok(()) => Status::Done,
         Err(ExportFault::Unwritten) => Status::Write,
         Err(ExportFault::DiskFault) => {
-            let why = OpenCause::Disk;
+            let why = Reopen::Disk;
             tell_unopened(alloc, OpenFault { shelf: number, why }, output)
         }
     }
@@ -190,13 +191,13 @@ pub(crate) fn follow_feed<I: Source, O: Sink, D: Disk, R: Rack<D>>(
 }
 
 // Why a shelf was not promoted.
-fn unpromoted(reply: &Reply) -> OpenCause
+fn unpromoted(reply: &Reply) -> Reopen
     ensures { result ≡ unpromoted_for reply.now }
 {
     match reply {
-        Reply::JournalFull(len) => OpenCause::Full { len: *len },
-        Reply::Down(_) | Reply::DiskFault(_) => OpenCause::Disk,
-        _ => OpenCause::Memory,
+        Reply::JournalFull(len) => Reopen::Full { len: *len },
+        Reply::Down(_) | Reply::DiskFault(_) => Reopen::Disk,
+        _ => Reopen::Memory,
     }
 }
 
@@ -206,7 +207,7 @@ fn promote_shelf<D: Disk, R: Rack<D>>(
     rack: &mut R,
     directory: &str,
     number: u32,
-) -> Result<bool, OpenCause>
+) -> Result<bool, Reopen>
     requires { number < most_shelves }
     ensures promotes { PromotesShelf D.Disk R.view R.tells
         rack.old rack.new number result }

@@ -17,7 +17,7 @@ use crate::telling::{
     hand_on, no_memory, tell_count, tell_fault, tell_line, tell_unopened, tell_unread,
 };
 use command_words::Options;
-use play_desk::{OpenCause, OpenFault, open_desk};
+use play_desk::{OpenFault, open_desk};
 use play_steps::{PlayEnd, play};
 use script_nodes::Setup;
 use setup_reader::{Ending, Parsed, SetupFault};
@@ -74,10 +74,7 @@ fn play_all<O: Sink, D: Disk, R: Rack<D>>(
         PlayEnd::Line(number) => tell_line(alloc, number, output),
         PlayEnd::Write => Status::Write,
         PlayEnd::Memory => no_memory(output),
-        PlayEnd::Reopen { shelf, why } => {
-            let why = OpenCause::of(why);
-            tell_unopened(alloc, OpenFault { shelf, why }, output)
-        }
+        PlayEnd::Reopen { shelf, why } => tell_unopened(alloc, OpenFault { shelf, why }, output),
     }
 }
 

@@ -13,7 +13,7 @@ use crate::program::Status;
 use crate::telling::{hand_on, no_memory, tell_unopened};
 use command_words::LoadOptions;
 use measured_run::{LOAD_STEPS, Measure, load, load_setup};
-use play_desk::{OpenCause, OpenFault, open_desk};
+use play_desk::{OpenFault, open_desk};
 use play_steps::Halt;
 use std::alloc::Global;
 use web_disk::{Disk, Rack};
@@ -67,7 +67,6 @@ pub fn load_all<O: Sink, D: Disk, R: Rack<D>>(
         Ok(measure) => tell_measure(alloc, &measure, output),
         Err(Halt::Memory) => no_memory(output),
         Err(Halt::Reopen { shelf, why }) => {
-            let why = OpenCause::of(why);
             tell_unopened(alloc, OpenFault { shelf, why }, output)
         }
     }

@@ -13,7 +13,8 @@ ghost use Rattle.server_command.specs.Opening.{AreAsked, AreFrom, AreGiven, Asks
 
 use command_words::Options;
 use disk_trio::Disks;
-use play_desk::{OpenCause, OpenFault};
+use play_desk::{OpenFault, why_not};
+use play_steps::Reopen;
 use script_nodes::Setup;
 use site_serving::{BeginFault, Rules, Site, SiteFault};
 use std::alloc::Global;
@@ -28,7 +29,7 @@ fn why_unopened(shelf: u32, fault: BeginFault) -> OpenFault
 {
     OpenFault {
         shelf,
-        why: OpenCause::by(fault),
+        why: why_not(fault),
     }
 }
 
@@ -93,7 +94,7 @@ fn take_all<D: Disk, R: Rack<D>>(
     let Ok(mut disks) = Vec::with_capacity(alloc, count as usize) else {
         return Err(OpenFault {
             shelf: 0,
-            why: OpenCause::Memory,
+            why: Reopen::Memory,
         });
     };
     'taking: for number in 0..count {
@@ -102,8 +103,8 @@ fn take_all<D: Disk, R: Rack<D>>(
             Err(fault) => {
                 give_all(rack, disks);
                 let why = match fault {
-                    RackFault::Failed => OpenCause::Disk,
-                    RackFault::Memory => OpenCause::Memory,
+                    RackFault::Failed => Reopen::Disk,
+                    RackFault::Memory => Reopen::Memory,
                 };
                 return Err(OpenFault { shelf: number, why });
             }

@@ -19,7 +19,8 @@ use crate::program::Status;
 use crate::serving::ServeFault;
 use page_audit::Word;
 use page_follower::{FeedFault, FollowEnd};
-use play_desk::{OpenCause, OpenFault};
+use play_desk::OpenFault;
+use play_steps::Reopen;
 use request_workers::Tally;
 use script_nodes::Setup;
 use setup_reader::{SetupError, fault_line};
@@ -210,26 +211,24 @@ fn unopened_error(alloc: Global, fault: OpenFault) -> Result<String, AllocError>
 {
     let OpenFault { shelf, why } = fault;
     match why {
-        OpenCause::Disk => disk_error(alloc, shelf),
-        OpenCause::NotEmpty => not_empty_error(alloc, shelf),
-        OpenCause::Damaged { place } => damage_error(alloc, shelf, place),
-        OpenCause::Other { place } => other_error(alloc, shelf, place),
-        OpenCause::Full { len } => full_error(alloc, shelf, len),
-        OpenCause::Memory => Err(AllocError),
+        Reopen::Disk => disk_error(alloc, shelf),
+        Reopen::NotEmpty => not_empty_error(alloc, shelf),
+        Reopen::Damaged { place } => damage_error(alloc, shelf, place),
+        Reopen::Other { place } => other_error(alloc, shelf, place),
+        Reopen::Full { len } => full_error(alloc, shelf, len),
+        Reopen::Memory => Err(AllocError),
     }
 }
 
 // The status of a shelf that was not opened for this cause.
-fn unopened_status(why: OpenCause) -> Status
+fn unopened_status(why: Reopen) -> Status
     ensures { result ≡ unopened_status why }
 {
     match why {
-        OpenCause::Disk => Status::Disk,
-        OpenCause::NotEmpty
-        | OpenCause::Damaged { .. }
-        | OpenCause::Other { .. }
-        | OpenCause::Full { .. } => Status::Journal,
-        OpenCause::Memory => Status::Memory,
+        Reopen::Disk => Status::Disk,
+        Reopen::NotEmpty | Reopen::Damaged { .. } | Reopen::Other { .. } | Reopen::Full { .. } =>
+            Status::Journal,
+        Reopen::Memory => Status::Memory,
     }
 }
 
@@ -402,11 +401,11 @@ pub fn tell_followed<O: Sink>(alloc: Global, shelf: u32, end: FollowEnd, output:
         FollowEnd::Other { place } => tell_feed(alloc, place, "other", output),
         FollowEnd::Record { place } => tell_feed(alloc, place, "record", output),
         FollowEnd::Full { len } => {
-            let why = OpenCause::Full { len };
+            let why = Reopen::Full { len };
             tell_unopened(alloc, OpenFault { shelf, why }, output)
         }
         FollowEnd::DiskFault => {
-            let why = OpenCause::Disk;
+            let why = Reopen::Disk;
             tell_unopened(alloc, OpenFault { shelf, why }, output)
         }
         FollowEnd::Unwritten => Status::Write,

@@ -6,10 +6,10 @@ use Rattle.shelf.specs.declared.shelf.Shelf.{Shelf}
 use Rattle.disk_trio.specs.Trio.{trio_view}
 use Rattle.disk_trio.specs.declared.trio.Disks.{Disks}
 use Rattle.trio_rack.specs.Trios.{shelves_of}
+use Rattle.play_steps.specs.declared.stage.Reopen.{Reopen}
 use Rattle.play_desk.specs.Asking.{AsksForOne, AsksForSome}
 use Rattle.play_desk.specs.Opening.{FailedFor, GivesOne, HoldImages, IsRefusedBy, KeepsClosed, LeaveOthers, AreOpened, OpensNext}
 use Rattle.play_desk.specs.Staff.{AreLow, HaveOwnNumbers, IsHome, faults_in, total}
-use Rattle.play_desk.specs.declared.opening.OpenCause.{OpenCause}
 use Rattle.play_desk.proofs.Asking.{asked_one_more, asked_until}
 use Rattle.play_desk.proofs.Beginning.{closed_by, failed_closed, given_later, kept_all, later_closed, next_home, opened_more, opened_none, own_opened, still_home}
 use Rattle.play_desk.proofs.Fitting.{low_numbers}
@@ -87,7 +87,7 @@ returns-in-Err-clause-disk g c is =
     let mid = g.R.Rack.view c.open_next.new.rack in
     let new = g.R.Rack.view c.put_all_back.new.rack in
     failed_closed _ _ _ _ _ _ _ _ _ mid new c.loop-number.invariant
-    (subst (λ (r : Rules). FailedFor r.number old mid) c.numbered-next.ensures (c.in-Err.ensures.disk (ap (λ (w : OpenCause). Err w) is)))
+    (subst (λ (r : Rules). FailedFor r.number old mid) c.numbered-next.ensures (c.in-Err.ensures.disk (ap (λ (w : Reopen). Err w) is)))
     c.in-Err.ensures.later
     (subst (λ (ys : List (Shelf (Disks g.row.F.Denot g.F.Disk) Counting)). total mid.faults (faults_in trio_view ys) ≤ new.faults) c.in-Err.ensures.same c.put_all_back.ensures.later)
     c.put_all_back.ensures.failed_later
@@ -105,7 +105,7 @@ returns-in-Err-clause-asked_shut g c is =
     let old = g.R.Rack.view c.loop-number.rack in
     let mid = g.R.Rack.view c.open_next.new.rack in
     asked_one_more c.loop-number.number (g.R.Rack.view c.args.rack.now) old mid (g.R.Rack.view c.put_all_back.new.rack) c.loop-number.invariant.asked
-    (subst (λ (r : Rules). AsksForOne r.number old mid) c.numbered-next.ensures (c.in-Err.ensures.asked_shut (ap (λ (w : OpenCause). Err w) is))) c.put_all_back.ensures.asked
+    (subst (λ (r : Rules). AsksForOne r.number old mid) c.numbered-next.ensures (c.in-Err.ensures.asked_shut (ap (λ (w : Reopen). Err w) is))) c.put_all_back.ensures.asked
 
 pub loop-number-preserved : goal.loop-number-preserved
 loop-number-preserved g c =

@@ -79,6 +79,17 @@ returns-in-Err-clause-full g c rack_tells tells = λ len is.
     no_room ss n (v c.in-Err.disks) ((shelves_of (g.R.Rack.view c.give_trio.new.rack)).holds n) c.in-Err.fault
     (λ size e. c.in-Err.ensures.full tells size (ap (λ (f : BeginFault). Err f) e)) (c.give_trio.ensures.images rack_tells tells) len same
 
+-- no fault of a shelf that is not begun is that its disks have bytes
+none_has_bytes : (e : BeginFault) → reopen_of e ≡ reopen.NotEmpty → ⊥
+none_has_bytes (begin.Damaged place) is = cc
+none_has_bytes (begin.Other place) is = cc
+none_has_bytes (begin.Full len) is = cc
+none_has_bytes begin.DiskFault is = cc
+none_has_bytes begin.Memory is = cc
+
+pub returns-in-Err-clause-bytes : goal.returns-in-Err-clause-bytes
+returns-in-Err-clause-bytes g c is = none_has_bytes c.in-Err.fault (cc (is, c.why_not.ensures))
+
 -- an opening leaves the disk of an own shelf standing for its book, whatever came of it
 pub returns-in-Ok-clause-left : goal.returns-in-Ok-clause-left
 returns-in-Ok-clause-left g c rack_tells tells now_is =

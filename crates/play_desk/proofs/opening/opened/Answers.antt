@@ -1,19 +1,19 @@
-use Rattle.std.proofs.Common.{◌≡◌, ◌∙◌, ap, sym, subst, ℕ, List, Err, rules, arith}
+use Rattle.std.proofs.Common.{◌≡◌, ap, subst, ℕ, List, Err, rules, arith}
 use Rattle.play_steps.specs.declared.stage.Reopen.{Reopen}
+use Rattle.play_steps.specs.declared.stage.Reopen.TheVariants.{Disk, NotEmpty}
 use Rattle.script_nodes.specs.Views.{scripts_of}
 use Rattle.disk_trio.specs.Trio.{trio_view}
 use Rattle.trio_rack.specs.Trios.{shelves_of}
-use Rattle.play_desk.specs.declared.opening.OpenCause.TheVariants.{Disk, NotEmpty}
-use Rattle.play_desk.specs.Opening.{AllKept, KeepsOpened}
+use Rattle.play_desk.specs.Opening.{AllKept}
 use Rattle.play_desk.proofs.Keeping.{all_kept_in, not_opened, unread}
-use Rattle.play_desk.proofs.Reopening.{disk_cause, empty_is_own, never_shut, rose_after}
+use Rattle.play_desk.proofs.Reopening.{empty_is_own, rose_after}
 use Rattle.play_desk.proofs.opening.opened.Goals as goal
 
 pub returns-in-Err-clause-disk : goal.returns-in-Err-clause-disk
 returns-in-Err-clause-disk g c is =
     let old = g.R.Rack.view c.args.rack.now in
     let disk = trio_view c.in_ok-disks.disks in
-    let why = ap (λ (w : Reopen). Err w) (disk_cause c.in-Err.why (sym c.of.ensures ∙ (let e : c.of.result ≡ Disk = cc in e))) in
+    let why = ap (λ (w : Reopen). Err w) (let e : c.in-Err.why ≡ Disk = cc in e) in
     let taken = c.in_ok-disks.ensures.rack.leaves.failed in
     let here = c.in-Err.ensures.here why in
     record {
@@ -54,10 +54,9 @@ returns-in-Err-clause-keeps g c rack_tells tells =
     let n = c.args.rules.number in
     let held = (shelves_of (g.R.Rack.view c.args.rack.now)).holds n in
     let holds = (shelves_of (g.R.Rack.view c.begun.new.rack)).holds in
-    subst (λ w. KeepsOpened v scripts n held holds (Err w)) (sym c.of.ensures)
-    (not_opened v scripts n (v c.in_ok-disks.disks) held holds c.in-Err.why (c.in_ok-disks.ensures.empty rack_tells tells).0 (c.in_ok-disks.ensures.images rack_tells tells)
-    (c.in-Err.ensures.keeps rack_tells tells))
+    not_opened v scripts n (v c.in_ok-disks.disks) held holds c.in-Err.why (c.in_ok-disks.ensures.empty rack_tells tells).0 (c.in_ok-disks.ensures.images rack_tells tells)
+    (c.in-Err.ensures.keeps rack_tells tells)
 
 pub returns-in-Err-clause-asked_shut : goal.returns-in-Err-clause-asked_shut
 returns-in-Err-clause-asked_shut g c is =
-    absurd (never_shut c.in-Err.why (sym c.of.ensures ∙ (let e : c.of.result ≡ NotEmpty = cc in e)))
+    absurd (c.in-Err.ensures.bytes (let e : c.in-Err.why ≡ NotEmpty = cc in ap (λ (w : Reopen). Err w) e))

@@ -26,6 +26,9 @@ returns-in-Edit-clause-failed g c shelf e = absurd (never_lost _ _ _ _ _ _ shelf
 pub returns-in-Edit-clause-why : goal.returns-in-Edit-clause-why
 returns-in-Edit-clause-why g c shelf e = never_lost _ _ _ _ _ _ shelf reopen.Memory (c.play_edit.ensures.turned c.args.devices.now) e
 
+pub returns-in-Edit-clause-bytes : goal.returns-in-Edit-clause-bytes
+returns-in-Edit-clause-bytes g c shelf e = never_lost _ _ _ _ _ _ shelf reopen.NotEmpty (c.play_edit.ensures.turned c.args.devices.now) e
+
 pub returns-in-Edit-clause-damaged : goal.returns-in-Edit-clause-damaged
 returns-in-Edit-clause-damaged g c known shelf place e = never_lost _ _ _ _ _ _ shelf (reopen.Damaged place) (c.play_edit.ensures.turned c.args.devices.now) e
 

@@ -57,7 +57,7 @@ returns-in-Err-open_on g c =
     let p = c.in-Ok.ensures in
     let disks = c.in-Ok.disks in
     let is : c.open_on.result ≡ Err (c.in-Err-open_on.fault, c.in-Err-open_on.disks, c.in-Err-open_on._nonces) = search rules in
-    subst (λ why. StaysShut v (is_to_follow c.args.opening) rack c.args.shelf why) (sym c.by.ensures)
+    subst (λ why. StaysShut v (is_to_follow c.args.opening) rack c.args.shelf why) (sym c.why_not.ensures)
     (refused_shut v g.D.Disk.tells (g.R.Rack.tells && g.D.Disk.tells) (is_to_follow c.args.opening) before mid c.args.shelf disks (λ t. (both_tell _ _ t).1)
     p.asked (record {
       out = p.out;

@@ -9,9 +9,7 @@ use Rattle.play_desk.specs.Asking.{AsksForAll, AsksUntil}
 use Rattle.play_desk.specs.Opening.{IsClosedBy, IsLeft}
 use Rattle.play_desk.proofs.Asking.{asked_through}
 use Rattle.play_desk.proofs.Closing.{left_home}
-use Rattle.server_command.specs.Output.{sinks_of}
 use Rattle.server_command.specs.Racks.{racks_of}
-use Rattle.server_command.specs.Telling.{TellsUnopened}
 use Rattle.measured_run.proofs.Going.{told_by}
 use Rattle.server_command.proofs.Opened.{again_outputs, first_outputs}
 use Rattle.server_command.proofs.Openings.{both_tell}
@@ -141,10 +139,11 @@ returns-in-Reopen-clause-outputs g c = λ bytes h.
     let first = c.in-Ok.ensures.failed_later shelf in
     let last = c.close.ensures.failed_later shelf in
     record { all = omega (arith, rose, c.in-Ok.ensures.later_open, c.close.ensures.later); here = omega (arith, here, first, last) })
+    (λ e. c.in-Reopen.ensures.bytes shelf (ap (λ w. Reopen shelf w) e))
     (λ t place e. c.in-Reopen.ensures.damaged t shelf place (ap (λ w. Reopen shelf w) e))
     (λ t place e. c.in-Reopen.ensures.other t shelf place (ap (λ w. Reopen shelf w) e))
     c.play-end.ensures.later
-    (subst (λ w. TellsUnopened shelf w c.tell_unopened-in-Reopen.result (sinks_of mid new)) c.of-why.ensures c.tell_unopened-in-Reopen.ensures.tells)
+    c.tell_unopened-in-Reopen.ensures.tells
 
 -- ---- what was asked of the rack
 

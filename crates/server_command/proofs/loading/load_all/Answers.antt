@@ -17,7 +17,6 @@ use Rattle.play_steps.specs.declared.stage.Reopen.TheVariants as again
 use Rattle.play_desk.specs.Staff.{desk_of, faults_in, shelf_at, total}
 use Rattle.server_command.specs.Output.{sinks_of}
 use Rattle.server_command.specs.Racks.{racks_of}
-use Rattle.server_command.specs.Telling.{TellsUnopened}
 use Rattle.server_command.proofs.Loads.{again_leaves, error_is, first_leaves, loaded_by, lost_if, measure_leaves, memory_leaves, short_if, untouched}
 use Rattle.server_command.proofs.Openings.{both_tell}
 use Rattle.server_command.proofs.Orders.{measure_asked, memory_asked, unopened_asked, until_own}
@@ -125,9 +124,10 @@ returns-in-Err-Reopen-clause-leaves g c =
     let first = c.in-Ok-open_desk.ensures.failed_later shelf in
     let last = c.close.ensures.failed_later shelf in
     record { all = omega (arith, rose, c.in-Ok-open_desk.ensures.later_open, c.close.ensures.later); here = omega (arith, here, first, last) })
+    (λ e. c.load-end.ensures.bytes shelf (error_is c.load-end.result shelf why again.NotEmpty is e))
     (λ t place e. c.load-end.ensures.damaged t shelf place (error_is c.load-end.result shelf why (again.Damaged place) is e))
     (λ t place e. c.load-end.ensures.other t shelf place (error_is c.load-end.result shelf why (again.Other place) is e))
-    (subst (λ w. TellsUnopened shelf w c.tell_unopened-in-Err-Reopen.result (sinks_of old new)) c.of-why.ensures c.tell_unopened-in-Err-Reopen.ensures.tells)
+    c.tell_unopened-in-Err-Reopen.ensures.tells
 
 -- ---- the rack after it
 

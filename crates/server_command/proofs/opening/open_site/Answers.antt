@@ -7,8 +7,8 @@ use Rattle.disk_trio.specs.Trio.{trio_view}
 use Rattle.disk_trio.specs.declared.trio.Disks.{Disks}
 use Rattle.trio_rack.specs.Trios.{shelves_of}
 use Rattle.trio_rack.proofs.Each.{shelves_as_disks}
-use Rattle.play_desk.specs.Opening.{FailedFor, cause_of, reopen_of}
-use Rattle.play_desk.specs.declared.opening.OpenCause.TheVariants as cause
+use Rattle.play_desk.specs.Opening.{FailedFor, reopen_of}
+use Rattle.play_steps.specs.declared.stage.Reopen.TheVariants as cause
 use Rattle.play_desk.specs.declared.opening.OpenFault.{OpenFault}
 use Rattle.site_serving.specs.Shelves.{IsBegunAt}
 use Rattle.server_command.specs.Opening.{AreOut, FailsAt, HasTaken, IsRefused, RefusesInOrder, TakesBack, seen_on, unopened_by}
@@ -90,7 +90,7 @@ returns-in-Err-clause-refused g c =
       images = seen_on {D = Disks g.row.D.Denot g.D.Disk} trio_view disks;
       held = taken.held;
       refused = subst (λ (f : OpenFault). IsRefused told (FailsAt c.args.options.now.shelves before last) scripts (seen_on {D = Disks g.row.D.Denot g.D.Disk} trio_view disks) f.shelf f.why) why
-          (subst (λ n. IsRefused told (λ k. (k < n) × FailedFor k before last) scripts (seen_on {D = Disks g.row.D.Denot g.D.Disk} trio_view disks) c.in-Err.field-0.shelf (cause_of (reopen_of c.in-Err.field-0.fault))) (sym size ∙ taken.many) refused);
+          (subst (λ n. IsRefused told (λ k. (k < n) × FailedFor k before last) scripts (seen_on {D = Disks g.row.D.Denot g.D.Disk} trio_view disks) c.in-Err.field-0.shelf (reopen_of c.in-Err.field-0.fault)) (sym size ∙ taken.many) refused);
       in_order = λ t.
           subst (λ (f : OpenFault). RefusesInOrder scripts before last c.args.options.now.shelves (seen_on {D = Disks g.row.D.Denot g.D.Disk} trio_view disks) f.shelf f.why) why
           (refused_in_order {D = Disks g.row.D.Denot g.D.Disk} trio_view g.D.Disk.tells scripts disks c.args.sources.items c.in-Err.field-0 before last c.args.options.now.shelves

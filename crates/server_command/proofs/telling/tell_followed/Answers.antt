@@ -1,6 +1,6 @@
 use Rattle.std.proofs.Common.{refl, sym, subst, codes}
 use Rattle.page_follower.specs.declared.fault.FollowEnd.TheVariants as end
-use Rattle.play_desk.specs.declared.opening.OpenCause.TheVariants as cause
+use Rattle.play_steps.specs.declared.stage.Reopen.TheVariants as cause
 use Rattle.server_command.specs.Feeding.{TellsFollowed, feed_line, told}
 use Rattle.server_command.specs.Output.{sinks_of}
 use Rattle.server_command.proofs.Feeds.{feed_told, held_told, unopened_told}
