@@ -11,7 +11,7 @@ use script_value::pieces::{behind, cut_at, number, small_number};
 
 /// The length of the longest spelling, of a page: `/servlets/`, a name, `;`, a `u32`, `*`, a
 /// `u64`, `*`, a `u64`, `*` and a nonce.
-const LONGEST_SPELLING: usize = 10 + 32 + 1 + 10 + 1 + 20 + 1 + 20 + 1 + 16;
+pub(crate) const LONGEST_SPELLING: usize = 10 + 32 + 1 + 10 + 1 + 20 + 1 + 20 + 1 + 16;
 
 /// What a path names. Once its escapes are decoded, it is spelled as a start or a page is.
 #[tactic(auto, using(crate::proofs::Plain::long_path), unfolding(crate::specs::Names::destination_of))]

@@ -1,18 +1,30 @@
 ghost use Rattle.std.specs.Prelude.{◌≡◌, Some, IfOk, string_bytes};
-ghost use Rattle.page_names.specs.Names.{page, spelling, numbers_spelling, destination_of};
+ghost use Rattle.page_names.specs.Names.{page, spelling, destination_of};
 ghost use Rattle.page_names.specs.Views.{name_of};
 
 use crate::names::{PageName, ScriptName};
+use crate::parse::LONGEST_SPELLING;
 use script_value::Bytes;
 use std::alloc::{AllocError, Global};
 
 /// The URL of a page, as a text.
+#[tactic(auto, using(crate::proofs::Hex::hex_written))]
 pub fn url_text(alloc: Global, name: &ScriptName, numbers: PageName) -> Result<String, AllocError>
     ensures { IfOk result (λ text. string_bytes text ≡ spelling (page (name_of name.now) numbers)) }
 {
     let name = name.as_str();
-    let numbers = numbers_text(alloc, numbers)?;
-    format!(in alloc; "/servlets/{name};{numbers}")
+    let PageName {
+        shelf,
+        instance,
+        page,
+        nonce,
+    } = numbers;
+    let mut url = String::with_capacity(alloc, LONGEST_SPELLING)?;
+    write!(
+        url,
+        "/servlets/{name};{shelf}*{instance}*{page}*{nonce:016x}"
+    )?;
+    Ok(url)
 }
 
 /// The URL of a page.
@@ -22,18 +34,4 @@ pub fn write_url(alloc: Global, name: &ScriptName, numbers: PageName) -> Result<
 {
     let text = url_text(alloc, name, numbers)?;
     Ok(Bytes::new(text.into_bytes()))
-}
-
-// What stands after the `;`.
-#[tactic(auto, using(crate::proofs::Hex::hex_written))]
-fn numbers_text(alloc: Global, numbers: PageName) -> Result<String, AllocError>
-    ensures { IfOk result (λ text. string_bytes text ≡ numbers_spelling numbers) }
-{
-    let PageName {
-        shelf,
-        instance,
-        page,
-        nonce,
-    } = numbers;
-    format!(in alloc; "{shelf}*{instance}*{page}*{nonce:016x}")
 }
