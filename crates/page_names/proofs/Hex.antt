@@ -1,19 +1,14 @@
 -- Sixteen hexadecimal digits: what is read is what is written.
-use Rattle.std.proofs.Common.{◌≡◌, ◌≢◌, get_or, ℕ, zero, suc, ◌+◌, ◌*◌, ◌-◌, ◌/◌, ◌%◌, ◌^◌, ◌<◌, ◌≤◌, ◌&&◌, ◌==◌, Bool, true, false, List, [], ◌∷◌, ◌++◌, length, Some, Result, Ok, Err, refl, sym, ◌∙◌, ap, arith, append-nil, length-append, pow-suc}
+use Rattle.std.proofs.Common.{◌≡◌, get_or, min, ℕ, zero, suc, ◌+◌, ◌*◌, ◌-◌, ◌/◌, ◌%◌, ◌^◌, ◌<◌, ◌≤◌, ◌&&◌, ◌==◌, Bool, true, false, List, [], ◌∷◌, ◌++◌, length, Some, refl, sym, ◌∙◌, ap, arith, append-nil, length-append, pow-suc}
 use Rattle.std.specs.Prelude.{replicate}
 use Rattle.std.specs.List.{list_all}
 use Rattle.std.specs.Char.{digit_value}
 use Rattle.std.specs.Fmt.{digits, digits_onto, digit_glyph, padded_integral, format_spec, char_count}
-use Rattle.std.specs.Result.{OkIff, result_ok}
-use Rattle.std.specs.Str.{IsUtf8, IsAscii}
-use Rattle.std.specs.Str.Parse.{digits_value, digits_value_after, AllDigits, IsNumeral, ParsesUnsigned, without_leading_plus}
+use Rattle.std.specs.Str.Parse.{digits_value, digits_value_after, AllDigits}
 use Rattle.std.proofs.lemmas.Bool.{and_parts, and_from, eq-eqb}
 use Rattle.std.proofs.lemmas.Bool.Decides.{nat_tests}
 use Rattle.std.proofs.lemmas.Int.Digits.{digits_value-lt}
-use Rattle.std.proofs.lemmas.Str.{IsUtf8-from_ascii}
 use Rattle.std.proofs.lemmas.List.{length-replicate}
-use Rattle.std.proofs.lemmas.Str.Ascii.{IsAscii-nil, IsAscii-cons}
-use Rattle.std.proofs.lemmas.Str.Parse.{without_leading_plus_none}
 use Rattle.page_names.specs.Hex.{is_hex_digit, hex_number, hex_onto, hex16}
 use Rattle.std.proofs.lemmas.Option.{cond_some}
 
@@ -28,10 +23,6 @@ value_small c h = grind (arith, nat_tests)
 
 value_glyph : (c : ℕ) → is_hex_digit c ≡ true → digit_glyph false (digit_value c) ≡ c
 value_glyph c h = grind (arith, nat_tests)
-
-ascii : (ds : List ℕ) → list_all is_hex_digit ds ≡ true → IsAscii ds
-ascii [] h = IsAscii-nil
-ascii (c ∷ ds) h = let two = and_parts (is_hex_digit c) (list_all is_hex_digit ds) h in IsAscii-cons c ds (grind (arith, nat_tests)) (ascii ds two.1)
 
 all_digits : (ds : List ℕ) → list_all is_hex_digit ds ≡ true → AllDigits 16 ds
 all_digits [] h = tt
@@ -119,27 +110,27 @@ hex_written n small =
     omega (arith, whole, length-append (replicate pad.0 48) (digits_onto 64 16 false n []), length-replicate {A = ℕ} pad.0 48) in
     filled (digits_onto 64 16 false n []) pad.0 count ∙ sym pad.1
 
-pub hex_text : (ds : List ℕ) → list_all is_hex_digit ds ≡ true → IsUtf8 ds
-hex_text ds h = IsUtf8-from_ascii ds (ascii ds h)
+-- a digit below the letters
+pub decimal_digit : (c : ℕ) → is_hex_digit c ≡ true → c ≤ 57 → digit_value c ≡ c - 48
+decimal_digit c h low = grind (arith, nat_tests)
 
-unsigned : (ds : List ℕ) → list_all is_hex_digit ds ≡ true → get_or ds 0 0 ≢ 43
-unsigned [] h = omega arith
-unsigned (c ∷ ds) h = let two = and_parts (is_hex_digit c) (list_all is_hex_digit ds) h in (λ e. let plus : is_hex_digit 43 ≡ true = rw e at two.0 in let no_way : ⊥ = cc in no_way)
+-- a digit that is a letter
+pub letter_digit : (c : ℕ) → is_hex_digit c ≡ true → 57 < c → digit_value c ≡ (c - 97) + 10
+letter_digit c h high = grind (arith, nat_tests)
 
-read : {E : Type 0} (ds : List ℕ) (r : Result ℕ E) → length ds ≡ 16 → list_all is_hex_digit ds ≡ true → digits_value 16 ds < 2 ^ 64
-    → 0 < length ds → AllDigits 16 ds → OkIff r (IsNumeral 16 ds × (digits_value 16 ds < 2 ^ 64)) (digits_value 16 ds) → result_ok r ≡ hex_number ds
-read ds (Ok n) len h fits some all o = let test : (length ds == 16) ≡ true = eq-eqb _ _ len in rw (test, h, o.1) refl
-read ds (Err e) len h fits some all o = absurd (o ((some, all), fits))
+pub each_hex_digit : (ds : List ℕ) (i : ℕ) → i < length ds → list_all is_hex_digit ds ≡ true → is_hex_digit (get_or ds i 0) ≡ true
+each_hex_digit [] i h all = absurd (omega arith)
+each_hex_digit (d ∷ ds) zero h all = (and_parts (is_hex_digit d) (list_all is_hex_digit ds) all).0
+each_hex_digit (d ∷ ds) (suc i) h all = each_hex_digit ds i (omega arith) (and_parts (is_hex_digit d) (list_all is_hex_digit ds) all).1
 
--- what `from_str_radix` reads
-pub hex_read : {E : Type 0} (ds : List ℕ) (r : Result ℕ E) → length ds ≡ 16 → list_all is_hex_digit ds ≡ true → ParsesUnsigned 64 16 ds r
-    → result_ok r ≡ hex_number ds
-hex_read ds r len h p =
-    let all = all_digits ds h in
-    let below : digits_value 16 ds < 16 ^ length ds = digits_value-lt 16 ds all in
+-- what is read is the number of the digits, which fits
+pub hex_read : (ds : List ℕ) → length ds ≡ 16 → list_all is_hex_digit ds ≡ true → Some (min (digits_value 16 ds) (2 ^ 64 - 1)) ≡ hex_number ds
+hex_read ds len h =
+    let test : (length ds == 16) ≡ true = eq-eqb _ _ len in
+    let below : digits_value 16 ds < 16 ^ length ds = digits_value-lt 16 ds (all_digits ds h) in
     let fits : digits_value 16 ds < 2 ^ 64 = (let f : digits_value 16 ds < 16 ^ 16 = rw len at below in f) in
-    let plain : without_leading_plus ds ≡ ds = without_leading_plus_none ds (unsigned ds h) in
-    read ds r len h fits (omega arith) all (rw plain at p)
+    let same : min (digits_value 16 ds) (2 ^ 64 - 1) ≡ digits_value 16 ds = omega (arith, fits) in
+    rw (test, h, same) refl
 
 -- what is read is spelled so, and fits
 pub hex_spelled : (ds : List ℕ) (n : ℕ) → hex_number ds ≡ Some n → (ds ≡ hex16 n) × (n < 2 ^ 64)
