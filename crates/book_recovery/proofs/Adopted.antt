@@ -7,11 +7,9 @@ use Rattle.script_nodes.specs.Views.{library_of}
 use Rattle.script_nodes.specs.declared.library.Library as told
 use Rattle.page_journal.specs.Records.{newest}
 use Rattle.replay_spec.specs.Admission.{is_one}
-use Rattle.replay_spec.specs.Remade.{IsOrderlyMade}
 use Rattle.journal_records.specs.Records.{Record, begins, changes, renews, draws, follows, promotes}
 use Rattle.journal_records.specs.Old.{read_record_in}
 use Rattle.setup_reader.specs.Texts.{setup_of_texts}
-use Rattle.book_redo.specs.InstanceBook.Standing.{book_under}
 use Rattle.book_redo.specs.JournalSpec.Before.{Earlier}
 use Rattle.book_redo.specs.JournalSpec.Making.{Making, waits, begun, damaged, other, began, fed_by, first_setup}
 use Rattle.book_redo.specs.InstanceBook.declared.in_order.InOrder.{InOrder}
@@ -22,17 +20,14 @@ use Rattle.file_notes.specs.Files.{marks_in, StaysAsTold}
 use Rattle.book_recovery.specs.declared.reader.Reader.{Reader}
 use Rattle.book_recovery.specs.declared.found.Found.TheVariants as found
 use Rattle.book_recovery.specs.Noting.{NotesWith}
-use Rattle.book_recovery.specs.Adopting.{IsLeftAlone, BeginsSo, IsBegunAs, BeginsNotes, begun_by}
-use Rattle.book_recovery.specs.Reading.{seen_by, TellsOf, IsMadeAs, IsUnderWay, IsNothing, Gives, GivesWith, IsKept, TakesNothing}
+use Rattle.book_recovery.specs.Adopting.{IsLeftAlone, BeginsSo, BeginsNotes, begun_by}
+use Rattle.book_recovery.specs.Reading.{seen_by, TellsOf, IsMadeAs, IsNothing, Gives, GivesWith, TakesNothing}
 
 pub unchanged : (b : Book) → IsUnchanged b b
 unchanged b = record { book = λ library beside. refl; placed = λ all h. h; states = λ source all h. h }
 
 pub as_told : (n : FileNotes) → StaysAsTold n n
 as_told n = record { file = refl; notes = refl; head = refl; drawn = refl }
-
-pub nothing_taken : (r : Reader) → TakesNothing r r
-nothing_taken r = record { follows = refl; seen = refl; notes = as_told r.notes }
 
 pub left_alone : (seen : InOrder (Unit {0})) (b : Book) (library : told.Library) (n : FileNotes) → IsLeftAlone seen seen b b library library n n
 left_alone seen b library n = record { seen = refl; book = unchanged b; scripts = refl; notes = as_told n }
@@ -59,16 +54,6 @@ made_seen shelf n fed alone b library s t m none also h = record {
   first = h.first;
 }
 
-way_seen : (shelf : ℕ) (b : Book) (library : Library) (s t : InOrder (Unit {0})) → seen_by s ≡ [] → seen_by t ≡ [] → IsUnderWay shelf true s b library → IsUnderWay shelf true t b library
-way_seen shelf b library s t none also h = record {
-  placed = h.placed;
-  shelf_is = h.shelf_is;
-  orderly = subst (λ (ns : List ℕ). IsOrderlyMade (record { book = book_under library b; seen = ns })) (none ∙ sym also) h.orderly;
-  tells = (h.tells.0, tells_seen library s t b h.tells.0 none also h.tells.1);
-  scripts = h.scripts;
-  fresh = λ _. also;
-}
-
 at_first : (shelf : ℕ) (s : InOrder (Unit {0})) → seen_by s ≡ [] → IsNothing shelf 15 true s (waits shelf)
 at_first shelf s none = record { before = (refl, refl); none = none }
 
@@ -80,9 +65,6 @@ module _ (shelf : ℕ) (body : List ℕ) (s : InOrder (Unit {0})) (t : Bool) (no
       made_seen shelf (20 + length body) true true b (library_of rust) s other_seen (begun_by shelf body) none also
       (subst (λ (n : ℕ). IsMadeAs shelf n true true b (library_of rust) s (begun_by shelf body)) long
       (subst (λ (u : Bool). IsMadeAs shelf (14 + 5 + length body + 1) u true b (library_of rust) s (begun_by shelf body)) fed there))
-
-  pub begun_as : (b : Book) (rust : told.Library) → IsKept shelf true s (found.Made b rust) → IsBegunAs shelf b (library_of rust) (Ok true)
-  begun_as b rust way other_seen also = way_seen shelf b (library_of rust) s other_seen none also way
 
   pub notes_so : (b : Book) (rust : told.Library) (known then_known : FileNotes)
       → ((m : Making) → Gives shelf 15 true true found.Nothing s m → NotesWith newest shelf 14 body known then_known (found.Made b rust) m) → BeginsNotes shelf body known then_known (Ok true)

@@ -1,5 +1,5 @@
 -- A record opens one instance at most.
-use Rattle.std.proofs.Common.{◌≡◌, ◌∙◌, ap, sym, subst, ℕ, ◌+◌, ◌*◌, ◌≤◌, Bool, not, ◌==◌, List, [], length, Option, Some, None, slice_get, refl, arith}
+use Rattle.std.proofs.Common.{◌≡◌, ◌∙◌, ap, sym, subst, ℕ, ◌+◌, ◌≤◌, Bool, not, ◌==◌, List, [], length, Option, Some, None, slice_get, refl, arith}
 use Rattle.script_value.specs.declared.outcome.TxName.{TxName}
 use Rattle.script_nodes.specs.Setup.{Named, Library}
 use Rattle.replay_spec.specs.Book.{Change, opens, extends, ends, finishes, sweeps, Instance, Book, is_live, reopened}
@@ -18,7 +18,7 @@ use Rattle.journal_records.specs.Records.{Record, begins, changes, renews, draws
 use Rattle.book_redo.specs.declared.renew.Renewed.TheVariants as renewed
 use Rattle.book_recovery.specs.declared.found.Found.{Found}
 use Rattle.book_recovery.specs.declared.found.Found.TheVariants as found
-use Rattle.book_recovery.specs.Reading.{seen_by, IsUnderWay, IsMadeOf, IsMadeIn, Begins, Renews, HasFew, CountsOneMore}
+use Rattle.book_recovery.specs.Reading.{seen_by, IsUnderWay, IsMadeOf, IsMadeIn, Begins, HasFew, CountsOneMore}
 use Rattle.book_recovery.proofs.Made.{as_it_is}
 
 -- how many instances a book has
@@ -102,11 +102,3 @@ begun_few shelf place number texts (found.Made b library) made n = omega (arith,
 begun_few shelf place number texts (found.Damaged p) made n = tt
 begun_few shelf place number texts (found.Other p) made n = tt
 begun_few shelf place number texts found.Memory made n = tt
-
--- what a record of another setup makes
-pub renewed_few : (place : ℕ) (b : kept.Book) (library : Library) (texts : List (List ℕ × List ℕ)) (f : Found) → Renews place b library texts f → (n m : ℕ) → n ≤ m → 5 * count_of b ≤ n → HasFew m f
-renewed_few place b library texts found.Nothing made n m more few = absurd made
-renewed_few place b library texts (found.Made c renewed) made n m more few = omega (arith, ap (λ (y : kept.Book). count_of y) made.0, more, few)
-renewed_few place b library texts (found.Damaged p) made n m more few = tt
-renewed_few place b library texts (found.Other p) made n m more few = absurd made
-renewed_few place b library texts found.Memory made n m more few = tt

@@ -1,5 +1,5 @@
 -- What a later record makes of what was found, whether it was taken or not.
-use Rattle.std.proofs.Common.{◌≡◌, ℕ, ◌+◌, ◌≤◌, refl, sym, ap, subst, arith, [], Bool, true, false, List, length, Option, Some, Result, Ok, Err}
+use Rattle.std.proofs.Common.{◌≡◌, ℕ, ◌+◌, ◌≤◌, refl, ap, subst, arith, [], Bool, true, false, List, length, Option, Some, Result, Ok, Err}
 use Rattle.std.specs.Prelude.{IfOk, IfSome}
 use Rattle.std.specs.Global.{Vec}
 use Rattle.std.specs.declared.alloc.AllocError.{AllocError}
@@ -12,23 +12,20 @@ use Rattle.replay_spec.specs.Book.{Book}
 use Rattle.book_redo.specs.InstanceBook.Makes.{count_of, HasPlaces}
 use Rattle.book_redo.specs.InstanceBook.Views.{no_journal}
 use Rattle.book_redo.specs.InstanceBook.Standing.{book_under}
-use Rattle.setup_reader.specs.Texts.{setup_of_texts}
 use Rattle.book_redo.specs.JournalSpec.Making.{Making}
-use Rattle.book_redo.specs.JournalSpec.Old.{with_body_at}
 use Rattle.book_redo.specs.Redo.{IsUnchanged, UnlessTaken}
-use Rattle.journal_records.specs.Records.{Record, promotes}
+use Rattle.journal_records.specs.Records.{Record}
 use Rattle.journal_records.specs.Old.{read_record_in}
 use Rattle.file_notes.specs.declared.notes.FileNotes.{FileNotes}
 use Rattle.book_recovery.specs.declared.found.Found.TheVariants as found
-use Rattle.book_recovery.specs.declared.to_note.Noting.TheVariants.{Passes}
-use Rattle.book_recovery.specs.Anew.{KeepsAnew, AnewWith}
-use Rattle.book_recovery.specs.Noted.{NotesBy, NotesMade, MakesAnew}
+use Rattle.book_recovery.specs.Anew.{AnewWith}
+use Rattle.book_recovery.specs.Noted.{NotesMade, MakesAnew}
 use Rattle.book_recovery.specs.Noting.{NotesWith}
 use Rattle.book_recovery.specs.Reading.{IsUnderWay, IsKept, IsMadeAs, IsMadeIn, IsOwnBehind, CountsOneMore, Sees, may_stand, book_as, found_as, WhereTaken, GivesWith, KeepsOwnWith}
 use Rattle.book_recovery.proofs.Counted.{more_counted}
-use Rattle.book_recovery.proofs.Made.{IsNine, later_made, later_damaged, promoted_made, promoted_damaged}
-use Rattle.book_recovery.proofs.Noting.{later_noted, later_anew, promoted_noted, promoted_anew}
-use Rattle.book_recovery.proofs.Way.{later_way, later_owns, way_behind}
+use Rattle.book_recovery.proofs.Made.{IsNine, later_made, later_damaged}
+use Rattle.book_recovery.proofs.Noting.{later_noted, later_anew}
+use Rattle.book_recovery.proofs.Way.{later_way, later_owns}
 
 -- what holds anyhow holds where no record is taken
 pub unless_taken : (x : Result Bool AllocError) (holds : Type 0) → holds → UnlessTaken x holds
@@ -83,40 +80,3 @@ module _ (format shelf : ℕ) (body : List ℕ) (rust : told.Library) (fed alone
   later_bodies (Ok true) kept_before kept_then anew place m is = later_anew format shelf place body l fed alone before old new kept_before kept_then r read stands anew m is
   later_bodies (Ok false) kept_before kept_then anew place m is = tt
   later_bodies (Err e) kept_before kept_then anew place m is = tt
-
--- ---- a record that tells that the shelf follows no longer, where it did
-
-module _ (format shelf : ℕ) (body : List ℕ) (rust : told.Library) (fed alone : Bool) (before : InOrder (Unit {0})) (b : kept.Book) (read : read_record_in format body ≡ Some promotes) where
-  pub promoted_gives : (x : Result Bool AllocError) (then_fed : Bool) → IfOk x (λ (t : Bool). t ≡ fed) → WhereTaken x (then_fed ≡ false)
-      → (place : ℕ) → GivesWith format shelf place body fed alone (found.Made b rust) then_fed false (found_as place x b rust) before before
-  promoted_gives (Ok true) then_fed followed off place m is =
-      subst (λ (t : Bool). IsMadeAs shelf (place + 5 + length body + 1) t false b (library_of rust) before (with_body_at format setup_of_texts shelf place body m)) (sym off)
-      (promoted_made format shelf place body (library_of rust) fed alone before b m is (sym followed) read)
-  promoted_gives (Ok false) then_fed followed off place m is = promoted_damaged format shelf place body (library_of rust) fed alone before b m is (sym followed) read
-  promoted_gives (Err e) then_fed followed off place m is = tt
-
-  pub promoted_owned : (x : Result Bool AllocError) (place : ℕ) → KeepsOwnWith format before (found.Made b rust) body (found_as place x b rust)
-  promoted_owned (Ok true) place own states = states
-  promoted_owned (Ok false) place own states = tt
-  promoted_owned (Err e) place own states = tt
-
-  pub promoted_kept : (x : Result Bool AllocError) → IsUnderWay shelf alone before b (library_of rust) → (place : ℕ) → IsKept shelf false before (found_as place x b rust)
-  promoted_kept (Ok true) way place = way_behind shelf alone before b (library_of rust) way
-  promoted_kept (Ok false) way place = tt
-  promoted_kept (Err e) way place = tt
-
-  pub promoted_notes : (x : Result Bool AllocError) (known then_known : FileNotes) → IfOk x (λ (t : Bool). t ≡ fed) → WhereTaken x (NotesBy (Passes (length body)) known then_known)
-      → (place : ℕ) (m : Making) → IsMadeAs shelf (place + 1) fed alone b (library_of rust) before m → NotesWith format shelf place body known then_known (found_as place x b rust) m
-  promoted_notes (Ok true) known then_known followed noted place m is =
-      let here = subst (λ (t : Bool). IsMadeAs shelf (place + 1) t alone b (library_of rust) before m) (sym followed) is in
-      promoted_noted format shelf place body (library_of rust) alone before b known then_known read noted.0 noted.1 m here
-      (promoted_made format shelf place body (library_of rust) true alone before b m here refl read)
-  promoted_notes (Ok false) known then_known followed noted place m is = tt
-  promoted_notes (Err e) known then_known followed noted place m is = tt
-
-  pub promoted_bodies : (x : Result Bool AllocError) (kept_before kept_then : Vec (List ℕ)) → WhereTaken x (KeepsAnew format body kept_before kept_then)
-      → (place : ℕ) (m : Making) → IsMadeAs shelf (place + 1) fed alone b (library_of rust) before m → AnewWith format body kept_before kept_then (found_as place x b rust) m
-  promoted_bodies (Ok true) kept_before kept_then keeps place m is =
-      promoted_anew format shelf place body (library_of rust) fed alone before b kept_before kept_then (found.Made b rust) read keeps m is
-  promoted_bodies (Ok false) kept_before kept_then keeps place m is = tt
-  promoted_bodies (Err e) kept_before kept_then keeps place m is = tt

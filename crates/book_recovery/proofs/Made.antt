@@ -7,7 +7,7 @@ use Rattle.replay_spec.specs.Rules.{Rules, first_file}
 use Rattle.replay_spec.specs.Change.{with_line, put_in_order, logged_by}
 use Rattle.replay_spec.specs.Admission.{is_one}
 use Rattle.replay_spec.specs.Recovery as recovery
-use Rattle.replay_spec.specs.Recovery.{number_in, is_repeated, with_number, redone, of_length, first_of, resettled}
+use Rattle.replay_spec.specs.Recovery.{number_in, is_repeated, with_number, redone, of_length, resettled}
 use Rattle.replay_spec.specs.Invariant.{Among}
 use Rattle.replay_spec.specs.Remade.{IsOrderlyMade}
 use Rattle.replay_spec.proofs.Stand.{orderly_less}
@@ -28,7 +28,7 @@ use Rattle.journal_records.specs.Old.{read_record_in}
 use Rattle.setup_reader.specs.Texts.{setup_of_texts}
 use Rattle.book_redo.specs.JournalSpec.Before.{States, state_at, Earlier, nothing_told, Made, plain}
 use Rattle.book_redo.specs.JournalSpec.Retaking.{Told, unread, misread, told, told_in, held, states_with, then_told, retaken}
-use Rattle.book_redo.specs.JournalSpec.Making.{Making, begun, made, damaged, other, began, beside, has_script, first_by, start_by, fed_by, first_setup, told_next, next_setup, promoted, promoted_by, with_drawn}
+use Rattle.book_redo.specs.JournalSpec.Making.{Making, begun, made, damaged, other, began, beside, has_script, first_by, start_by, fed_by, first_setup, told_next, next_setup, with_drawn}
 use Rattle.book_redo.specs.JournalSpec.Old.{change_next, next_at, second_at, with_body_at}
 use Rattle.book_redo.specs.declared.renew.Renewed.{Renewed}
 use Rattle.book_redo.specs.declared.renew.Renewed.TheVariants as renewed
@@ -328,53 +328,7 @@ module _ (format shelf place : ℕ) (body : List ℕ) (library : Library) (fed a
       by_alone true e = ap (with_body_at format setup_of_texts shelf place body) e ∙ ap (second_at format setup_of_texts place (length body) w) read
       by_alone false e = ap (with_body_at format setup_of_texts shelf place body) e ∙ ap (next_at format setup_of_texts place (length body) w) read
 
-  -- ---- a record that tells that the shelf follows no longer
-
-  fed_is : w.book.follows ≡ fed
-  fed_is = ap (λ (b : Book). b.follows) is.book
-
-  pub turned_by : read_record_in format body ≡ Some promotes → with_body_at format setup_of_texts shelf place body m ≡ promoted_by place (length body) w fed
-  turned_by read = by_alone alone is.is ∙ ap (promoted_by place (length body) w) fed_is
-    where
-      by_alone : (t : Bool) → m ≡ making_of t w → with_body_at format setup_of_texts shelf place body m ≡ promoted_by place (length body) w w.book.follows
-      by_alone true e = ap (with_body_at format setup_of_texts shelf place body) e ∙ ap (second_at format setup_of_texts place (length body) w) read
-      by_alone false e = ap (with_body_at format setup_of_texts shelf place body) e ∙ ap (next_at format setup_of_texts place (length body) w) read
-
-  pub promoted_made : fed ≡ true → read_record_in format body ≡ Some promotes
-      → IsMadeAs shelf (place + 5 + length body + 1) false false old library before (with_body_at format setup_of_texts shelf place body m)
-  promoted_made followed read =
-      let n = length body in
-      let long : place + 1 + (n + 5) ≡ place + 5 + n + 1 = omega arith in
-      record {
-        whole = promoted n w;
-        is = turned_by read ∙ ap (promoted_by place n w) followed;
-        book =
-            ap (λ (y : Book). record y { length = y.length + (n + 5); follows = false }) is.book
-            ∙ ap (λ (l : ℕ). book_of library (beside_file false l w.book.file) old) long;
-        tells = is.tells;
-        first = λ yes. absurd (let no : ⊥ = cc in no);
-      }
-
-  pub promoted_damaged : fed ≡ false → read_record_in format body ≡ Some promotes → with_body_at format setup_of_texts shelf place body m ≡ damaged place
-  promoted_damaged off read = turned_by read ∙ ap (promoted_by place (length body) w) off
-
   -- ---- a record that can't stand there
-
-  no_record : read_record_in format body ≡ None → with_body_at format setup_of_texts shelf place body m ≡ damaged place
-  no_record read = by_alone alone is.is
-    where
-      by_alone : (t : Bool) → m ≡ making_of t w → with_body_at format setup_of_texts shelf place body m ≡ damaged place
-      by_alone true e = ap (with_body_at format setup_of_texts shelf place body) e ∙ ap (second_at format setup_of_texts place (length body) w) read
-      by_alone false e = ap (with_body_at format setup_of_texts shelf place body) e ∙ ap (next_at format setup_of_texts place (length body) w) read
-
-  -- a record of this kind may stand nowhere, or not after others
-  out_of_place : (t : Bool) → Record → Type 0
-  out_of_place t (begins s named) = Unit {0}
-  out_of_place t (changes c state) = has_script (length library.setup) c ≡ false
-  out_of_place t (renews named) = ⊥
-  out_of_place t (draws number) = t ≡ false
-  out_of_place t follows = Unit {0}
-  out_of_place t promotes = Unit {0}
 
   pub misplaced : (r : Record) → read_record_in format body ≡ Some r → may_stand alone (length library.setup) r ≡ false → ((named : List (List ℕ × List ℕ)) → r ≡ renews named → ⊥) → (r ≡ promotes → ⊥)
       → with_body_at format setup_of_texts shelf place body m ≡ damaged place
@@ -398,9 +352,6 @@ module _ (format shelf place : ℕ) (body : List ℕ) (library : Library) (fed a
       by_alone : (t : Bool) → m ≡ making_of t w → t ≡ false → with_body_at format setup_of_texts shelf place body m ≡ damaged place
       by_alone true e not = absurd (let never : ⊥ = cc in never)
       by_alone false e not = ap (with_body_at format setup_of_texts shelf place body) e ∙ ap (next_at format setup_of_texts place (length body) w) read
-
-  pub unread_record : read_record_in format body ≡ None → with_body_at format setup_of_texts shelf place body m ≡ damaged place
-  unread_record = no_record
 
   -- ---- a record that tells a number
 
@@ -589,9 +540,6 @@ module _ (format shelf place : ℕ) (body : List ℕ) (fed : Bool) (seen : InOrd
       by_fed : (t : Bool) → IsBefore t shelf (place + 1) m → with_body_at format setup_of_texts shelf place body m ≡ damaged place
       by_fed true before = (front_by true o read before).0 one refl
       by_fed false before = (front_by false o read before).1 two three refl
-
-  pub first_unread : read_record_in format body ≡ None → with_body_at format setup_of_texts shelf place body m ≡ damaged place
-  first_unread read = front_damaged None read refl refl refl
 
   pub first_no_begin : (r : Record) → read_record_in format body ≡ Some r → IsNoBegin r → turns fed place r ≡ false → with_body_at format setup_of_texts shelf place body m ≡ damaged place
   first_no_begin (begins s named) read h off = absurd h

@@ -27,7 +27,7 @@ use Rattle.setup_reader.specs.Texts.{setup_of_texts}
 use Rattle.book_redo.specs.JournalSpec.Before.{Made, plain}
 use Rattle.book_redo.specs.JournalSpec.Retaking.{Told, unread, misread, told, told_in, held, landing, retaken}
 use Rattle.book_redo.specs.JournalSpec.Lengths.{own_told}
-use Rattle.book_redo.specs.JournalSpec.Making.{Making, begun, made, beside, told_next, next_setup, promoted, with_drawn as with_drawn_number}
+use Rattle.book_redo.specs.JournalSpec.Making.{Making, begun, made, beside, told_next, next_setup, with_drawn as with_drawn_number}
 use Rattle.book_redo.specs.JournalSpec.Old.{told_at, told_of, landing_told, landing_of, change_next, second_at, next_at, with_body_at}
 use Rattle.book_redo.specs.JournalSpec.Copying.{state_now}
 use Rattle.book_redo.specs.declared.renew.Renewed.TheVariants as renewed
@@ -39,13 +39,13 @@ use Rattle.file_notes.specs.declared.note.Note.{Note}
 use Rattle.book_recovery.specs.declared.found.Found.{Found}
 use Rattle.book_recovery.specs.declared.found.Found.TheVariants as found
 use Rattle.book_recovery.specs.Found.{beside_file}
-use Rattle.book_recovery.specs.Reading.{seen_by, making_of, may_stand, Begins, Renews, IsMadeAgain, IsBefore, IsNothing, IsMadeAs}
+use Rattle.book_recovery.specs.Reading.{seen_by, making_of, may_stand, Renews, IsMadeAgain, IsBefore, IsNothing, IsMadeAs}
 use Rattle.book_recovery.specs.Noting.{mark_by, mark_in, IsFileOf, WhereMade, NotesWith}
 use Rattle.book_recovery.specs.Anew.{IsBodyAnew, IsOfLanding, IsAnewBy, IsAnewIn, HasAnew, KeepsAnew, KeepsTold, AnewWith}
 use Rattle.book_recovery.specs.declared.to_note.Noting.{Noting}
 use Rattle.book_recovery.specs.declared.to_note.Noting.TheVariants.{Draws, Passes, Lands}
-use Rattle.book_recovery.specs.Noted.{drawn_by, IsOfMade, IsNotingOf, NotesBy, TakesNote, TakesIfLands, NotesRecord, NotesMade, NotesSetup, NotesFirst, MakesAnew}
-use Rattle.book_recovery.proofs.Made.{begins_as, turned_by, comes_at, repeated_alike, told_beside, held_beside, good_is}
+use Rattle.book_recovery.specs.Noted.{drawn_by, IsOfMade, IsNotingOf, NotesBy, TakesNote, TakesIfLands, NotesRecord, NotesMade, NotesSetup, MakesAnew}
+use Rattle.book_recovery.proofs.Made.{comes_at, repeated_alike, told_beside, held_beside, good_is}
 
 -- ---- a note of a record
 
@@ -307,19 +307,6 @@ module _ (format shelf place : ℕ) (body : List ℕ) (library : Library) (fed a
       by_alone true e = ap (with_body_at format setup_of_texts shelf place body) e ∙ ap (second_at format setup_of_texts place (length body) w) read
       by_alone false e = ap (with_body_at format setup_of_texts shelf place body) e ∙ ap (next_at format setup_of_texts place (length body) w) read
 
--- one that tells that the shelf follows no longer
-pub promoted_noted : (format shelf place : ℕ) (body : List ℕ) (library : Library) (alone : Bool) (before : InOrder (Unit {0})) (b : kept.Book) (old new : FileNotes) → read_record_in format body ≡ Some promotes
-    → file_in new ≡ file_in old → marks_in new ≡ marks_in old ++ false ∷ []
-    → (m : Making) → IsMadeAs shelf (place + 1) true alone b library before m → IsMadeAs shelf (place + 5 + length body + 1) false false b library before (with_body_at format setup_of_texts shelf place body m)
-    → IsFileOf old m → IsFileOf new (with_body_at format setup_of_texts shelf place body m) × (marks_in new ≡ marks_in old ++ mark_in format m body)
-promoted_noted format shelf place body library alone before b old new read file marks m is then_is here =
-    let w = is.whole in
-    let makes : with_body_at format setup_of_texts shelf place body m ≡ made (promoted (length body) w) =
-    turned_by format shelf place body library true alone before b m is read in (
-      subst (IsFileOf new) (sym makes) (file ∙ file_then alone w m old is.is here),
-      marks ∙ ap (λ (ts : List Bool). marks_in old ++ ts) (sym (mark_of format alone w m body promotes is.is read)),
-    )
-
 -- a later record that tells no setup, which makes a book
 pub later_noted : (format shelf place : ℕ) (body : List ℕ) (library : Library) (fed alone : Bool) (before after : InOrder (Unit {0})) (b d : kept.Book) (old new : FileNotes) (r : Record)
     → read_record_in format body ≡ Some r → may_stand alone (length library.setup) r ≡ true → NotesMade format library before b r (length body) old new (Some d)
@@ -361,24 +348,6 @@ still : (fed : Bool) (shelf n : ℕ) (notes : FileNotes) (m : Making) → IsBefo
 still true shelf n notes m (e, long) none = subst (IsFileOf notes) (sym e) none
 still false shelf n notes m (inl (e, long)) none = subst (IsFileOf notes) (sym e) none
 still false shelf n notes m (inr (e, long)) none = subst (IsFileOf notes) (sym e) none
-
--- the record of the first setup, where it begins a book of this shelf
-pub first_noted : (format shelf place : ℕ) (body : List ℕ) (number : ℕ) (named : List (List ℕ × List ℕ)) (fed : Bool) (seen : InOrder (Unit {0})) (old new : FileNotes) (f : Found) → read_record_in format body ≡ Some (begins number named)
-    → Begins shelf place number named f → NotesFirst named (length body) new f → (m : Making) → IsNothing shelf (place + 1) fed seen m → NotesWith format shelf place body old new f m
-first_noted format shelf place body number named fed seen old new (found.Made b library) read starts note m none = λ here.
-    let scripts = (library_of library).setup in
-    let its = note scripts starts.1.read in
-    let makes = begins_as format shelf place body number named read fed seen m none scripts starts.0 starts.1.read in
-    let bare : marks_in old ++ mark_in format m body ≡ [] =
-    ap (λ (ts : List Bool). marks_in old ++ ts) (none_in fed shelf (place + 1) format body m none.before)
-    ∙ (append-nil (marks_in old) ∙ unmarked fed shelf (place + 1) old m none.before here) in (
-      subst (IsFileOf new) (sym makes) its.0,
-      its.1 ∙ sym bare,
-    )
-first_noted format shelf place body number named fed seen old new found.Nothing read starts note m none = absurd starts
-first_noted format shelf place body number named fed seen old new (found.Damaged p) read starts note m none = tt
-first_noted format shelf place body number named fed seen old new (found.Other p) read starts note m none = tt
-first_noted format shelf place body number named fed seen old new found.Memory read starts note m none = tt
 
 -- a record that tells before that whether the shelf follows
 pub turned_noted : (format shelf place : ℕ) (body : List ℕ) (fed then_fed : Bool) (seen : InOrder (Unit {0})) (old new : FileNotes) (m : Making) → new ≡ old → IsNothing shelf (place + 1) fed seen m
@@ -426,13 +395,6 @@ first_anew format shelf n body fed old new f keeps m none =
     by_role true (e, long) = subst (λ (x : Making). IsAnewIn format x body (body ∷ [])) (sym e) refl
     by_role false (inl (e, long)) = subst (λ (x : Making). IsAnewIn format x body (body ∷ [])) (sym e) refl
     by_role false (inr (e, long)) = subst (λ (x : Making). IsAnewIn format x body (body ∷ [])) (sym e) refl
-
--- that of a record which tells that the shelf follows no longer too
-pub promoted_anew : (format shelf place : ℕ) (body : List ℕ) (library : Library) (fed alone : Bool) (before : InOrder (Unit {0})) (b : kept.Book) (old new : Vec (List ℕ)) (f : Found)
-    → read_record_in format body ≡ Some promotes → KeepsAnew format body old new → (m : Making) → IsMadeAs shelf (place + 1) fed alone b library before m → AnewWith format body old new f m
-promoted_anew format shelf place body library fed alone before b old new f read keeps m is =
-    where_made f ((bodies : List (List ℕ)) × (IsAnewIn format m body bodies × HasAnew format bodies old new))
-    (body ∷ [], (anew_in format alone is.whole m body promotes (body ∷ []) is.is read refl, keeps))
 
 -- what is told is kept as the newest format has it, but where it tells a number
 pub anew_told : (format : ℕ) (library : Library) (seen : InOrder (Unit {0})) (b : kept.Book) (r : Record) (l : Logged) (old new : Vec (List ℕ)) (x : Result (Option kept.Book) AllocError)

@@ -198,17 +198,6 @@ own_in_first format shelf alone seen b rust body one way =
     let m : Made = record { book = book_under (library_of rust) b; earlier = way.tells.0 } in
     subst (λ (f : ℕ). IsOwnFor f seen (found.Made b rust) body) (sym one) (way.tells.0, (way.tells.1, own_record m (read_record_in 1 body)))
 
--- after a record that changes nothing of it
-pub way_behind : (shelf : ℕ) (alone : Bool) (seen : InOrder (Unit {0})) (b : kept.Book) (library : Library) → IsUnderWay shelf alone seen b library → IsUnderWay shelf false seen b library
-way_behind shelf alone seen b library way = record {
-  placed = way.placed;
-  shelf_is = way.shelf_is;
-  orderly = way.orderly;
-  tells = way.tells;
-  scripts = way.scripts;
-  fresh = λ yes. absurd (let no : ⊥ = cc in no);
-}
-
 -- with another setup
 texts_again : (named : List (List ℕ × List ℕ)) (scripts : List Named) → ReadsAsTold setup_of_texts → setup_of_texts named ≡ Some scripts → IsRead setup_of_texts scripts
 texts_again named scripts law reads = ap setup_of_texts (law named scripts reads) ∙ reads
@@ -357,9 +346,6 @@ turned_role x format body true place (renews named) small read on = absurd (let 
 turned_role x format body false place (renews named) small read on = absurd (let never : ⊥ = cc on in never)
 turned_role x format body true place (draws number) small read on = absurd (let never : ⊥ = cc on in never)
 turned_role x format body false place (draws number) small read on = absurd (let never : ⊥ = cc on in never)
-
-pub promoted_role : AreRecordsExact → (format : ℕ) (body : List ℕ) → AreBytes body → read_record_in format body ≡ Some promotes → is_role body ≡ true
-promoted_role x format body small read = ap is_role (x.alike format body promotes small read tt).spelled
 
 -- what is no first setup
 pub not_begin : (l : Logged) → ((s : ℕ) (scripts : Vec ScriptText) → l ≡ logged.Begin s scripts → ⊥) → IsNoBegin (logged_of l)

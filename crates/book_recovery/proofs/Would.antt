@@ -8,7 +8,7 @@ use Rattle.script_nodes.specs.declared.setup.Setup.{Setup}
 use Rattle.script_nodes.specs.Views.{scripts_of}
 use Rattle.page_journal.specs.Records.{newest}
 use Rattle.replay_spec.specs.Book.{Change, ends, finishes, sweeps}
-use Rattle.journal_records.specs.Records.{Record, begins, changes, renews, draws, follows, promotes}
+use Rattle.journal_records.specs.Records.{Record, begins, renews, promotes}
 use Rattle.journal_records.specs.Old.{read_record_in}
 use Rattle.journal_records.specs.Views.{logged_of, page_change, ending_of, finish_of}
 use Rattle.journal_records.specs.declared.records.Logged.{Logged}
@@ -24,35 +24,14 @@ use Rattle.book_redo.specs.Redo.{is_read}
 use Rattle.book_recovery.specs.Adopting.{begun_by, TellsStanding, IsReadBehind}
 use Rattle.book_recovery.specs.Found.{beside_file}
 use Rattle.book_recovery.specs.Reading.{making_of, may_stand, IsMadeAs, IsSetupOf}
-use Rattle.book_recovery.proofs.Made.{IsNoBegin, comes_at, misplaced, unread_record, renewed_damaged}
+use Rattle.book_recovery.proofs.Made.{comes_at, misplaced, renewed_damaged}
 
 -- ---- the first one
 
 module _ (shelf : ℕ) (body : List ℕ) where
-  pub begun_unread : read_record_in newest body ≡ None → made_in (begun_by shelf body) ≡ None
-  begun_unread read = ap (λ (o : Option Record). made_in (fed_by setup_of_texts shelf 14 (length body) o)) read
-
-  pub begun_never : (r : Record) → read_record_in newest body ≡ Some r → IsNoBegin r → made_in (begun_by shelf body) ≡ None
-  begun_never (begins s named) read h = absurd h
-  begun_never (changes c state) read h = ap (λ (o : Option Record). made_in (fed_by setup_of_texts shelf 14 (length body) o)) read
-  begun_never (renews named) read h = ap (λ (o : Option Record). made_in (fed_by setup_of_texts shelf 14 (length body) o)) read
-  begun_never (draws number) read h = ap (λ (o : Option Record). made_in (fed_by setup_of_texts shelf 14 (length body) o)) read
-  begun_never follows read h = ap (λ (o : Option Record). made_in (fed_by setup_of_texts shelf 14 (length body) o)) read
-  begun_never promotes read h = ap (λ (o : Option Record). made_in (fed_by setup_of_texts shelf 14 (length body) o)) read
-
   module _ (number : ℕ) (named : List (List ℕ × List ℕ)) (read : read_record_in newest body ≡ Some (begins number named)) where
     begins_by : (o : Option (List Named)) → setup_of_texts named ≡ o → begun_by shelf body ≡ first_setup true shelf 14 (length body) number o
     begins_by o reads = ap (fed_by setup_of_texts shelf 14 (length body)) read ∙ ap (first_setup true shelf 14 (length body) number) reads
-
-    pub begun_elsewhere : (number ≡ shelf → ⊥) → made_in (begun_by shelf body) ≡ None
-    begun_elsewhere differs = ap made_in (begins_by (setup_of_texts named) refl) ∙ by_setup (setup_of_texts named)
-      where
-        away : (number == shelf) ≡ false
-        away = grind (arith, nat_tests, differs)
-
-        by_setup : (o : Option (List Named)) → made_in (first_setup true shelf 14 (length body) number o) ≡ None
-        by_setup None = refl
-        by_setup (Some scripts) = ap (λ (t : Bool). made_in (if t then begun (began true shelf 14 (length body) scripts) else other 14)) away
 
     pub begun_if : number ≡ shelf → (o : Option Setup) → IfSome o (IsSetupOf named) → IfNone o (setup_of_texts named ≡ None) → (t : Bool) → t ≡ is_some o → TellsStanding (Ok t) (begun_by shelf body)
     begun_if same None some none t is =
@@ -80,9 +59,6 @@ module _ (shelf place : ℕ) (body : List ℕ) (library : Library) (fed alone : 
 
   abbrev next : Making
   next = with_body_at newest setup_of_texts shelf place body m
-
-  pub stands_unread : read_record_in newest body ≡ None → made_in next ≡ None
-  stands_unread read = ap made_in (unread_record newest shelf place body library fed alone before b m is read)
 
   pub stands_nowhere : (r : Record) → read_record_in newest body ≡ Some r → may_stand alone (length library.setup) r ≡ false → ((named : List (List ℕ × List ℕ)) → r ≡ renews named → ⊥) → (r ≡ promotes → ⊥) → made_in next ≡ None
   stands_nowhere r read off apart turned = ap made_in (misplaced newest shelf place body library fed alone before b m is r read off apart turned)
