@@ -1,7 +1,6 @@
 -- What is left as it was where one record more is not taken.
-use Rattle.std.proofs.Common.{◌≡◌, ◌∙◌, refl, sym, ap, subst, ℕ, ◌+◌, ◌==◌, Bool, true, false, List, [], length, Option, Some, None, Result, Ok, Err, if◌then◌else◌, inl, inr, arith}
+use Rattle.std.proofs.Common.{◌≡◌, ◌∙◌, refl, sym, ap, subst, ℕ, ◌+◌, ◌==◌, Bool, true, false, List, [], length, Option, Some, None, Ok, if◌then◌else◌, inl, inr, arith}
 use Rattle.std.proofs.lemmas.List.{append-nil}
-use Rattle.std.specs.declared.alloc.AllocError.{AllocError}
 use Rattle.script_nodes.specs.Setup.{Named, Library}
 use Rattle.script_nodes.specs.Views.{library_of}
 use Rattle.script_nodes.specs.declared.library.Library as told
@@ -14,30 +13,12 @@ use Rattle.book_redo.specs.JournalSpec.Before.{Earlier}
 use Rattle.book_redo.specs.JournalSpec.Making.{Making, waits, begun, damaged, other, began, fed_by, first_setup}
 use Rattle.book_redo.specs.InstanceBook.declared.in_order.InOrder.{InOrder}
 use Rattle.book_redo.specs.InstanceBook.declared.book.Book.{Book}
-use Rattle.book_redo.specs.Redo.{IsUnchanged, UnlessTaken}
 use Rattle.file_notes.specs.declared.notes.FileNotes.{FileNotes}
-use Rattle.file_notes.specs.Files.{marks_in, StaysAsTold}
-use Rattle.book_recovery.specs.declared.reader.Reader.{Reader}
+use Rattle.file_notes.specs.Files.{marks_in}
 use Rattle.book_recovery.specs.declared.found.Found.TheVariants as found
 use Rattle.book_recovery.specs.Noting.{NotesWith}
-use Rattle.book_recovery.specs.Adopting.{IsLeftAlone, BeginsSo, BeginsNotes, begun_by}
-use Rattle.book_recovery.specs.Reading.{seen_by, TellsOf, IsMadeAs, IsNothing, Gives, GivesWith, TakesNothing}
-
-pub unchanged : (b : Book) → IsUnchanged b b
-unchanged b = record { book = λ library beside. refl; placed = λ all h. h; states = λ source all h. h }
-
-pub as_told : (n : FileNotes) → StaysAsTold n n
-as_told n = record { file = refl; notes = refl; head = refl; drawn = refl }
-
-pub left_alone : (seen : InOrder (Unit {0})) (b : Book) (library : told.Library) (n : FileNotes) → IsLeftAlone seen seen b b library library n n
-left_alone seen b library n = record { seen = refl; book = unchanged b; scripts = refl; notes = as_told n }
-
--- where a reader takes nothing, neither book nor library changes
-pub left_by : (x : Result Bool AllocError) (old new : Reader) (b c : Book) (library next : told.Library) → UnlessTaken x (IsUnchanged b c) → UnlessTaken x (library_of next ≡ library_of library) → UnlessTaken x (TakesNothing old new)
-    → UnlessTaken x (IsLeftAlone old.seen new.seen b c library next old.notes new.notes)
-left_by (Ok true) old new b c library next book scripts nothing = tt
-left_by (Ok false) old new b c library next book scripts nothing = record { seen = nothing.seen; book = book; scripts = scripts; notes = nothing.notes }
-left_by (Err e) old new b c library next book scripts nothing = record { seen = nothing.seen; book = book; scripts = scripts; notes = nothing.notes }
+use Rattle.book_recovery.specs.Adopting.{BeginsSo, BeginsNotes, begun_by}
+use Rattle.book_recovery.specs.Reading.{seen_by, TellsOf, IsMadeAs, IsNothing, Gives, GivesWith}
 
 -- ---- the first one
 

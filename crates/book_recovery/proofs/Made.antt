@@ -330,29 +330,6 @@ module _ (format shelf place : ℕ) (body : List ℕ) (library : Library) (fed a
 
   -- ---- a record that can't stand there
 
-  pub misplaced : (r : Record) → read_record_in format body ≡ Some r → may_stand alone (length library.setup) r ≡ false → ((named : List (List ℕ × List ℕ)) → r ≡ renews named → ⊥) → (r ≡ promotes → ⊥)
-      → with_body_at format setup_of_texts shelf place body m ≡ damaged place
-  misplaced (begins s named) read off apart turned = by_alone alone is.is
-    where
-      by_alone : (t : Bool) → m ≡ making_of t w → with_body_at format setup_of_texts shelf place body m ≡ damaged place
-      by_alone true e = ap (with_body_at format setup_of_texts shelf place body) e ∙ ap (second_at format setup_of_texts place (length body) w) read
-      by_alone false e = ap (with_body_at format setup_of_texts shelf place body) e ∙ ap (next_at format setup_of_texts place (length body) w) read
-  misplaced (changes c state) read off apart turned =
-      next_is format place shelf body alone c state w m read is.is
-      ∙ ap (λ (t : Bool). if t then change_next format place (length body) w c state else damaged place) (ap (λ (k : ℕ). has_script k c) many ∙ off)
-  misplaced (renews named) read off apart turned = absurd (apart named refl)
-  misplaced promotes read off apart turned = absurd (turned refl)
-  misplaced follows read off apart turned = by_alone alone is.is
-    where
-      by_alone : (t : Bool) → m ≡ making_of t w → with_body_at format setup_of_texts shelf place body m ≡ damaged place
-      by_alone true e = ap (with_body_at format setup_of_texts shelf place body) e ∙ ap (second_at format setup_of_texts place (length body) w) read
-      by_alone false e = ap (with_body_at format setup_of_texts shelf place body) e ∙ ap (next_at format setup_of_texts place (length body) w) read
-  misplaced (draws number) read off apart turned = by_alone alone is.is off
-    where
-      by_alone : (t : Bool) → m ≡ making_of t w → t ≡ false → with_body_at format setup_of_texts shelf place body m ≡ damaged place
-      by_alone true e not = absurd (let never : ⊥ = cc in never)
-      by_alone false e not = ap (with_body_at format setup_of_texts shelf place body) e ∙ ap (next_at format setup_of_texts place (length body) w) read
-
   -- ---- a record that tells a number
 
   drawn_made : (number : ℕ) (new : kept.Book) → read_record_in format body ≡ Some (draws number) → length body ≡ 9 → alone ≡ true → Reopens (λ b. record b { logged = number }) old new

@@ -8,7 +8,7 @@ use Rattle.script_nodes.specs.declared.setup.Setup.{Setup}
 use Rattle.script_nodes.specs.Views.{scripts_of}
 use Rattle.page_journal.specs.Records.{newest}
 use Rattle.replay_spec.specs.Book.{Change, ends, finishes, sweeps}
-use Rattle.journal_records.specs.Records.{Record, begins, renews, promotes}
+use Rattle.journal_records.specs.Records.{begins, renews}
 use Rattle.journal_records.specs.Old.{read_record_in}
 use Rattle.journal_records.specs.Views.{logged_of, page_change, ending_of, finish_of}
 use Rattle.journal_records.specs.declared.records.Logged.{Logged}
@@ -24,7 +24,7 @@ use Rattle.book_redo.specs.Redo.{is_read}
 use Rattle.book_recovery.specs.Adopting.{begun_by, TellsStanding, IsReadBehind}
 use Rattle.book_recovery.specs.Found.{beside_file}
 use Rattle.book_recovery.specs.Reading.{making_of, may_stand, IsMadeAs, IsSetupOf}
-use Rattle.book_recovery.proofs.Made.{comes_at, misplaced, renewed_damaged}
+use Rattle.book_recovery.proofs.Made.{comes_at, renewed_damaged}
 
 -- ---- the first one
 
@@ -59,9 +59,6 @@ module _ (shelf place : ℕ) (body : List ℕ) (library : Library) (fed alone : 
 
   abbrev next : Making
   next = with_body_at newest setup_of_texts shelf place body m
-
-  pub stands_nowhere : (r : Record) → read_record_in newest body ≡ Some r → may_stand alone (length library.setup) r ≡ false → ((named : List (List ℕ × List ℕ)) → r ≡ renews named → ⊥) → (r ≡ promotes → ⊥) → made_in next ≡ None
-  stands_nowhere r read off apart turned = ap made_in (misplaced newest shelf place body library fed alone before b m is r read off apart turned)
 
   pub renewed_if : (named : List (List ℕ × List ℕ)) → read_record_in newest body ≡ Some (renews named) → (o : Option Setup) → IfSome o (IsSetupOf named) → IfNone o (setup_of_texts named ≡ None)
       → (t : Bool) → t ≡ is_some o → TellsStanding (Ok t) next

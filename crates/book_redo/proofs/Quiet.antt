@@ -1,6 +1,6 @@
 -- What a record is in the newest format that shows no page, or is of a later format.
 use Rattle.std.proofs.Common.{◌≡◌, ◌∙◌, ap, sym, subst, ℕ, ◌≤◌, ◌==◌, Bool, true, false, List, Option, Some, None, Result, Ok, Err, if◌then◌else◌, refl}
-use Rattle.std.specs.Prelude.{IfOk, nat_lt, ⊤}
+use Rattle.std.specs.Prelude.{IfOk, nat_lt}
 use Rattle.std.specs.declared.alloc.AllocError.{AllocError}
 use Rattle.script_nodes.specs.Setup.{Library}
 use Rattle.replay_spec.specs.Book.{Change, opens, extends, ends, finishes, sweeps}
@@ -73,23 +73,6 @@ late_told format low library b (logged.Texts scripts) = refl
 late_told format low library b (logged.Drawn number) = refl
 late_told format low library b logged.Follow = refl
 late_told format low library b logged.Promoted = refl
-
--- it shows no page
-abbrev pub HasNoPage : Logged → Type 0
-HasNoPage (logged.Page p state) = ⊥
-HasNoPage _ = ⊤
-
--- and so is one of any format that shows no page
-pub quiet_told : (format : ℕ) (library : Library) (b : Book) (l : Logged) → HasNoPage l → IsRenewed format library b (logged_of l) (renewed.Told l)
-quiet_told format library b (logged.Begin shelf scripts) none = refl
-quiet_told format library b (logged.Page p state) none = absurd none
-quiet_told format library b (logged.Ended e) none = (None, (refl, quiet_is format library b (ends (ending_of e)) tt))
-quiet_told format library b (logged.Finish f) none = (None, (refl, quiet_is format library b (finishes (finish_of f)) tt))
-quiet_told format library b (logged.Sweep clock) none = (None, (refl, quiet_is format library b (sweeps clock) tt))
-quiet_told format library b (logged.Texts scripts) none = refl
-quiet_told format library b (logged.Drawn number) none = refl
-quiet_told format library b logged.Follow none = refl
-quiet_told format library b logged.Promoted none = refl
 
 -- a page that is told with the bytes that the newest format has of its state
 pub told_if : (format : ℕ) (library : Library) (b : Book) (p : PageRecord) (bytes : List ℕ) (state : Option (List ℕ)) (x : Result Renewed AllocError)

@@ -95,9 +95,6 @@ abbrev ends_at : List Effect → Option Place → Option (List TxName)
 ends_at es o = o >>= (λ at. if_held es at.instance.cells [])
 
 module _ (b : kept.Book) (k m : ℕ) (es : List Effect) where
-  pub ended_none : ((all : List Named) → None ≡ instance_at k (instances_of all b.instances)) → (library : Library) (beside : Beside) → ended_in (book_of library beside b) k m es ≡ None
-  ended_none none library beside = ap (λ (o : Option Instance). ends_at es (o >>= place_in m)) (sym (none library.all))
-
   module _ (i : Numbered KeptInstance) (here : (all : List Named) → Some (instance_of all i) ≡ instance_at k (instances_of all b.instances)) where
     ended_is : (o : Option Page) → o ≡ page_at m (pages_of i.item.pages) → (library : Library) (beside : Beside)
         → ended_in (book_of library beside b) k m es ≡ ends_at es (o >>= (λ p. Some (record { instance = instance_of library.all i; page = p })))

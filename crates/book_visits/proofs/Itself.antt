@@ -1,44 +1,31 @@
 -- What is prepared for a ticket, whatever it is for.
-use Rattle.std.proofs.Common.{◌≡◌, ◌∙◌, ap, sym, subst, ℕ, List, [], Some, None, Result, Ok, Err, IfOk, refl}
+use Rattle.std.proofs.Common.{◌≡◌, ◌∙◌, ap, sym, subst, ℕ, List, [], Some, Result, Ok, Err, IfOk, refl}
 use Rattle.std.specs.declared.alloc.AllocError.{AllocError}
 use Rattle.script_value.specs.declared.outcome.Reply.{Reply}
 use Rattle.script_nodes.specs.Setup.{Named, Library}
 use Rattle.script_nodes.specs.declared.script.SendKind.{SendKind}
-use Rattle.page_names.specs.Names.{Destination, start, page}
+use Rattle.page_names.specs.Names.{start, page}
 use Rattle.page_names.specs.declared.names.PageName.{PageName}
 use Rattle.replay_spec.specs.Eval.{Segment}
 use Rattle.replay_spec.specs.Book as spec
 use Rattle.replay_spec.specs.Book.{Instance, instance_at}
 use Rattle.replay_spec.proofs.Numbered.{number_of}
 use Rattle.replay_spec.specs.Change.{shown_by, ended_by}
-use Rattle.replay_spec.specs.Step.{Decision, replies, records}
+use Rattle.replay_spec.specs.Step.{Decision, records}
 use Rattle.replay_spec.specs.Step as step
 use Rattle.book_visits.specs.declared.prepared.Prepared.{Prepared}
 use Rattle.book_visits.specs.declared.ticket.Ticket.{Ticket}
 use Rattle.instance_book.specs.declared.book.Book.{Book}
 use Rattle.instance_book.specs.Views.{Beside, book_of, instances_of}
-use Rattle.book_visits.specs.Views.{reply_of}
-use Rattle.book_visits.specs.Changes.{decision_by, decision_of}
+use Rattle.book_visits.specs.Changes.{decision_of}
 use Rattle.instance_book.specs.Makes.{rules_with}
 use Rattle.book_visits.specs.Prepares.{IsCarriedOut, next_page, extension_by, ending_by, IsOpening, IsExtension, IsEnding, IsFinish, IsDecisionBy, AnswersWithPage, IsOfSegment}
-use Rattle.book_visits.proofs.Lands.{stays, opening_itself, extension_itself, ending_itself, finish_itself}
+use Rattle.book_visits.proofs.Lands.{opening_itself, extension_itself, ending_itself, finish_itself}
 
 module _ (book : Book) (t : Ticket) (s : Segment) where
   -- under each setup that the ticket asks for
   abbrev CarriedBy : Library → Beside → Decision → Prepared → Type 0
   CarriedBy library beside d p = IsCarriedOut library (rules_with 0 0 0 0) (book_of library beside book) d p
-
-  -- what changes nothing
-  pub nothing_itself : (target : Destination) (p : Prepared) → p.logged ≡ 0 → p.change ≡ None → IsOfSegment book t s target p
-  nothing_itself target p logged change =
-      let replied : replies (reply_of p.reply) ≡ decision_of p = ap (decision_by (reply_of p.reply)) (sym change) in
-      record {
-        decision = subst (IsDecisionBy t s target) replied tt;
-        reply = subst AnswersWithPage replied tt;
-        lands = λ library beside has.
-            subst (λ (d : Decision). CarriedBy library beside d p) replied
-            (stays library 0 0 0 0 (book_of library beside book) t p p.reply refl logged change);
-      }
 
   -- a start showed a page
   pub opens_itself : (name bytes : List ℕ) (kind : SendKind) (deadline : ℕ) (p : Prepared) → IsOpening p t bytes s.effects s.entered s.left kind deadline

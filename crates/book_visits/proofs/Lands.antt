@@ -1,5 +1,5 @@
 -- What a prepared visit makes of a book is what the definitions make of it.
-use Rattle.std.proofs.Common.{◌≡◌, ◌∙◌, ap, sym, subst, ℕ, ◌+◌, max, nat_le, List, [], map, length, slice_get, Option, Some, None, Result, Ok, Err, IfOk, IfErr, OnOk, refl, arith, false, inr}
+use Rattle.std.proofs.Common.{◌≡◌, ◌∙◌, ap, sym, subst, ℕ, ◌+◌, max, nat_le, List, [], map, length, slice_get, Option, Some, None, Result, Ok, Err, IfOk, IfErr, OnOk, refl, false, inr}
 use Rattle.std.proofs.lemmas.Option.{get_or_from_slice_get, same_Some}
 use Rattle.script_value.specs.declared.outcome.Reply.{Reply}
 use Rattle.script_value.specs.declared.outcome.Reply.TheVariants as reply
@@ -129,21 +129,10 @@ module _ (library : Library) (fuel life instances pages : ℕ) (b : Book) (t : T
         landed n ∙ (ap (λ (r : step.Reply). (r, logged_with (t.number + 1) (is b.instances) (spend n b))) reply ∙ ap (λ (c : Book). (reply_of p.reply, c)) book);
   }
 
-  -- what changes nothing
-  pub stays : (p : Prepared) (r : Reply) → p.reply ≡ r → p.logged ≡ 0 → p.change ≡ None → Prepares library rules b (replies (reply_of r)) (Ok p)
-  stays p r e l c =
-      let logged : max b.logged 0 ≡ b.logged = grind arith in
-      record { decision = rw (e, c) refl; lands = λ n. rw (e, l, c, logged) refl }
-
   start_shows : (k : ℕ) (named : Named) (s : Segment) (kind : SendKind) (bytes : List ℕ) → s.outcome ≡ paged (shows kind) bytes → nat_le instances (length b.instances) ≡ false
       → let v = start_visit b (ticket_of t) k named in
       settles rules b [] v s ≡ records (step.shown bytes (url_for v)) (opening (b.clock + life) v s k kind) s.entered
   start_shows k named s kind bytes e full = rw (e, full) refl
-
-  -- what was to be recorded and found no memory
-  pub start_wants : (k : ℕ) (named : Named) (s : Segment) (kind : SendKind) (bytes : List ℕ) → s.outcome ≡ paged (shows kind) bytes → nat_le instances (length b.instances) ≡ false
-      → Prepares library rules b (settles rules b [] (start_visit b (ticket_of t) k named) s) (Err reply.Memory)
-  start_wants k named s kind bytes e full = subst IsRecord (sym (start_shows k named s kind bytes e full)) tt
 
   -- a start's page, whatever the ticket is for
   pub opening_itself : b.scripts ≡ library.setup → (begins : BeginsWithIts library t)
@@ -196,14 +185,6 @@ module _ (library : Library) (fuel life instances pages : ℕ) (b : Book) (t : T
   page_wants : (at : Place) (gone : List ℕ) (s : Segment) (kind : SendKind) (bytes : List ℕ) → s.outcome ≡ paged (shows kind) bytes
       → Prepares library rules b (settles rules b gone (page_visit b (ticket_of t) at) s) (Err reply.Memory)
   page_wants at gone s kind bytes e = subst IsRecord (sym (page_shows at gone s kind bytes e)) tt
-
-  pub end_wants : (at : Place) (gone : List ℕ) (s : Segment) (bytes : List ℕ) → s.outcome ≡ paged ends bytes
-      → Prepares library rules b (settles rules b gone (page_visit b (ticket_of t) at) s) (Err reply.Memory)
-  end_wants at gone s bytes e = subst IsRecord (sym (page_ends at gone s bytes e)) tt
-
-  pub finish_wants : (at : Place) (gone : List ℕ) (s : Segment) (bytes : List ℕ) → s.outcome ≡ paged finishes bytes
-      → Prepares library rules b (settles rules b gone (page_visit b (ticket_of t) at) s) (Err reply.Memory)
-  finish_wants at gone s bytes e = subst IsRecord (sym (page_finishes at gone s bytes e)) tt
 
   -- the page of an answer to a page of this instance, and the end and the finish with one, whatever the ticket is for
   module _ (i : Instance) (answered : ℕ) (bytes : List ℕ) (effects : List Effect) (inside left : List TxName) (p : Prepared) where

@@ -65,12 +65,6 @@ abbrev pub FitsIfStart : List Named → spec.Book → Ticket → Admission → T
 FitsIfStart all b t (begins k s) = FitsStart all b t k s
 FitsIfStart all b t _ = ⊤
 
--- the ticket is for some visit of its own
-pub record IsForSome (all : List Named) (t : Ticket) : Type 0 where
-  pub visit : Visit
-  pub ticket : visit.ticket ≡ ticket_of t
-  pub fits : IsFor all t visit
-
 -- a copy stands for the same ticket, and goes on from the same state
 pub record IsCopy (copy t : Ticket) : Type 0 where
   pub ticket : ticket_of copy ≡ ticket_of t

@@ -104,10 +104,6 @@ pair_holds P (Ok t) (Err k) h g = tt
 pair_holds P (Err k) b h g = tt
 
 -- a variable has a place
-Fits : ℕ → Option ℕ → Type 0
-Fits n None = ⊤
-Fits n (Some k) = k < n
-
 place_fits : (b : Bool) (n k : ℕ) (o : Option ℕ) → k < n → HoldsOf (λ j. j < n) o → HoldsOf (λ j. j < n) (if b then Some k else o)
 place_fits true n k o h g = h
 place_fits false n k o h g = g

@@ -1,17 +1,16 @@
 -- From one expression to a script.
-use Rattle.std.proofs.Common.{◌≡◌, ℕ, ◌+◌, ◌<◌, ◌≤◌, Bool, true, false, List, [], ◌∷◌, length, Result, Ok, Err, refl, sym, subst, ap, ◌∙◌, arith, inl, inr}
-use Rattle.std.proofs.lemmas.Bool.{cases_lt}
+use Rattle.std.proofs.Common.{◌≡◌, ℕ, ◌+◌, ◌≤◌, Bool, true, false, List, [], ◌∷◌, length, Result, Ok, Err, refl, sym, subst, ap, ◌∙◌, arith}
 use Rattle.std.proofs.lemmas.Bool.Decides.{nat_tests}
 use Rattle.std.specs.Prelude.{codes, if◌then◌else◌}
 use Rattle.script_value.specs.Val.{Val}
 use Rattle.script_nodes.specs.declared.script.Node.{Node}
 use Rattle.core_syntax.specs.declared.faults.SyntaxKind.{SyntaxKind}
-use Rattle.core_syntax.specs.declared.faults.SyntaxKind.TheVariants.{Shape, TooMany}
+use Rattle.core_syntax.specs.declared.faults.SyntaxKind.TheVariants.{Shape}
 use Rattle.script_nodes.specs.Core.{Core, Cores, core, cores_of, count, count_all, height_all}
 use Rattle.script_nodes.specs.Arena.{IsScript, script_of, arena_of}
 use Rattle.script_nodes.specs.Layout.{layout_all, starts}
 use Rattle.script_nodes.specs.Setup.{Script}
-use Rattle.core_syntax.specs.Laid.{Lacks, StandScript}
+use Rattle.core_syntax.specs.Laid.{StandScript}
 use Rattle.script_nodes.specs.Closed.{IsClosed, AreBodies}
 use Rattle.core_syntax.specs.Expands.{IsLevel}
 use Rattle.core_syntax.specs.Names.{◌>>=◌, parameters_in}
@@ -27,15 +26,6 @@ use Rattle.script_nodes.proofs.Scripts.{script_laid}
 
 within_limits : (cs : Cores) → count_all cs ≤ 16384 → height_all cs ≤ 1024 → are_too_many cs ≡ false
 within_limits cs p q = grind (arith, nat_tests)
-
-many : (cs : Cores) → 16384 < count_all cs → are_too_many cs ≡ true
-many cs p = grind (arith, nat_tests)
-
-deep : (cs : Cores) → 1024 < height_all cs → are_too_many cs ≡ true
-deep cs p = grind (arith, nat_tests)
-
-pub past_limits : (cs : Cores) → Lacks 0 1024 (count_all cs) (height_all cs) → are_too_many cs ≡ true
-past_limits cs h = elim (cases_lt 16384 (count_all cs)) [ inl p ↦ many cs p | inr p ↦ deep cs (h (let q : 0 + count_all cs ≤ 16384 = omega arith in q)) ]
 
 closed_in : (r : Result Core SyntaxKind) (c : Core) (P : Core → Type 0) → Holds P r → r ≡ Ok c → P c
 closed_in (Ok x) c P h e = let f : x ≡ c = cc in rw (← f) h
@@ -78,14 +68,6 @@ made d v c number old nodes firsts l e o s =
       script = subst IsScript arena laid.0;
       table = rw (e, fits) (ap (λ (t : Script). Ok t) (sym laid.1 ∙ ap script_of arena));
     }
-
-pub too_many : (d : Defined) (v : Val) (c : Core) (number : ℕ) (old : List Node)
-    → core_of d.names [] false v ≡ Ok c → old ≡ [] → Lacks (length old) 1024 (count_all (core c (cores_of d.tasks))) (height_all (core c (cores_of d.tasks)))
-    → at_form number (limited d (core_of d.names [] false v)) ≡ Err (TooMany, number)
-too_many d v c number old e o h =
-    let none : length old ≡ 0 = ap length o in
-    let lacks : Lacks 0 1024 (count_all (core c (cores_of d.tasks))) (height_all (core c (cores_of d.tasks))) = rw none at h in
-    rw (e, past_limits (core c (cores_of d.tasks)) lacks) refl
 
 first_fault : {A : Type 0} (r : Result A SyntaxKind) (k : SyntaxKind) → told r ≡ Err k → r ≡ Err k
 first_fault (Ok x) k e = absurd (let no : ⊥ = cc in no)

@@ -1,6 +1,5 @@
 pub mod Scope
 pub mod Parts
-pub mod Words
 pub mod Choices
 pub mod Lays
 pub mod Holds

@@ -1,11 +1,11 @@
 -- How the view of three disks goes on.
-use Rattle.std.proofs.Common.{◌≡◌, ◌⊎◌, inl, inr, ⊎_elim, ℕ, ◌+◌, ◌-◌, ◌^◌, ◌<◌, ◌≤◌, min, Bool, true, false, IsTrue, List, ◌∷◌, length, Result, Ok, Err, OnErr, if◌then◌else◌, refl, sym, ◌∙◌, ap, subst, arith}
+use Rattle.std.proofs.Common.{◌≡◌, ◌⊎◌, inl, inr, ⊎_elim, ℕ, ◌+◌, ◌-◌, ◌^◌, ◌<◌, ◌≤◌, min, Bool, true, false, IsTrue, List, ◌∷◌, length, if◌then◌else◌, refl, sym, ◌∙◌, ap, subst, arith}
 use Rattle.web_outside.specs.Causes.{Rose}
-use Rattle.web_disk.specs.View.{Only, AreAmong, NoNewImage, Spoils, Cuts, Elapses, IsCall}
+use Rattle.web_disk.specs.View.{AreAmong, NoNewImage, Spoils, Cuts, Elapses}
 use Rattle.web_disk.specs.declared.disk.Disk.{Ghosts}
 use Rattle.disk_trio.specs.Naming.{names}
 use Rattle.disk_trio.specs.Trio.{Three, three, file_of, three_of, before, Leaves, LeftSince, read_side, all_faults, trio_view, IsNoted, IsOnCurrent, IsOnOther, IsOnRoot, IsReadAlone}
-use Rattle.disk_trio.specs.Laws.{file_same, cur_image, seen_known, image_of_cur}
+use Rattle.disk_trio.specs.Laws.{file_same, cur_image, image_of_cur}
 use Rattle.disk_trio.specs.declared.side.Side.{Side}
 use Rattle.disk_trio.specs.declared.side.Side.TheVariants.{A, B}
 use Rattle.disk_trio.specs.declared.trio.Disks.{Disks}
@@ -14,18 +14,8 @@ use Rattle.disk_trio.specs.declared.trio.Disks.{Disks}
 pub sum_later : (a b c x y z : ℕ) → a ≤ x → b ≤ y → c ≤ z → min (a + b + c) (2 ^ 64 - 1) ≤ min (x + y + z) (2 ^ 64 - 1)
 sum_later a b c x y z p q r = omega arith
 
-pub sum_rose : (a b c x y z : ℕ) → Rose a x ⊎ (Rose b y ⊎ Rose c z) → a ≤ x → b ≤ y → c ≤ z → Rose (min (a + b + c) (2 ^ 64 - 1)) (min (x + y + z) (2 ^ 64 - 1))
-sum_rose a b c x y z (inl rose) p q r = omega (arith, rose)
-sum_rose a b c x y z (inr (inl rose)) p q r = omega (arith, rose)
-sum_rose a b c x y z (inr (inr rose)) p q r = omega (arith, rose)
-
 pub rose_later : (a b c : ℕ) → a ≤ b → Rose b c → Rose a c
 rose_later a b c le rose = omega (arith, rose)
-
--- answers
-pub on_err : {T E : Type 0} {P Q : Type 0} (r : Result T E) → (P → Q) → OnErr r P → OnErr r Q
-on_err (Ok x) f p = tt
-on_err (Err e) f p = f p
 
 -- tests
 pub known_if : (b : Bool) (n : ℕ) → 0 < (if b then n else 0) → b ≡ true
@@ -35,12 +25,6 @@ known_if false n lt = absurd (omega arith)
 pub if_unknown : (b : Bool) (n : ℕ) → b ≡ false → (if b then n else 0) ≡ 0
 if_unknown true n is = absurd (cc is)
 if_unknown false n is = refl
-
-pub if_le : (b c : Bool) (n m k : ℕ) → c ≡ b → n ≤ m + k → (if b then n else 0) ≤ (if c then m else 0) + k
-if_le true true n m k is le = le
-if_le false false n m k is le = omega arith
-if_le true false n m k is le = absurd (cc is)
-if_le false true n m k is le = absurd (cc is)
 
 module _ {D : Type 0} (G : Ghosts D) where
   -- time
@@ -83,9 +67,6 @@ module _ {D : Type 0} (G : Ghosts D) where
     cuts_known len old new on known sp = λ place byte out sure image left.
         sp place byte out (λ img is. sure img (image_of_cur G reads left.told old known img is)) image (cur_image G new (on.known ∙ known) image left)
 
-  pub only_known : (old new : Disks D G) → IsOnCurrent old new → old.known ≡ true → Only (G.view old.current).seen (G.view new.current) → Only (trio_view old).seen (trio_view new)
-  only_known old new on known only = λ image left. only image (cur_image G new (on.known ∙ known) image left) ∙ sym (seen_known G old known)
-
   -- calls of the current file
   pub no_new_on_current : (old new : Disks D G) → IsOnCurrent old new → NoNewImage (G.view old.current) (G.view new.current) → NoNewImage (trio_view old) (trio_view new)
   no_new_on_current old new on no_new = λ image l. record {
@@ -109,27 +90,7 @@ module _ {D : Type 0} (G : Ghosts D) where
       sum_later (G.view old.current).faults (G.view old.other).faults (G.view old.root).faults (G.view new.current).faults (G.view new.other).faults (G.view new.root).faults
       le (omega (arith, ap (λ (x : D). (G.view x).faults) on.other)) (omega (arith, ap (λ (x : D). (G.view x).faults) on.root))
 
-  pub call_on_current : {T E : Type 0} (bytes : ℕ) (old new : Disks D G) (result : Result T E) → IsOnCurrent old new → IsCall bytes (G.view old.current) (G.view new.current) result → IsCall bytes (trio_view old) (trio_view new) result
-  call_on_current bytes old new result on call = record {
-    time = steps old new on.noted (faults_on_current old new on call.time.faults);
-    cause = on_err result (λ rose. sum_rose (G.view old.current).faults (G.view old.other).faults (G.view old.root).faults (G.view new.current).faults (G.view new.other).faults (G.view new.root).faults (inl rose)
-        call.time.faults (omega (arith, ap (λ (x : D). (G.view x).faults) on.other)) (omega (arith, ap (λ (x : D). (G.view x).faults) on.root))) call.cause;
-    end = omega (arith, if_le old.known new.known (G.view old.current).end (G.view new.current).end 0 on.known (omega (arith, call.end)));
-    ready = if_le old.known new.known (G.view old.current).ready (G.view new.current).ready 1 on.known call.ready;
-    left = if_le old.known new.known (G.view old.current).left (G.view new.current).left bytes on.known call.left;
-  }
-
   -- reading, and then a call
-  pub read_none : (d : Disks D G) → IsReadAlone d d
-  read_none d = record {
-    seen = refl;
-    images = λ image l. l;
-    time = record { later = omega arith; nothing_else = λ t image le l. inl l; keeps = λ t image le l. l; faults = omega arith };
-    ready = refl;
-    end = refl;
-    left = refl;
-  }
-
   pub time_then : (d0 d1 d2 : Disks D G) → IsReadAlone d0 d1 → Elapses (trio_view d1) (trio_view d2) → Elapses (trio_view d0) (trio_view d2)
   time_then d0 d1 d2 r time = record {
     later = omega (arith, r.time.later, time.later);
@@ -148,15 +109,6 @@ module _ {D : Type 0} (G : Ghosts D) where
     ready = s.ready ∙ r.ready;
     end = s.end ∙ r.end;
     left = s.left ∙ r.left;
-  }
-
-  pub call_then : {T E : Type 0} (bytes : ℕ) (d0 d1 d2 : Disks D G) (result : Result T E) → IsReadAlone d0 d1 → IsCall bytes (trio_view d1) (trio_view d2) result → IsCall bytes (trio_view d0) (trio_view d2) result
-  call_then bytes d0 d1 d2 result r call = record {
-    time = time_then d0 d1 d2 r call.time;
-    cause = on_err result (λ rose. rose_later _ _ _ r.time.faults rose) call.cause;
-    end = omega (arith, r.end, call.end);
-    ready = omega (arith, r.ready, call.ready);
-    left = omega (arith, r.left, call.left);
   }
 
   -- calls of the root that write nothing
@@ -212,11 +164,6 @@ module _ {D : Type 0} (G : Ghosts D) where
   faults_on_other old new on le =
       sum_later (G.view old.current).faults (G.view old.other).faults (G.view old.root).faults (G.view new.current).faults (G.view new.other).faults (G.view new.root).faults
       (omega (arith, ap (λ (x : D). (G.view x).faults) on.current)) le (omega (arith, ap (λ (x : D). (G.view x).faults) on.root))
-
-  pub rose_on_other : (old new : Disks D G) → IsOnOther old new → Rose (G.view old.other).faults (G.view new.other).faults → (G.view old.other).faults ≤ (G.view new.other).faults → Rose (all_faults old) (all_faults new)
-  rose_on_other old new on rose le =
-      sum_rose (G.view old.current).faults (G.view old.other).faults (G.view old.root).faults (G.view new.current).faults (G.view new.other).faults (G.view new.root).faults
-      (inr (inl rose)) (omega (arith, ap (λ (x : D). (G.view x).faults) on.current)) le (omega (arith, ap (λ (x : D). (G.view x).faults) on.root))
 
   -- where it is known, what a crash leaves has nothing to do with the other file
   pub no_new_on_other : (old new : Disks D G) → IsOnOther old new → old.known ≡ true → NoNewImage (trio_view old) (trio_view new)

@@ -92,14 +92,6 @@ trio_view {G = G} d = record {
 abbrev pub IsNoted : {D : Type 0} {G : Ghosts D} → (old new : Disks D G) → Type 0
 IsNoted old new = before new ≡ three_of old ∷ before old
 
--- a call left the three disks as they were, and as much of them is known
-pub record AreSame {D : Type 0} {G : Ghosts D} (old new : Disks D G) : Type 0 where
-  pub current : new.current ≡ old.current
-  pub other : new.other ≡ old.other
-  pub root : new.root ≡ old.root
-  pub side : new.side ≡ old.side
-  pub known : new.known ≡ old.known
-
 -- one call of the current file, and none of the other file and the root
 pub record IsOnCurrent {D : Type 0} {G : Ghosts D} (old new : Disks D G) : Type 0 where
   pub other : new.other ≡ old.other

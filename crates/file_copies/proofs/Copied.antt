@@ -1,7 +1,6 @@
 -- What copying all records of a file makes.
 use Rattle.std.proofs.Common.{◌≡◌, ℕ, zero, suc, ◌+◌, ◌≤◌, ◌<◌, ◌^◌, Bool, true, false, if◌then◌else◌, drop, get_or, slice_get, List, [], ◌∷◌, ◌++◌, length, Some, refl, sym, ◌∙◌, ap, subst, arith, append_assoc}
 use Rattle.std.specs.List.{AllByRecursion}
-use Rattle.std.proofs.lemmas.Bool.{false≢true}
 use Rattle.std.proofs.lemmas.List.{append-nil}
 use Rattle.std.proofs.lemmas.List.Elements.{All-from_recursion}
 use Rattle.std.proofs.lemmas.Option.{same_Some}
@@ -139,23 +138,6 @@ one_short c body rest Others most many noted head number all then_so =
         → AreShort most ((if t then body ∷ [] else []) ++ rest)
     by_mark true tell = (omega (arith, tell.0, noted.1.1), then_so tell.1)
     by_mark false tell = then_so tell
-
--- a record that tells in front of the first one whether the shelf follows is passed over
-pub role_passed : (c : Copier) (body : List ℕ) → c.stage ≡ First → is_role body ≡ true → IsCopied c body c
-role_passed c body first role = record {
-  sound = λ ok. ok;
-  file = λ ok. sym (append-nil c.file.items) ∙ ap (λ (xs : List (List ℕ)). c.file.items ++ frames xs) (sym puts_none);
-  noted = λ ok. subst (λ (s : Stage). IsAsNoted c body s) (sym first) (λ off. absurd (false≢true (sym off ∙ role)));
-  stage = first ∙ sym stage_stays;
-  next = λ ok. sym (ap (λ (s : Stage). place_then c.next s) first);
-  same = record { notes = refl; head = refl; plan = refl; drawn = refl; number = refl };
-}
-  where
-    puts_none : puts c body c.stage ≡ []
-    puts_none = ap (λ (s : Stage). puts c body s) first ∙ ap (λ (t : Bool). if t then (let none : List (List ℕ) = [] in none) else body ∷ (c.number.now ∷ [])) role
-
-    stage_stays : stage_then c.drawn body c.stage ≡ First
-    stage_stays = ap (λ (s : Stage). stage_then c.drawn body s) first ∙ ap (λ (t : Bool). if t then First else behind_first c.drawn) role
 
 -- what a copier put, from one record on
 pub record AreCopied (old new : Copier) (bodies : List (List ℕ)) : Type 0 where

@@ -1,11 +1,11 @@
 -- The records that are planned to stay are those of the compacted file.
-use Rattle.std.proofs.Common.{◌≡◌, ℕ, ◌≤◌, ◌&&◌, Bool, true, false, not, List, [], ◌∷◌, length, map, filter, if◌then◌else◌, refl, sym, ap, subst, ◌∙◌, arith}
+use Rattle.std.proofs.Common.{◌≡◌, ℕ, ◌&&◌, Bool, true, false, not, List, [], ◌∷◌, length, map, filter, if◌then◌else◌, refl, sym, ap, subst, ◌∙◌, arith}
 use Rattle.std.specs.List.{AllByRecursion}
 use Rattle.replay_spec.specs.Book.{Instance as Live, Change, opens, extends, ends, finishes, sweeps, Line, changed, renewed}
 use Rattle.replay_spec.specs.Compaction.{stays_in, stays, is_sweep, ahead_of, last_sweeps}
 use Rattle.file_notes.specs.declared.note.Note.{Note}
 use Rattle.file_notes.specs.declared.note.Note.TheVariants.{Instance, Freed, Time, Setup, Passed}
-use Rattle.file_notes.specs.Notes.{note_by, note_of, all_lengths, is_time, is_told, stays_note, time_next, plan_in, picked}
+use Rattle.file_notes.specs.Notes.{note_by, note_of, is_time, is_told, stays_note, time_next, plan_in, picked}
 
 -- ---- what is known of a line
 
@@ -191,12 +191,6 @@ told_stay (n ∷ ns) all =
     ap (λ (t : Bool). if t then n ∷ filter is_told ns else filter is_told ns) all.0 ∙ ap (λ (ms : List Note). n ∷ ms) (told_stay ns all.1)
 
 -- ---- they are no longer than all
-
-pub fewer : (plan : List Bool) (ns : List Note) → all_lengths (picked plan ns) ≤ all_lengths ns
-fewer [] ns = omega arith
-fewer (b ∷ bs) [] = omega arith
-fewer (true ∷ bs) (n ∷ ns) = let h = fewer bs ns in omega (arith, h)
-fewer (false ∷ bs) (n ∷ ns) = let h = fewer bs ns in omega (arith, h)
 
 pub plan_length : (is : List Live) (ns : List Note) → length (plan_in is ns) ≡ length ns
 plan_length is [] = refl

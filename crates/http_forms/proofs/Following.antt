@@ -16,12 +16,6 @@ use Rattle.http_forms.proofs.Decisions.{requests_stand_alone, refused_long}
 
 -- ---- what is known at first
 
--- no head yet
-pub headless : (bytes : List ℕ) → head_end bytes ≡ None → length bytes < 16384 → Decides bytes false unfinished
-headless bytes none h =
-    let test : nat_le 16384 (length bytes) ≡ false = grind (arith, nat_tests) in
-    subst (λ e. DecidesAt e bytes false unfinished) (sym none) (sym (rw test refl))
-
 -- no end of a head in 16,384 bytes
 pub endless : (bytes : List ℕ) → head_end bytes ≡ None → 16384 ≤ length bytes → Decides bytes false (refused Head)
 endless bytes none h = subst (λ e. DecidesAt e bytes false (refused Head)) (sym none) (sym (refused_long (length bytes) false h))

@@ -46,24 +46,7 @@ pub length_numbers : {A : Type 0} (number : A → ℕ) (xs : List A) → length 
 length_numbers number [] = refl
 length_numbers number (x ∷ xs) = ap suc (length_numbers number xs)
 
--- a search ends where the number is, or at the gap for it
-comparisons_rise : (ns : List ℕ) → Rises ns → (n : ℕ) → IsNonDecreasingBy (λ x. ordering_index (nat_cmp x n)) ns
-comparisons_rise ns r n = IsNonDecreasingBy-from_default (λ x. ordering_index (nat_cmp x n)) ns 0 (λ i j le in_range.
-    let keys_rise : get_or ns i 0 ≤ get_or ns j 0 = grind (arith, r i j, λ (same : i ≡ j). ap (λ k. get_or ns k 0) same) in
-    grind (arith, nat_tests))
-
-pub searched : (ns : List ℕ) → Rises ns → (n : ℕ) (r : Result ℕ ℕ) → IsSearchInRange r (length ns) → IsBinarySearchResult (λ x. nat_cmp x n) ns r → Finds ns n r
-searched ns rise n (Ok at) within equal = record { found = record { within = within; here = ranked _ n _ (sym (equal 0)) }; absent = tt }
-searched ns rise n (Err at) within parted = record {
-  found = tt;
-  absent = record {
-    within = within;
-    lower = λ k h. ranked _ n _ (sym ((parted (comparisons_rise ns rise n)).0 k 0 (omega arith) h));
-    greater = λ k le h. ranked _ n _ (sym ((parted (comparisons_rise ns rise n)).1 k 0 le h));
-  };
-}
-
--- the same by the numbers of things
+-- a search among things in the order of their numbers ends where the number is, or at the gap for it
 pub searched_by : {A : Type 0} (number : A → ℕ) (xs : List A) → Rises (map number xs) → (n : ℕ) (r : Result ℕ ℕ) → IsSearchInRange r (length xs)
     → IsBinarySearchResult (λ x. nat_cmp (number x) n) xs r → Finds (map number xs) n r
 searched_by number [] rise n (Ok at) within equal = absurd (omega arith)

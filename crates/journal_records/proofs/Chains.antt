@@ -1,7 +1,6 @@
 -- What is written or read piece by piece.
-use Rattle.std.proofs.Common.{◌≡◌, ℕ, zero, suc, ◌+◌, ◌-◌, ◌<◌, Bool, true, false, List, [], ◌∷◌, ◌++◌, length, map, drop, get_or, Option, Some, None, refl, sym, ap, subst, ◌∙◌, append_assoc, arith}
+use Rattle.std.proofs.Common.{◌≡◌, ℕ, zero, suc, ◌+◌, ◌-◌, ◌<◌, Bool, true, false, List, [], ◌∷◌, ◌++◌, length, map, drop, Option, Some, None, refl, sym, ap, ◌∙◌, append_assoc, arith}
 use Rattle.std.specs.Prelude.{slice_get, Result, Ok, Err, OnOk}
-use Rattle.std.specs.List.{flat_map, AllByRecursion}
 use Rattle.std.proofs.lemmas.Grind.{common_steps}
 use Rattle.script_value.specs.Val.{Val, list, vals_of}
 use Rattle.script_nodes.specs.Setup.{Named}
@@ -22,22 +21,6 @@ pub onto_4 : (a x b y c z d w : List ℕ) → b ≡ a ++ x → c ≡ b ++ y → 
 onto_4 a x b y c z d w e f g = onto c z d w g ∙ onto_3 a x b y c (z ++ w) e f
 
 -- ---- several
-
--- one more of several is written
-pub walked : {A : Type 0} (spelled : A → List ℕ) (xs : List A) (i : ℕ) (d : A) (old new whole : List ℕ) → i < length xs
-    → new ≡ old ++ spelled (get_or xs i d) → old ++ flat_map spelled (drop i xs) ≡ whole → new ++ flat_map spelled (drop (i + 1) xs) ≡ whole
-walked spelled xs i d old new whole h e w =
-    let here : drop i xs ≡ get_or xs i d ∷ drop (i + 1) xs = grind (arith, common_steps) in
-    onto old (spelled (get_or xs i d)) new (flat_map spelled (drop (i + 1) xs)) e
-    ∙ ap (λ ys. old ++ flat_map spelled ys) (sym here) ∙ w
-
--- the first of those that are left can be written
-pub fits_here : {A B : Type 0} (P : B → Type 0) (view : A → B) (xs : List A) (i : ℕ) (d : A) → i < length xs
-    → AllByRecursion P (map view (drop i xs)) → d ≡ get_or xs i d → P (view d)
-fits_here P view xs i d h f e =
-    let here : drop i xs ≡ get_or xs i d ∷ drop (i + 1) xs = grind (arith, common_steps) in
-    let both : AllByRecursion P (map view (get_or xs i d ∷ drop (i + 1) xs)) = subst (λ ys. AllByRecursion P (map view ys)) here f in
-    subst (λ y. P (view y)) (sym e) both.0
 
 -- one more of several is read
 pub pushed : {A B : Type 0} (view : A → B) (read : Reader B) (n i : ℕ) (old new : List A) (x : A) (bytes rest : List ℕ) (whole : Option (List B × List ℕ))

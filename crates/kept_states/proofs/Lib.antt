@@ -1,4 +1,3 @@
-pub mod Bound
 pub mod Read
 pub mod Told
 pub mod Written

@@ -5,9 +5,8 @@ use denote.Ref.{MutBor}
 use Rattle.atomic_table.specs.Seated.{TableId}
 use mathlib.Core.List.{IsPrefix}
 use Rattle.shelf_lock.specs.declared.kept.Kept.{Ghosts}
-use Rattle.shelf_lock.specs.declared.view.View.{View}
 use Rattle.shelf_lock.specs.declared.view.Role.TheVariants.{Outside}
-use Rattle.shelf_lock.specs.Order.{made_by, posed, longer, both, Told, Begins, Each, GoesOn, MadeBelow}
+use Rattle.shelf_lock.specs.Order.{made_by, posed, longer, both, Begins, GoesOn, MadeBelow}
 use Rattle.shelf_lock.specs.Turns.{MayCall, KeepsEach, Turned, FoundWorn}
 use Rattle.shelf_lock.specs.declared.rule.Start.{Start}
 use Rattle.lock_row.specs.Spots.{Spot, spot, Home, IsAt, At}
@@ -55,11 +54,6 @@ module _ {S O E : Type 0} (g : Ghosts S O E) where
   abbrev pub HearsAt : ℕ → List E → List (Spot O E) → List (Spot O E) → Type 0
   HearsAt place noted old new =
       At place (λ v w. (w ≡ posed Outside (longer v.seen noted) v) × GoesOn g v.caller w.seen (v.seen ∷ noted ∷ [])) old new
-
-  -- What a value that was given back tells of a seat at its lock: what the caller had seen begins its history, and has all of
-  -- the caller's entries; so of each that the seat had heard of.
-  abbrev pub TellsOf : S → View O E → Type 0
-  TellsOf x v = Told g (g.history x) (v.caller, v.seen) × Each (Told g (g.history x)) v.heard
 
   -- a value given back from a lock that was made with this: it is sound, has the same opening, and entries of the lock's callers alone
   abbrev pub IsClosed : Start S → S → Type 0

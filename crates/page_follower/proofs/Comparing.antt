@@ -1,5 +1,5 @@
 -- A body that comes piece by piece and is compared with one that is held.
-use Rattle.std.proofs.Common.{◌≡◌, ◌≤◌, ◌↔◌, ◌+◌, ◌++◌, ◌∙◌, ℕ, Bool, false, IsTrue, List, length, take, drop, arith, sym, ap, length-append}
+use Rattle.std.proofs.Common.{◌≡◌, ◌≤◌, ◌↔◌, ◌+◌, ◌++◌, ◌∙◌, ℕ, Bool, IsTrue, List, length, take, drop, arith, sym, ap, length-append}
 use Rattle.std.proofs.Math.Seq.{take-add, take-append_seam, drop-append_seam}
 use Rattle.std.proofs.lemmas.List.{length-take-le}
 use Rattle.shelf.specs.WebOutside.View.{SourceView}
@@ -55,7 +55,3 @@ compared_next old mid new before between after size held buffer piece done count
     compared_more old mid new before between after size held buffer done count same next p gives fits
     (λ h. ((told.0 h).0, ap (λ n. take n (drop done held)) (sym few) ∙ (told.0 h).1 ∙ is))
     (λ h e. told.1 (h, ap (λ n. take n (drop done held)) few ∙ e ∙ sym is))
-
--- what is false is not told
-not_so : IsTrue false → ⊥
-not_so h = cc

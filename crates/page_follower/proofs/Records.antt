@@ -1,5 +1,5 @@
 -- Records that come: a length, and then a body.
-use Rattle.std.proofs.Common.{◌≡◌, ◌≤◌, ◌<◌, ◌+◌, ◌-◌, ◌++◌, ◌∙◌, ℕ, Bool, true, false, List, Option, Some, None, Ok, length, take, arith, sym, ap, subst, length-append}
+use Rattle.std.proofs.Common.{◌≡◌, ◌≤◌, ◌<◌, ◌+◌, ◌-◌, ◌++◌, ◌∙◌, ℕ, List, Option, Some, None, Ok, length, take, arith, sym, ap, subst, length-append}
 use Rattle.std.proofs.Math.Seq.{take-append-add}
 use Rattle.std.proofs.lemmas.List.{length-take}
 use Rattle.std.proofs.lemmas.Nat.{from_le_bytes-to_le_bytes_4}
@@ -8,12 +8,10 @@ use Rattle.shelf.specs.WebOutside.View.{SourceView}
 use Rattle.shelf.proofs.WebOutside.Consumed.{consumes_then}
 use Rattle.shelf.specs.WireBytes.Spelling.{u32_bytes}
 use Rattle.page_follower.specs.Feed.{most_of_feed, size_in}
-use Rattle.page_follower.specs.Reading.{Got, Came, Compares, GotBody, GotSize, IsShort, Matches, NoBody, NoRecord, Sizes, TakesNext, Fails}
+use Rattle.page_follower.specs.Reading.{Got, Came, GotSize, IsShort, NoBody, NoRecord, Sizes, TakesNext, Fails}
 use Rattle.page_follower.specs.declared.fault.FeedFault.{FeedFault}
 use Rattle.page_follower.specs.declared.fault.FeedFault.TheVariants as fault
-use Rattle.page_follower.specs.declared.reader.Compared.{Compared}
-use Rattle.page_follower.specs.declared.reader.Compared.TheVariants as compared
-use Rattle.page_follower.proofs.Readings.{got_then, past_then, unread_then}
+use Rattle.page_follower.proofs.Readings.{past_then, unread_then}
 
 -- bytes of a body, and then none for this reason
 pub no_body : (old mid new : SourceView) (before between size start most : ℕ) (first : List ℕ) (f : FeedFault) → Got old mid before between first
@@ -65,29 +63,11 @@ no_record old mid new before between size fault.Failed p within q = unread_then 
 no_record old mid new before between size fault.Memory p within q =
     (u32_bytes size ++ q.0, consumes_then old.left mid.left new.left (u32_bytes size) q.0 p.got.consumed q.1)
 
--- a length, and then a body as long
-pub came : (old mid new : SourceView) (before between after size : ℕ) (body : List ℕ) → GotSize old mid before between size
-    → GotBody mid new between after size body → Came old new before after body
-came old mid new before between after size body p q =
-    subst (λ n. Got old new before after (u32_bytes n ++ body)) (sym q.length_is)
-    (got_then old mid new before between after (u32_bytes size) body p.got q.got)
-
 -- a length was read
 pub sized : (old mid : SourceView) (before between size : ℕ) (o : Option ℕ) → Sizes old mid before between (Ok o) → o ≡ Some size
     → GotSize old mid before between size
 sized old mid before between size None p is = absurd (cc)
 sized old mid before between size (Some n) p is = let same : n ≡ size = cc in subst (GotSize old mid before between) same p
-
--- a length, and then a body that was compared
-pub compares : (old mid new : SourceView) (before between after size : ℕ) (held : List ℕ) (same : Bool) → GotSize old mid before between size
-    → between ≤ most_of_feed → Matches mid new between after size before held (Ok same)
-    → Compares old new before after held (Ok (elim same as (λ _. Compared) [ true ↦ compared.Same | false ↦ compared.Other ]))
-compares old mid new before between after size held true p within q = came old mid new before between after size held p q
-compares old mid new before between after size held false p within q = record {
-  body = q.body;
-  came = came old mid new before between after size q.body p q.got;
-  other = q.other;
-}
 
 -- a record was taken
 pub taken : (old new : SourceView) (before after : ℕ) (body : Vec ℕ) (o : Option (Vec ℕ)) → TakesNext old new before after (Ok o) → o ≡ Some body

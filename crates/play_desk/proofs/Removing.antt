@@ -63,8 +63,3 @@ sum_out f [] k x e = absurd (let no : None ≡ Some x = e in cc)
 sum_out f (z ∷ xs) zero x e = (let same : z ≡ x = cc in omega (arith, sum_by-cons f z xs, ap f same))
 sum_out f (z ∷ xs) (suc k) x e =
     (let rest = sum_out f xs k x e in omega (arith, rest, sum_by-cons f z xs, sum_by-cons f z (out_of xs k)))
-
-pub length_out : {A : Type 0} (xs : List A) (k : ℕ) → k < length xs → length (out_of xs k) + 1 ≡ length xs
-length_out [] k h = absurd (omega arith)
-length_out (x ∷ xs) zero h = omega arith
-length_out (x ∷ xs) (suc k) h = (let rest = length_out xs k (omega arith) in omega (arith, rest))

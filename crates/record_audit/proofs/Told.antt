@@ -1,15 +1,12 @@
 -- What a record tells of its page's state, and what the page's script leaves there.
-use Rattle.std.proofs.Common.{◌≡◌, ◌∙◌, ap, sym, subst, ℕ, ◌==◌, List, Bool, true, false, Option, Some, None, slice_get, is_some, refl, if◌then◌else◌}
+use Rattle.std.proofs.Common.{◌≡◌, ◌∙◌, ap, sym, subst, ℕ, ◌==◌, List, Bool, true, false, Option, Some, None, slice_get, refl, if◌then◌else◌}
 use Rattle.std.specs.Prelude.{◌↔◌, IsTrue}
 use Rattle.std.specs.Bool.{Decides}
 use Rattle.script_nodes.specs.Setup.{Named, Library}
-use Rattle.replay_spec.specs.Tape.{present}
 use Rattle.replay_spec.specs.Book as spec
 use Rattle.replay_spec.specs.Book.{Change, opens, extends, ends, finishes, sweeps}
 use Rattle.replay_spec.specs.Admission.{◌>>=◌, Place}
-use Rattle.replay_spec.specs.Next.{comes_to}
-use Rattle.replay_spec.specs.Recovery.{again, page_of_numbers, opening_visit, extension_visit}
-use Rattle.server_limits.specs.Limits.{most_fuel}
+use Rattle.replay_spec.specs.Recovery.{page_of_numbers}
 use Rattle.book_redo.specs.MachineStates.Machine.{Suspended}
 use Rattle.book_redo.specs.MachineStates.Views.{suspended_of}
 use Rattle.book_redo.specs.MachineStates.declared.frame.Suspended as stored
@@ -20,7 +17,7 @@ use Rattle.book_redo.specs.JournalSpec.Old.{told_at}
 use Rattle.book_redo.specs.InstanceBook.declared.book.Book.{Book}
 use Rattle.book_redo.specs.InstanceBook.Views.{Beside, book_of}
 use Rattle.book_redo.specs.InstanceBook.Standing.{book_under}
-use Rattle.book_redo.specs.Again.{comes_again, ComesAgain}
+use Rattle.book_redo.specs.Again.{ComesAgain}
 use Rattle.book_redo.specs.Told.{told_for}
 use Rattle.audit_spec.specs.Tests.{holds_of, runs_so, same_state, tells_state, tells_own}
 use Rattle.audit_spec.proofs.SameStates.{state_decides}
@@ -28,19 +25,6 @@ use Rattle.record_audit.proofs.Beside.{TestsAlike, beside_alike}
 use Rattle.record_audit.proofs.Pages.{IsPage}
 
 -- ---- a change whose script runs so comes to its page again, and has a script
-
-some_of : {A B : Type 0} (f : A → Option B) (o : Option A) → holds_of (λ x. is_some (f x)) o ≡ is_some (o >>= f)
-some_of f None = refl
-some_of f (Some x) = refl
-
-pub again_so : (b : spec.Book) (c : Change) → IsPage c → runs_so b c ≡ is_some (comes_again b c)
-again_so b (opens o) h =
-    some_of (λ s. again o.kind o.effects o.left (comes_to (opening_visit b o s) (present s.script.cells most_fuel))) (slice_get b.scripts o.script)
-again_so b (extends x) h =
-    some_of (λ at. again x.kind x.effects x.left (comes_to (extension_visit b x at) (present at.instance.cells most_fuel))) (page_of_numbers b x.instance x.page)
-again_so b (ends e) h = absurd h
-again_so b (finishes f) h = absurd h
-again_so b (sweeps tick) h = absurd h
 
 held : {A : Type 0} (test : A → Bool) (o : Option A) → holds_of test o ≡ true → (x : A) × (o ≡ Some x)
 held test None h = absurd (let never : ⊥ = cc in never)

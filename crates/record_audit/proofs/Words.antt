@@ -19,9 +19,6 @@ first_word a b c d e f g =
     else (if not g then Some word.State else None))))))
 
 module _ (b c d e f g : Bool) where
-  sweep : (a : Bool) → a ≡ false → first_word a b c d e f g ≡ Some word.Sweep
-  sweep a x = rw x refl
-
 module _ (a b c d e f g : Bool) where
   number : a ≡ true → b ≡ true → first_word a b c d e f g ≡ Some word.Number
   number x y = rw (x, y) refl
@@ -46,9 +43,6 @@ module _ (a b c d e f g : Bool) where
 
 -- what the tests of a change's record come to
 module _ (format : ℕ) (m : Made) (c : Change) (s : Option (List ℕ)) where
-  pub at_sweep : goes_on m.book c ≡ false → fault_in format m c s ≡ Some word.Sweep
-  at_sweep x = sweep _ _ _ _ _ _ (goes_on m.book c) x
-
   module _ (goes : goes_on m.book c ≡ true) where
     pub at_number : is_repeated (number_in c) m.earlier.seen ≡ true → fault_in format m c s ≡ Some word.Number
     at_number x = number _ _ _ _ _ _ _ goes x

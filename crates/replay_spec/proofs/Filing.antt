@@ -42,9 +42,6 @@ with_among (sweeps tick) seen n h = inr h
 abbrev over : Rules → Journal → Rules
 over r j = record r { journal = Some j }
 
-abbrev told : Book → Made
-told b = made_of_file b.shelf b.file
-
 abbrev moved : Book → (drawn length : ℕ) → (out : List ℕ) → Option Doubt → Book
 moved b drawn length out down = record b { drawn = drawn; length = length; out = out; down = down }
 

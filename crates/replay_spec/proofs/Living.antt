@@ -38,19 +38,6 @@ kept_at ls n (i ∷ is) h = by_test (i.number == n) refl (is_there i.number ls) 
         let yes : is_there i.number ls ≡ true = subst (λ (m : ℕ). is_there m ls ≡ true) (sym same) h in
         absurd (let no : ⊥ = cc in no)
 
-pub mend_none : (n : ℕ) (f : Instance → Instance) (ls is : List Instance) → is_there n ls ≡ false → mend n f (filter (lives ls) is) ≡ filter (lives ls) is
-mend_none n f ls [] h = refl
-mend_none n f ls (i ∷ is) h = by_test (is_there i.number ls) refl (i.number == n) refl (mend_none n f ls is h)
-  where
-    by_test : (c : Bool) → is_there i.number ls ≡ c → (b : Bool) → (i.number == n) ≡ b → mend n f (filter (lives ls) is) ≡ filter (lives ls) is
-        → mend n f (filter (lives ls) (i ∷ is)) ≡ filter (lives ls) (i ∷ is)
-    by_test false f b e rest = grind (arith, f, rest)
-    by_test true f false e rest = grind (arith, e, f, rest)
-    by_test true f true e rest =
-        let same : i.number ≡ n = grind (arith, nat_tests, e) in
-        let yes : is_there n ls ≡ true = subst (λ (m : ℕ). is_there m ls ≡ true) same f in
-        absurd (let no : ⊥ = cc in no)
-
 -- an instance that lives is changed alike among those that are left; one that does not is left out, however it is changed
 pub mend_lives : (n : ℕ) (f : Instance → Instance) (ls is : List Instance) → KeepsNumber f → is_there n ls ≡ true
     → filter (lives ls) (mend n f is) ≡ mend n f (filter (lives ls) is)

@@ -44,11 +44,6 @@ used_evictions (x ∷ ms) p n = by_tests (x.number == p) refl x.gone refl (used_
     by_tests false e None f rest = grind (arith, e, f, rest)
     by_tests false e (Some b) f rest = grind (arith, e, f, rest)
 
--- what is above is not there
-no_mark : (n m : ℕ) (ms : List Mark) → n ≡ m → AreAbove number_of m ms → mark_at n ms ≡ None
-no_mark n m [] e h = refl
-no_mark n m (x ∷ ms) e h = let low = h.0 in let rest = no_mark n m ms e h.1 in grind (arith, nat_tests, low, e, rest)
-
 pub above_go : (by p m : ℕ) (ms : List Mark) → AreAbove number_of m ms → AreAbove number_of m (go by p ms)
 above_go by p m [] h = tt
 above_go by p m (x ∷ ms) h = grind (arith, h.0, h.1, above_go by p m ms h.1)

@@ -12,7 +12,7 @@ use Rattle.http_forms.specs.Reply.{reply_text}
 use Rattle.http_forms.specs.Stream.{Stop, closes_at, Streams}
 use Rattle.http_forms.specs.declared.reply.Answer.TheVariants as answers
 use Rattle.http_forms.proofs.Streaming.{streams_more}
-use Rattle.request_workers.specs.Linking.{Visited, Exchange, no_visit, both, visited, Wrote, WroteAll, TellsBy, StopsBy, Linked, GoesOn, IsUnserved, LastSweep, replies_text, stop_text, visits_in}
+use Rattle.request_workers.specs.Linking.{Visited, Exchange, both, visited, Wrote, WroteAll, TellsBy, StopsBy, Linked, GoesOn, IsUnserved, LastSweep, replies_text, stop_text, visits_in}
 use Rattle.request_workers.specs.Scenes.{IsLater}
 use Rattle.request_workers.specs.declared.link.LinkEnd.{LinkEnd}
 use Rattle.request_workers.specs.declared.link.LinkEnd.TheVariants as ends
@@ -65,9 +65,6 @@ last_more rules shown ends.Memory stop unserved p q (inr (none, as_given)) = inr
 both_assoc : (a b c : Visited) → both (both a b) c ≡ both a (both b c)
 both_assoc a b c = grind arith
 
-both_first : (a : Visited) → both no_visit a ≡ a
-both_first a = grind arith
-
 -- a request that was answered, and then the rest of the link
 pub one_more : {P : Type 0} (rules : PassRules P) (shown : Option ℕ) (left : ℕ) (p m q : P) (kept kept' : List ℕ) (old mid new : LinkView)
     (count count' one : Visited) (end : LinkEnd) (turn : GoesOn rules shown left p m kept kept' old mid count count') → IsLater old mid
@@ -105,20 +102,6 @@ pub record Goes {P : Type 0} (rules : PassRules P) (shown : Option ℕ) (request
   pub later : IsLater first link
   pub goes_on : (after : P) (new : LinkView) (one : Visited) (end : LinkEnd) → Linked rules shown left now after kept link new one end
       → Linked rules shown requests start after [] first new (both count one) end
-
--- nothing was served yet
-pub begins : {P : Type 0} (rules : PassRules P) (shown : Option ℕ) (requests : ℕ) (start : P) (kept : List ℕ) (first : LinkView)
-    (count : Visited) → rules.IsOwn start → 0 < requests → kept ≡ [] → count ≡ no_visit
-    → Goes rules shown requests start start kept first first count requests
-begins rules shown requests start kept first count own some none zero = record {
-  own = own;
-  some = some;
-  few = subst (λ (c : Visited). c.pages + c.refused + requests ≤ requests) (sym zero) (omega arith);
-  later = record { reads = omega arith; writes = omega arith };
-  goes_on = λ after new one end linked.
-      subst (λ (c : Visited). Linked rules shown requests start after [] first new c end) (sym (ap (λ (c : Visited). both c one) zero ∙ both_first one))
-      (subst (λ (k : List ℕ). Linked rules shown requests start after k first new one end) none linked);
-}
 
 visited_once : (a : Visited) (reply : _) (left requests : ℕ) → a.pages + a.refused + left ≤ requests → 1 < left
     → (both a (visited reply)).pages + (both a (visited reply)).refused + (left - 1) ≤ requests

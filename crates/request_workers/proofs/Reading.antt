@@ -2,13 +2,13 @@
 use Rattle.std.proofs.Common.{◌≡◌, ◌≤◌, ◌<◌, ◌+◌, ◌-◌, ◌++◌, ℕ, List, [], Bool, true, false, length, take, drop, nat_lt, Option, Some, None, Ok, Err, arith, refl, sym, ap, ◌∙◌, subst, length-append, length-drop, append-nil}
 use Rattle.std.proofs.lemmas.Bool.Decides.{nat_tests}
 use Rattle.std.proofs.Math.Seq.{take-append_seam}
-use Rattle.std.proofs.lemmas.List.{take-append-drop, take-append-le, nil_from_length}
+use Rattle.std.proofs.lemmas.List.{take-append-drop, take-append-le}
 use Rattle.std.specs.Io.KnownBytes.{Consumes, Keeps}
 use Rattle.web_outside.proofs.Consumed.{consumes_then}
 use Rattle.http_forms.specs.Request.{unfinished, Decides}
 use Rattle.http_forms.specs.Progress.{IsDecided, Follows, Knows}
 use Rattle.http_forms.specs.declared.progress.RequestScanner.{RequestScanner}
-use Rattle.http_forms.proofs.Decisions.{outcomes_are_one, ended_links_are_decided}
+use Rattle.http_forms.proofs.Decisions.{outcomes_are_one}
 use Rattle.http_forms.proofs.Bounds.{unfinished_bound}
 use Rattle.request_workers.specs.Bytes.{NeedsAll, Takes, IsEnough, ReadsPiece, ReadsAll}
 use Rattle.http_forms.specs.declared.reader.ReadStop.{ReadStop}
@@ -88,14 +88,6 @@ still_open bytes wanted short some = subst (λ w. Decides w false unfinished) (a
 pub enough : (bytes : List ℕ) → IsDecided bytes → IsEnough bytes false
 enough bytes decided more = absurd (decided.finished (outcomes_are_one bytes false decided.outcome unfinished decided.decides more))
 
--- nor do those after which the link ended, if there are any
-pub enough_ended : (bytes : List ℕ) → IsEnough bytes true
-enough_ended bytes more = by_size (nat_lt 0 (length bytes)) refl
-  where
-    by_size : (b : Bool) → nat_lt 0 (length bytes) ≡ b → (bytes ≡ []) × (true ≡ true)
-    by_size true e = absurd (ended_links_are_decided bytes (grind (arith, nat_tests, e)) more)
-    by_size false e = (nil_from_length bytes (grind (arith, nat_tests, e)), refl)
-
 -- what the scanner says of the bytes that it was shown
 pub record Says (scanner : RequestScanner) (wanted : ℕ) (shown : List ℕ) : Type 0 where
   pub goes_on : (more : List ℕ) → Follows scanner (shown ++ more)
@@ -125,16 +117,6 @@ stopped old mid new bytes after scanner wanted before now Failed came some (kept
 )
 stopped old mid new bytes after scanner wanted before now Memory came some (piece, more, within) =
     (bytes ++ piece, takes_more old mid new bytes piece scanner wanted before now came more within)
-
--- what was read, where the link ended
-pub ended : (old mid new : Option (List ℕ)) (bytes after : List ℕ) (scanner : RequestScanner) (wanted before now count : ℕ)
-    → Came old mid bytes scanner wanted before now → ReadsPiece mid new bytes after wanted (Ok count) → count ≡ 0
-    → ReadsAll old new after (Ok true)
-ended old mid new bytes after scanner wanted before now count came (piece, more, is, size, within, end) none = (
-  subst (Takes old new) (sym is) (takes_more old mid new bytes piece scanner wanted before now came more (omega (arith, size, within))),
-  (λ e. end none),
-  enough_ended after,
-)
 
 -- a piece more was read, and shown to the scanner
 pub came_more : (old mid new : Option (List ℕ)) (bytes after shown : List ℕ) (scanner scanner' : RequestScanner)

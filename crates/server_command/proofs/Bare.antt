@@ -36,13 +36,6 @@ use Rattle.server_command.proofs.Openings.{same_or_not}
 pub stored_rest : (f : ℕ) (bodies : List (List ℕ)) → is_format f ≡ true → length (at_rest bodies) ≤ 2 ^ 30 → stored (at_rest_in f bodies) ≡ bodies
 stored_rest f bodies known fits = ap bodies_of (closed_end f bodies 0 [] known fits (λ e. let no : ⊥ = omega (arith, e) in no))
 
-format_rest : (f : ℕ) (bodies : List (List ℕ)) → format_of (at_rest_in f bodies) ≡ f
-format_rest f bodies = refl
-
--- files at rest are as long in each format
-long_rest : (f : ℕ) (bodies : List (List ℕ)) → length (at_rest_in f bodies) ≡ length (at_rest bodies)
-long_rest f bodies = refl
-
 -- the records that stay of a file of the newest format are those that stand there
 pub after_now : (shelf : ℕ) (bytes : List ℕ) → format_of bytes ≡ newest → bodies_after shelf bytes ≡ stored bytes
 after_now shelf bytes is = ap (λ f. bodies_now f shelf (stored bytes)) is
@@ -55,9 +48,6 @@ after_told shelf f [] tells is = after_none shelf
 after_told shelf f (b ∷ bytes) tells is = after_now shelf (b ∷ bytes) (sym (tells (λ e. let no : ⊥ = cc in no)) ∙ is)
 
 module _ {D : Type 0} (view : D → View) where
-  pub rest_fits : (j : Journal D) → IsSettled view j → length (at_rest (bodies_in view j)) ≤ 2 ^ 30
-  rest_fits j s = omega (arith, s.end, s.fits)
-
   -- the records of a shelf on whose disk nothing was lost, and these added
   pub records_kept : (shelf : ℕ) (old : View) (j : Journal D) (more : List (List ℕ)) → IsSettled view j → j.format ≡ newest
       → KeepsRecords shelf more old (view j.disk) → bodies_in view j ≡ bodies_after shelf old.seen ++ more

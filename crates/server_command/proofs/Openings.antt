@@ -15,7 +15,7 @@ use Rattle.play_desk.specs.Opening.{FailedFor}
 use Rattle.play_steps.specs.declared.stage.Reopen.{Reopen}
 use Rattle.play_steps.specs.declared.stage.Reopen.TheVariants as cause
 use Rattle.server_command.specs.Opening.{AsksAsTaken, AsksByCause, HasTaken, IsRefused, IsUntaken, RefusesInOrder, TakesBack, seen_on}
-use Rattle.play_desk.proofs.Asking.{asked_more, asked_none}
+use Rattle.play_desk.proofs.Asking.{asked_more}
 use Rattle.server_command.proofs.Racks.{held_more}
 
 -- ---- what one disk does that is given back
@@ -142,22 +142,6 @@ pub record TakesUpTo (told : Type 0) (before now : RackView) (number : ℕ) (ima
 
 pub one_longer : (xs : List (List ℕ)) (image : List ℕ) (n : ℕ) → length xs ≡ n → length (xs ++ image ∷ []) ≡ n + 1
 one_longer xs image n e = omega (arith, e, length-append xs (image ∷ []))
-
-pub takes_none : (told : Type 0) (before : RackView) → TakesUpTo told before before 0 []
-takes_none told before = record {
-  taken = record {
-    many = refl;
-    held = λ t. tt;
-    out = λ k below. absurd (omega (arith, below));
-    others = λ k above home. home;
-    rest = λ n le image h. h;
-    later = omega arith;
-    failed_later = λ n. omega arith;
-    asked = asked_none before;
-  };
-  above = λ n le image h. h;
-  home = λ n le. refl;
-}
 
 pub takes_next : (told : Type 0) (before now after : RackView) (number : ℕ) (images : List (List ℕ)) (image : List ℕ) → TakesUpTo told before now number images
     → TakesOne now after number → (told → (shelves_of now).holds number image) → TakesUpTo told before after (number + 1) (images ++ image ∷ [])

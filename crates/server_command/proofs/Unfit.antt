@@ -1,14 +1,11 @@
 -- Which bytes make no shelf, or too long a journal.
-use Rattle.std.proofs.Common.{◌≡◌, ◌≤◌, ◌<◌, ◌^◌, ◌+◌, ◌∷◌, ◌&&◌, ◌==◌, ◌∙◌, ℕ, zero, suc, List, [], length, take, drop, nat_le, Bool, true, false, Option, Some, None, if◌then◌else◌, refl, sym, ap, subst, arith}
-use Rattle.std.specs.Int.{w32, from_le_bytes}
-use Rattle.std.proofs.lemmas.Bool.{and_parts, le-leb, lt-leb}
-use Rattle.std.proofs.lemmas.Bool.Decides.{nat_tests}
-use Rattle.std.proofs.lemmas.List.{length-append, length-drop, length-take}
+use Rattle.std.proofs.Common.{◌≡◌, ◌≤◌, ◌<◌, ◌^◌, ◌∷◌, ◌==◌, ◌∙◌, ℕ, List, [], length, nat_le, Bool, true, false, Option, Some, None, if◌then◌else◌, refl, sym, ap, subst, arith}
+use Rattle.std.proofs.lemmas.Bool.{le-leb, lt-leb}
 use Rattle.setup_reader.specs.Texts.{setup_of_texts}
 use Rattle.script_nodes.specs.Setup.{Named}
 use Rattle.page_journal.specs.Records as log
-use Rattle.page_journal.specs.Records.{Log, at_rest, bodies_of, format_of, framed, frames, newest, records, records_from, stored, with_first}
-use Rattle.page_journal.proofs.Frames.{length-at_rest, length-framed}
+use Rattle.page_journal.specs.Records.{Log, at_rest, bodies_of, format_of, newest, records, stored}
+use Rattle.page_journal.proofs.Frames.{length-at_rest}
 use Rattle.replay_spec.specs.Book.{Book}
 use Rattle.page_audit.specs.JournalSpec.Making.{Making, nothing, waits, waited, begun, made, damaged, other, made_in}
 use Rattle.page_audit.specs.JournalSpec.Old.{book_of_format}
@@ -35,58 +32,6 @@ short_file bodies why short = let test : nat_le (length (at_rest bodies)) (2 ^ 3
 
 long_file : (bodies : List (List ℕ)) (why : Option Unfit) → 2 ^ 30 < length (at_rest bodies) → unfit_file bodies why ≡ Some (full (length (at_rest bodies)))
 long_file bodies why long = let test : nat_le (length (at_rest bodies)) (2 ^ 30) ≡ false = lt-leb (length (at_rest bodies)) (2 ^ 30) long in rw test refl
-
--- whole records end where a journal may end
-ends : (fuel place : ℕ) (bytes : List ℕ) (bodies : List (List ℕ)) → place + 1 ≤ 2 ^ 30 → records_from fuel place bytes ≡ log.Intact bodies
-    → place + length (frames bodies) + 1 ≤ 2 ^ 30
-ends zero place bytes bodies low is = absurd (let no : ⊥ = cc is in no)
-ends (suc fuel) place [] bodies low is = absurd (let no : ⊥ = cc is in no)
-ends (suc fuel) place (gate ∷ rest) bodies low is =
-    let size = from_le_bytes w32 (take 4 rest) in
-    by_gate (λ later short e. ends fuel (place + 5 + size) (drop size (drop 4 rest)) later short e) (gate == 1) is
-  where
-    n : ℕ
-    n = from_le_bytes w32 (take 4 rest)
-
-    fits : Bool
-    fits = nat_le (4 + n) (length rest) && nat_le (place + 6 + n) (2 ^ 30)
-
-    more : Log
-    more = records_from fuel (place + 5 + n) (drop n (drop 4 rest))
-
-    -- what holds of the records after the first
-    Behind : Type 0
-    Behind = (later : List (List ℕ)) → (place + 5 + n) + 1 ≤ 2 ^ 30 → more ≡ log.Intact later → (place + 5 + n) + length (frames later) + 1 ≤ 2 ^ 30
-
-    by_rest : Behind → (l : Log) → more ≡ l → 4 + n ≤ length rest → place + 6 + n ≤ 2 ^ 30 → with_first (take n (drop 4 rest)) l ≡ log.Intact bodies
-        → place + length (frames bodies) + 1 ≤ 2 ^ 30
-    by_rest go_on (log.Damaged p) e inside short is = absurd (let no : ⊥ = cc is in no)
-    by_rest go_on (log.Intact later) e inside short is =
-        let body = take n (drop 4 rest) in
-        let size = length-take n (drop 4 rest) in
-        let left = length-drop 4 rest in
-        let one = length-framed body in
-        let both = length-append (framed body) (frames later) in
-        let behind_it = length-append body (frames later) in
-        let go = go_on later (omega (arith, short)) e in
-        let same : body ∷ later ≡ bodies = ap bodies_of is in
-        subst (λ (bs : List (List ℕ)). place + length (frames bs) + 1 ≤ 2 ^ 30) same (omega (arith, size, left, one, both, behind_it, go, inside))
-
-    by_room : Behind → (t : Bool) → fits ≡ t → (if t then with_first (take n (drop 4 rest)) more else log.Damaged place) ≡ log.Intact bodies
-        → place + length (frames bodies) + 1 ≤ 2 ^ 30
-    by_room go_on false test is = absurd (let no : ⊥ = cc is in no)
-    by_room go_on true test is =
-        let parts = and_parts (nat_le (4 + n) (length rest)) (nat_le (place + 6 + n) (2 ^ 30)) test in
-        let first = parts.0 in
-        let second = parts.1 in
-        let inside : 4 + n ≤ length rest = grind (arith, nat_tests, first) in
-        let short : place + 6 + n ≤ 2 ^ 30 = grind (arith, nat_tests, second) in
-        by_rest go_on more refl inside short is
-
-    by_gate : Behind → (t : Bool) → (if t then (if fits then with_first (take n (drop 4 rest)) more else log.Damaged place) else log.Intact []) ≡ log.Intact bodies
-        → place + length (frames bodies) + 1 ≤ 2 ^ 30
-    by_gate go_on false is = let same : [] ≡ bodies = ap bodies_of is in subst (λ (bs : List (List ℕ)). place + length (frames bs) + 1 ≤ 2 ^ 30) same (omega (arith, low))
-    by_gate go_on true is = by_room go_on fits refl is
 
 -- ---- what is read, and what an opening goes on with
 

@@ -46,11 +46,6 @@ gap_same (blank b bytes rest e g) =
     ap past (cond-true _ _ _ e) ∙ gap_same g
 gap_same (comment line bytes rest n l g) = past_line line bytes n l ∙ gap_same g
 
-pub gap_shorter : {bytes rest : List ℕ} → Gap bytes rest → length rest ≤ length bytes
-gap_shorter (no_gap r) = omega arith
-gap_shorter (blank b bytes rest e g) = omega (arith, gap_shorter g)
-gap_shorter (comment line bytes rest n l g) = omega (arith, gap_shorter g, length-append line bytes)
-
 mutual
   pub past_shorter : (bytes : List ℕ) → length (past_gap false bytes) ≤ length bytes
   past_shorter [] = omega arith

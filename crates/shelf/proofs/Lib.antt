@@ -4,7 +4,6 @@ pub mod Roles
 pub mod Beside
 pub mod Deciding
 pub mod Told
-pub mod Written
 pub mod Steps
 pub mod Sizes
 pub mod Shallow

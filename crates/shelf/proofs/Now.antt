@@ -85,12 +85,6 @@ if_some o x P e p = subst (λ z. IfSome z P) (sym e) p
 pub if_none : {X : Type 0} (o : Option X) (P : X → Type 0) → o ≡ None → IfSome o P
 if_none o P e = subst (λ z. IfSome z P) (sym e) tt
 
--- the script of an admitted target's ticket is in the setup
-pub script_there : (all : List Named) (b : Book) (t : Ticket) (a : Admission) → refusal_of a ≡ None → FitsAs all b t a → slice_get all t.script ≡ None → ⊥
-script_there all b t (begins k x) admitted fits gone = cc (fits.run.script, gone)
-script_there all b t (resumes at) admitted fits gone = cc (fits.script, gone)
-script_there all b t (refused r) admitted fits gone = cc
-
 -- two facts of what was made
 pub both_ok : {X E : Type 0} {P Q R : X → Type 0} (r : Result X E) → IfOk r P → IfOk r Q → ((x : X) → P x → Q x → R x) → IfOk r R
 both_ok (Ok x) p q f = f x p q

@@ -149,9 +149,6 @@ pub read_in_bytes : (shelf : ℕ) (bytes : List ℕ) → (records bytes ≡ Inta
 read_in_bytes shelf bytes (inl intact) = read_as texts shelf (stored bytes) bytes intact
 read_in_bytes shelf bytes (inr none) = ap (book_in_bytes texts shelf) none ∙ ap (λ (l : List ℕ). book_of_format (format_of l) texts shelf (stored l)) (sym none)
 
-pub same_books : (shelf : ℕ) (bytes : List ℕ) (bodies : List (List ℕ)) → (records bytes ≡ Intact (stored bytes)) ⊎ (bytes ≡ []) → bodies ≡ stored bytes → book_in_bytes texts shelf bytes ≡ book_of_format (format_of bytes) texts shelf bodies
-same_books shelf bytes bodies intact is = read_in_bytes shelf bytes intact ∙ ap (book_of_format (format_of bytes) texts shelf) (sym is)
-
 -- what an opening goes on with, by the bytes
 pub now_in : (shelf : ℕ) (bytes : List ℕ) → (records bytes ≡ Intact (stored bytes)) ⊎ (bytes ≡ []) → now_in_bytes shelf bytes ≡ making_now (format_of bytes) shelf (stored bytes)
 now_in shelf bytes (inl intact) = by_bytes bytes intact

@@ -1,11 +1,11 @@
 -- An opening finds and leaves own records.
-use Rattle.std.proofs.Common.{◌≡◌, ℕ, Bool, List, [], ◌∷◌, length, None, IsTrue, refl, sym, ◌∙◌, ap, subst, arith}
+use Rattle.std.proofs.Common.{◌≡◌, ℕ, Bool, List, [], ◌∷◌, None, IsTrue, refl, sym, ◌∙◌, ap, subst}
 use Rattle.book_recovery.specs.SetupReader.Texts.{setup_of_texts as texts}
 use Rattle.web_disk.specs.View.{View}
-use Rattle.page_journal.specs.Records.{newest, format_of, stored, at_rest}
+use Rattle.page_journal.specs.Records.{newest, format_of, stored}
 use Rattle.page_journal.specs.Opened.{TellsFormat}
 use Rattle.page_journal.specs.Scanned.{IsQuiet}
-use Rattle.page_journal.specs.Settled.{IsSettled, view_of, bodies_in, length_of}
+use Rattle.page_journal.specs.Settled.{IsSettled, view_of, bodies_in}
 use Rattle.page_journal.specs.declared.journal.Journal.{Journal}
 use Rattle.book_recovery.specs.JournalSpec.Owning.{AreOwnIn}
 use Rattle.book_recovery.specs.JournalSpec.Disks.{IsFit}
@@ -16,10 +16,6 @@ use Rattle.shelf.specs.Owning.{IsOwnImage, HasOwnImages, StaysOwnThroughout}
 use Rattle.shelf.proofs.Owned.{none_own, images_own, stored_own, settled_own, quiet_own}
 use Rattle.shelf.proofs.Newest.{own_in}
 use Rattle.shelf.proofs.Recorded.{measured_up}
-
--- a journal without records has a header and a gate
-nine : {D : Type 0} (view : D → View) (j : Journal D) → IsSettled view j → bodies_in view j ≡ [] → length_of j ≡ 9
-nine view j s none = omega (arith, s.end, ap (λ (bs : List (List ℕ)). length (at_rest bs)) none)
 
 -- own records are read
 pub read_moments : {D : Type 0} (view : D → View) (shelf : ℕ) (j0 j1 : Journal D) → j0.format ≡ newest → IsSettled view j0 → HasOwnRecords view shelf j0 → IsQuiet (view_of view j0) (view_of view j1)

@@ -1,6 +1,5 @@
 -- A state that has a spelling can be told.
-use Rattle.std.proofs.Common.{◌≡◌, ◌∙◌, ap, sym, subst, List, [], ◌∷◌, reverse, Option, Some, None, Result, Ok, Err, if◌then◌else◌, Bool, true, false, refl, ℕ, zero, suc, slice_get}
-use Rattle.std.specs.Prelude.{OnOk}
+use Rattle.std.proofs.Common.{◌≡◌, ◌∙◌, ap, sym, subst, List, [], ◌∷◌, reverse, Option, Some, None, if◌then◌else◌, Bool, true, false, refl, ℕ, zero, suc, slice_get}
 use Rattle.std.proofs.lemmas.Option.{get_or_from_slice_get}
 use Rattle.script_nodes.specs.Setup.{Named}
 use Rattle.std.specs.List.{list_all, AllByRecursion}
@@ -103,7 +102,3 @@ whole_in all b t (Extends x) runs from its =
     let here : P s = of_some (slice_get all t.script) s P runs.script from in
     let is : script_in all t.script ≡ s = get_or_from_slice_get all t.script s no_script runs.script in
     if_some (script_at all x.instance b) s P (its ∙ ap (λ (n : Named). Some n) is) here
-
-pub on_ok : {X E : Type 0} (P : Type 0) (r : Result X E) → P → OnOk r P
-on_ok P (Ok x) h = h
-on_ok P (Err e) h = tt

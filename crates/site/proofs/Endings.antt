@@ -1,6 +1,5 @@
 -- Notes, and the end of a site.
-use Rattle.std.proofs.Common.{◌≡◌, ℕ, List, [], ◌∷◌, Some, slice_get, refl, sym, ◌∙◌, ap}
-use Rattle.std.specs.List.{AllZip}
+use Rattle.std.proofs.Common.{◌≡◌, ℕ, [], ◌∷◌, Some, slice_get, refl, sym, ◌∙◌, ap}
 use mathlib.Core.List.{IsPrefix}
 use Rattle.shelf_lock.specs.declared.view.Role.TheVariants.{Outside}
 use Rattle.shelf_lock.specs.Order.{made_by, posed, longer}
@@ -15,12 +14,6 @@ use Rattle.site.specs.Passes.{Spots}
 use Rattle.site.specs.Sites.{IsOwn}
 use Rattle.site.specs.Ends.{HearsOf}
 use Rattle.site.proofs.Turns.{own_map, prefix_map}
-
-pub all_zip : {A B : Type 0} {R : A → B → Type 0} (xs : List A) (ys : List B) → AllZip R xs ys → (S : A → B → Type 0) → ((x : A) (y : B) → R x y → S x y) → AllZip S xs ys
-all_zip [] [] all S f = tt
-all_zip [] (y ∷ ys) all S f = elim all [ ]
-all_zip (x ∷ xs) [] all S f = elim all [ ]
-all_zip (x ∷ xs) (y ∷ ys) all S f = (f x y all.0, all_zip xs ys all.1 S f)
 
 module _ {D N : Type 0} where
   same_worker : (old new : Spots D N) → homes old ≡ homes new → ((k : ℕ) (a b : Spot (Opening D N) KeptEntry) → slice_get old k ≡ Some a → slice_get new k ≡ Some b → b.known.caller ≡ a.known.caller) → caller_at new ≡ caller_at old

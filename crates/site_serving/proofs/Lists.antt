@@ -1,5 +1,5 @@
 -- Lists that go place by place, and their reverse.
-use Rattle.std.proofs.Common.{◌≡◌, ◌<◌, ◌++◌, ◌∷◌, [], ℕ, zero, suc, List, map, length, take, get_or, Some, slice_get, refl, sym, ap, subst, ◌∙◌, append_assoc, arith}
+use Rattle.std.proofs.Common.{◌≡◌, ◌<◌, ◌++◌, ◌∷◌, [], ℕ, zero, suc, List, map, length, take, get_or, Some, slice_get, refl, sym, ap, subst, ◌∙◌, arith}
 use Rattle.std.specs.Prelude.{reverse}
 use Rattle.std.specs.List.{AllZip}
 use Rattle.std.proofs.lemmas.List.{reverse-append}
@@ -17,18 +17,6 @@ zip_reverse R [] (y ∷ ys) all = absurd all
 zip_reverse R (x ∷ xs) [] all = absurd all
 zip_reverse R (x ∷ xs) (y ∷ ys) all =
     rw (reverse-append (x ∷ []) xs, reverse-append (y ∷ []) ys) (AllZip-push R (reverse xs) (reverse ys) x y (zip_reverse R xs ys all.1) all.0)
-
--- one was taken off the end
-pub turned : {A B : Type 0} (f : A → B) (done : List B) (front all : List A) (x : A) → all ≡ front ++ x ∷ []
-    → (done ++ f x ∷ []) ++ map f (reverse front) ≡ done ++ map f (reverse all)
-turned f done front all x is =
-    append_assoc done (f x ∷ []) (map f (reverse front)) ∙ ap (λ l. done ++ map f l) (sym (ap reverse is ∙ reverse-append front (x ∷ [])))
-
--- one was put on the end, from the end of what was left
-pub moved : {A B : Type 0} (f : A → B) (left front : List B) (back : List A) (x : A) → left ≡ front ++ f x ∷ []
-    → front ++ map f (reverse (back ++ x ∷ [])) ≡ left ++ map f (reverse back)
-moved f left front back x is =
-    ap (λ l. front ++ map f l) (reverse-append back (x ∷ [])) ∙ (sym (append_assoc front (f x ∷ []) (map f (reverse back))) ∙ ap (λ l. l ++ map f (reverse back)) (sym is))
 
 -- what holds of each place holds of each item
 pub each_get : {A : Type 0} (P : A → Type 0) (xs : List A) → ((k : ℕ) (d : A) → k < length xs → P (get_or xs k d)) → (k : ℕ) (x : A) → slice_get xs k ≡ Some x → P x

@@ -2,7 +2,7 @@
 use Rattle.std.proofs.Common.{◌≡◌, ◌≢◌, ◌⊎◌, inl, inr, ℕ, ◌<◌, List, [], ◌∷◌, refl, subst, arith}
 use Rattle.web_disk.specs.View.{RackView, AreAmong}
 use Rattle.web_disk.specs.declared.disk.Disk.{Ghosts}
-use Rattle.disk_trio.specs.Trio.{AreEmpty, first, three_of, file_of, read_side, trio_view}
+use Rattle.disk_trio.specs.Trio.{AreEmpty, first, three_of}
 use Rattle.disk_trio.specs.declared.side.Side.{Side}
 use Rattle.disk_trio.specs.declared.side.Side.TheVariants.{A, B}
 use Rattle.disk_trio.specs.declared.trio.Disks.{Disks}
@@ -50,16 +50,6 @@ module _ {D : Type 0} (G : Ghosts D) where
   unfolding bare
   current_bare A c o p q = p
   current_bare B c o p q = q
-
-  file_bare : (s : Side) (d : Disks D G) → bare (three_of d).a → bare (three_of d).b → bare (file_of s (three_of d))
-  unfolding bare
-  file_bare A d p q = p
-  file_bare B d p q = q
-
-  -- three empty disks read as an empty one
-  pub bare_seen : (d : Disks D G) → AreEmpty d → (trio_view d).seen ≡ []
-  unfolding bare
-  bare_seen d e = file_bare (read_side d) d (first_bare d.side d.current d.other e.current e.other) (first_bare d.side d.other d.current e.other e.current)
 
   module _ (reads : (x : D) → (G.view x).images (G.view x).seen) (rack : RackView) (shelf : ℕ) (d : Disks D G) (from : AreFrom rack shelf d) where
     held : (x : D) → (P : List ℕ → Type 0) → ((image : List ℕ) → (G.view x).images image → P image) → bare x → P []

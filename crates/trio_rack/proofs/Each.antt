@@ -55,10 +55,6 @@ there (x ∷ xs) zero low = (x, refl)
 there (x ∷ xs) (suc k) low = there xs k (omega (arith, low))
 
 module _ {D : Type 0} {G : Ghosts D} where
-  -- no disks were taken
-  pub takes_none_of_each : (rack : RackView) → TakesEach {G = G} rack rack []
-  takes_none_of_each rack = record { from = λ k d e. absurd (cc e); behind = λ number none image h. h }
-
   -- the three of one more shelf were taken
   pub takes_more_of_each : (before now after : RackView) (disks : List (Disks D G)) (d : Disks D G) → length disks < 16 → TakesEach before now disks → AreFrom now (length disks) d
       → LeavesOtherDisks (length disks) now after → TakesEach before after (disks ++ d ∷ [])

@@ -32,10 +32,6 @@ above_none c [] h = refl
 above_none c (s ∷ ss) h =
     let no : (s.0 == c) ≡ false = grind (arith, nat_tests, h.0) in rw no (above_none c ss h.1)
 
-lower_above : (a c : ℕ) (ss : Bindings) → a < c → AreAbove c ss → AreAbove a ss
-lower_above a c [] h k = tt
-lower_above a c (s ∷ ss) h k = (omega (arith, h, k.0), lower_above a c ss h k.1)
-
 -- a cell that is bound is above each one below all
 bound_above : (a c : ℕ) (v : Val) (ss : Bindings) → AreAbove a ss → binding c ss ≡ Some v → a < c
 bound_above a c v [] h e = absurd cc

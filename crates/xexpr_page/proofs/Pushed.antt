@@ -11,7 +11,7 @@ use Rattle.std.specs.Prelude.{Result, Err}
 use Rattle.xexpr_page.specs.declared.fault.RenderFault.{RenderFault}
 use Rattle.xexpr_page.specs.declared.fault.RenderFault.TheVariants.{Memory, NotPage}
 use Rattle.page_spec.specs.Markup.{start_tag, end_tag, is_void, is_element}
-use Rattle.page_spec.specs.Page.{join, appended, element, pair_in, void_of, element_of, page_of, children_of, attribute_of, attributes_of}
+use Rattle.page_spec.specs.Page.{join, appended, element, pair_in, void_of, element_of, page_of, children_of}
 use Rattle.xexpr_page.specs.Answers.{Pushes}
 use Rattle.script_value.proofs.Folds.{item_depth}
 
@@ -26,13 +26,6 @@ appended_join old new (Some a) (Some b) e =
 pub joined_none : (p q : Option (List ℕ)) → p ≡ None → join p q ≡ None
 joined_none None q e = refl
 joined_none (Some a) q e = cc
-
-pub none_behind : (old mid : List ℕ) (p q : Option (List ℕ)) → appended old p ≡ Some mid → q ≡ None → join p q ≡ None
-none_behind old mid p q a e = rw e (none_last p)
-  where
-    none_last : (p : Option (List ℕ)) → join p None ≡ None
-    none_last None = refl
-    none_last (Some a) = refl
 
 pub appended_none : (old : List ℕ) (p : Option (List ℕ)) → p ≡ None → appended old p ≡ None
 appended_none old p e = rw e refl
@@ -67,10 +60,6 @@ void_none n (x ∷ y ∷ xs) h = refl
 pub children_here : (xs : List Value) (i : ℕ) (d : Value) → i < length xs
     → children_of (vals_of (map meaning (drop i xs))) ≡ join (page_of (meaning (get_or xs i d))) (children_of (vals_of (map meaning (drop (i + 1) xs))))
 children_here xs i d h = rw (drop-cons xs i d, add-one) refl
-
-pub attributes_here : (xs : List Value) (i : ℕ) (d : Value) → i < length xs
-    → attributes_of (vals_of (map meaning (drop i xs))) ≡ join (attribute_of (meaning (get_or xs i d))) (attributes_of (vals_of (map meaning (drop (i + 1) xs))))
-attributes_here xs i d h = rw (drop-cons xs i d, add-one) refl
 
 -- one child more
 pub child_more : (old now new : List ℕ) (xs : List Value) (i : ℕ) (d : Value) → i < length xs → d ≡ get_or xs i d
