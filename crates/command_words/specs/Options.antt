@@ -1,5 +1,5 @@
 -- The options of the commands, as a table, and options as they are written, in any order.
-use Rattle.std.specs.Prelude.{⊤, ◌≡◌, ◌≤◌, ◌==◌, ◌++◌, ◌∷◌, ◌⊎◌, ℕ, Bool, true, false, List, [], Option, Some, None, is_some, unwrap_or, codes, if◌then◌else◌}
+use Rattle.std.specs.Prelude.{⊤, ◌≡◌, ◌≤◌, ◌==◌, ◌-◌, ◌++◌, ◌∷◌, ◌⊎◌, ℕ, Bool, true, false, List, [], Option, Some, None, is_some, unwrap_or, codes, if◌then◌else◌}
 use Rattle.std.specs.List.{AllByRecursion as Each}
 use Rattle.std.specs.Fmt.{decimal}
 use Rattle.std.specs.Str.{bytes_eq}
@@ -48,7 +48,7 @@ journal = record { name = codes "journal"; kind = directory; default = Some (cod
 
 -- the greatest number of a shelf
 abbrev pub last_shelf : ℕ
-last_shelf = 15
+last_shelf = most_shelves - 1
 
 -- the option of how many shelves there are
 abbrev pub shelves : Item

@@ -20,6 +20,7 @@ use page_follower::{ExportFault, export, follow};
 use play_desk::{OpenFault, why_not};
 use play_steps::Reopen;
 use script_value::Reply;
+use server_limits::MOST_SHELVES;
 use std::alloc::Global;
 use trio_rack::{give_trio, take_trio};
 use web_disk::{Disk, Rack, RackFault};
@@ -45,7 +46,7 @@ fn limits(number: u32) -> Rules
 {
     Rules {
         number,
-        shelves: 16,
+        shelves: MOST_SHELVES,
         fuel: 1,
         life: 1,
         instances: 1,

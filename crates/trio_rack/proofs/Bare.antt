@@ -2,6 +2,7 @@
 use Rattle.std.proofs.Common.{◌≡◌, ◌≢◌, ◌⊎◌, inl, inr, ℕ, ◌<◌, List, [], ◌∷◌, refl, subst, arith}
 use Rattle.web_disk.specs.View.{RackView, AreAmong}
 use Rattle.web_disk.specs.declared.disk.Disk.{Ghosts}
+use Rattle.server_limits.specs.Limits.{most_shelves}
 use Rattle.disk_trio.specs.Trio.{AreEmpty, first, three_of}
 use Rattle.disk_trio.specs.declared.side.Side.{Side}
 use Rattle.disk_trio.specs.declared.side.Side.TheVariants.{A, B}
@@ -10,7 +11,7 @@ use Rattle.trio_rack.specs.Numbers.{file_number, root_number, IsOneOfThree, IsNo
 use Rattle.trio_rack.specs.Trios.{AreFrom, MayBeBare, MayHoldSome}
 
 -- the disks of another shelf are none of a shelf
-pub of_another : (shelf n number : ℕ) → shelf < 16 → n < 16 → n ≢ shelf → IsOneOfThree n number → IsNoneOf shelf number
+pub of_another : (shelf n number : ℕ) → shelf < most_shelves → n < most_shelves → n ≢ shelf → IsOneOfThree n number → IsNoneOf shelf number
 of_another shelf n number low below other (inl is) =
     record { a = λ e. other (omega (arith, e, is)); b = λ e. omega (arith, e, is, below); root = λ e. omega (arith, e, is, below) }
 of_another shelf n number low below other (inr (inl is)) =

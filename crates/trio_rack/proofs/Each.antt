@@ -1,10 +1,11 @@
 -- Disks of several shelves that are taken, and given back, one shelf at a time.
-use Rattle.std.proofs.Common.{◌≡◌, ◌≢◌, ◌⊎◌, inl, inr, ℕ, zero, suc, ◌+◌, ◌-◌, ◌<◌, ◌≤◌, Bool, true, false, List, [], ◌∷◌, ◌++◌, length, Some, refl, sym, ◌∙◌, ap, subst, arith}
+use Rattle.std.proofs.Common.{◌≡◌, ◌≢◌, ◌⊎◌, inl, inr, ℕ, zero, suc, ◌+◌, ◌-◌, ◌*◌, ◌<◌, ◌≤◌, Bool, true, false, List, [], ◌∷◌, ◌++◌, length, Some, refl, sym, ◌∙◌, ap, subst, arith}
 use Rattle.std.specs.Prelude.{slice_get}
 use Rattle.std.proofs.lemmas.List.{append_assoc, length-append}
 use Rattle.std.proofs.lemmas.Option.{slice_get_within}
 use Rattle.web_disk.specs.View.{RackView, AreAmong}
 use Rattle.web_disk.specs.declared.disk.Disk.{Ghosts}
+use Rattle.server_limits.specs.Limits.{most_shelves}
 use Rattle.disk_trio.specs.Naming.{names}
 use Rattle.disk_trio.specs.declared.side.Side.TheVariants.{A, B}
 use Rattle.disk_trio.specs.declared.trio.Disks.{Disks}
@@ -23,17 +24,17 @@ each_more K (z ∷ xs) x all new zero y e = all zero y e
 each_more K (z ∷ xs) x all new (suc k) y e = each_more (λ j q. K (suc j) q) xs x (λ j q f. all (suc j) q f) new k y e
 
 -- a disk is one of the first shelves', or of none of them
-one_or_none : (count number : ℕ) → count ≤ 16 → ((k : ℕ) × (k < count) × IsOneOfThree k number) ⊎ ((k : ℕ) → k < count → IsNoneOf k number)
+one_or_none : (count number : ℕ) → count ≤ most_shelves → ((k : ℕ) × (k < count) × IsOneOfThree k number) ⊎ ((k : ℕ) → k < count → IsNoneOf k number)
 one_or_none count number low = elim (below_or_not number count) [
   | inl a ↦ inl (number, a, inl refl)
-  | inr not_a ↦ elim (below_or_not number 16) [
+  | inr not_a ↦ elim (below_or_not number most_shelves) [
     | inl a ↦ inr (λ k lt. record { a = λ e. omega (arith, e, lt, not_a); b = λ e. omega (arith, e, a); root = λ e. omega (arith, e, a) })
-    | inr above ↦ elim (below_or_not number (16 + count)) [
-      | inl b ↦ inl (number - 16, omega (arith, b, above), inr (inl (omega (arith, above))))
-      | inr not_b ↦ elim (below_or_not number 32) [
+    | inr above ↦ elim (below_or_not number (most_shelves + count)) [
+      | inl b ↦ inl (number - most_shelves, omega (arith, b, above), inr (inl (omega (arith, above))))
+      | inr not_b ↦ elim (below_or_not number (2 * most_shelves)) [
         | inl b ↦ inr (λ k lt. record { a = λ e. omega (arith, e, lt, above, low); b = λ e. omega (arith, e, lt, not_b); root = λ e. omega (arith, e, b) })
-        | inr behind ↦ elim (below_or_not number (32 + count)) [
-          | inl root ↦ inl (number - 32, omega (arith, root, behind), inr (inr (omega (arith, behind))))
+        | inr behind ↦ elim (below_or_not number (2 * most_shelves + count)) [
+          | inl root ↦ inl (number - 2 * most_shelves, omega (arith, root, behind), inr (inr (omega (arith, behind))))
           | inr none ↦ inr (λ k lt. record { a = λ e. omega (arith, e, lt, behind, low); b = λ e. omega (arith, e, lt, behind, low); root = λ e. omega (arith, e, lt, none) })
         ]
       ]
@@ -56,7 +57,7 @@ there (x ∷ xs) (suc k) low = there xs k (omega (arith, low))
 
 module _ {D : Type 0} {G : Ghosts D} where
   -- the three of one more shelf were taken
-  pub takes_more_of_each : (before now after : RackView) (disks : List (Disks D G)) (d : Disks D G) → length disks < 16 → TakesEach before now disks → AreFrom now (length disks) d
+  pub takes_more_of_each : (before now after : RackView) (disks : List (Disks D G)) (d : Disks D G) → length disks < most_shelves → TakesEach before now disks → AreFrom now (length disks) d
       → LeavesOtherDisks (length disks) now after → TakesEach before after (disks ++ d ∷ [])
   takes_more_of_each before now after disks d low taken from others =
       let count = length disks in
@@ -85,19 +86,19 @@ module _ {D : Type 0} {G : Ghosts D} where
   }
 
   -- those of the shelf in front of them were given back
-  pub gives_more_of_each : (before now after : RackView) (all front back : List (Disks D G)) (d : Disks D G) → all ≡ (front ++ d ∷ []) ++ back → length all ≤ 16
+  pub gives_more_of_each : (before now after : RackView) (all front back : List (Disks D G)) (d : Disks D G) → all ≡ (front ++ d ∷ []) ++ back → length all ≤ most_shelves
       → GivesLast before now all (front ++ d ∷ []) → AreGivenTo after (length front) d → LeavesOtherDisks (length front) now after → GivesLast before after all front
   gives_more_of_each before now after all front back d is few so_far given others =
       let count = length front in
       let size = length-append front (d ∷ []) in
       let whole : length all ≡ length (front ++ d ∷ []) + length back = ap length is ∙ length-append (front ++ d ∷ []) back in
-      let kept : (k : ℕ) → k < 16 → k ≢ count → (number : ℕ) → IsOneOfThree k number → AreAmong (after.holds number) (now.holds number) =
+      let kept : (k : ℕ) → k < most_shelves → k ≢ count → (number : ℕ) → IsOneOfThree k number → AreAmong (after.holds number) (now.holds number) =
       λ k low other number its. others number (of_another count k number (omega (arith, size, whole, few)) low other its) in
       record {
         to = λ k x above here. elim (below_or_not count k) [
           | inl further ↦ (
               let was = so_far.to k x (omega (arith, further, size)) here in
-              let low : k < 16 = (let within = slice_get_within all k x here in omega (arith, within, few)) in
+              let low : k < most_shelves = (let within = slice_get_within all k x here in omega (arith, within, few)) in
               let other : k ≢ count = λ e. omega (arith, e, further) in
               record {
                 a = λ image h. was.a image (kept k low other (file_number A k) (inl refl) image h);
@@ -123,7 +124,7 @@ module _ {D : Type 0} {G : Ghosts D} where
   gives_each before now all last = record { to = λ k d here. last.to k d (omega arith) here; behind = last.behind }
 
   -- disks that were taken went back as they were
-  pub back_as_they_were : (before mid after last : RackView) (disks : List (Disks D G)) → length disks ≤ 16 → TakesEach before mid disks → LeavesAllDisks mid after → GivesEach after last disks
+  pub back_as_they_were : (before mid after last : RackView) (disks : List (Disks D G)) → length disks ≤ most_shelves → TakesEach before mid disks → LeavesAllDisks mid after → GivesEach after last disks
       → LeavesAllDisks before last
   back_as_they_were before mid after last disks few taken same given number image h =
       elim (one_or_none (length disks) number few) [

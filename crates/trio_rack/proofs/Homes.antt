@@ -1,7 +1,8 @@
 -- Disks are home where the shelves' are.
-use Rattle.std.proofs.Common.{◌≡◌, ◌⊎◌, inl, inr, ℕ, ◌+◌, ◌-◌, ◌<◌, ◌≤◌, Bool, true, false, ◌||◌, nat_lt, sym, refl, subst, arith}
+use Rattle.std.proofs.Common.{◌≡◌, ◌⊎◌, inl, inr, ℕ, ◌+◌, ◌-◌, ◌*◌, ◌<◌, ◌≤◌, Bool, true, false, ◌||◌, nat_lt, sym, refl, subst, arith}
 use Rattle.std.proofs.lemmas.Bool.{lt-ltb, le-ltb, ltb-true, ltb-false}
 use Rattle.web_disk.specs.View.{RackView}
+use Rattle.server_limits.specs.Limits.{most_shelves}
 use Rattle.trio_rack.specs.Numbers.{is_shelf, file_number, root_number, number_behind}
 use Rattle.trio_rack.specs.Trios.{out_by, shelves_of}
 use Rattle.disk_trio.specs.declared.side.Side.TheVariants.{A, B}
@@ -23,9 +24,9 @@ all_three true b c is = absurd (let no : ⊥ = cc is in no)
 all_three false true c is = absurd (let no : ⊥ = cc is in no)
 all_three false false true is = absurd (let no : ⊥ = cc is in no)
 
-three_home : (rack : RackView) (shelf : ℕ) → shelf < 16 → (shelves_of rack).out shelf ≡ false
-    → (rack.out shelf ≡ false) × (rack.out (16 + shelf) ≡ false) × (rack.out (32 + shelf) ≡ false)
-three_home rack shelf low is = all_three _ _ _ (subst (λ (b : Bool). out_by b rack shelf ≡ false) (lt-ltb shelf 16 low) is)
+three_home : (rack : RackView) (shelf : ℕ) → shelf < most_shelves → (shelves_of rack).out shelf ≡ false
+    → (rack.out shelf ≡ false) × (rack.out (most_shelves + shelf) ≡ false) × (rack.out (2 * most_shelves + shelf) ≡ false)
+three_home rack shelf low is = all_three _ _ _ (subst (λ (b : Bool). out_by b rack shelf ≡ false) (lt-ltb shelf most_shelves low) is)
 
 pub below_or_not : (k n : ℕ) → (k < n) ⊎ (n ≤ k)
 below_or_not k n = by_test (nat_lt k n) refl
@@ -36,14 +37,14 @@ below_or_not k n = by_test (nat_lt k n) refl
 
 -- all disks are home where the shelves' are
 pub disks_home : (rack : RackView) → ((n : ℕ) → (shelves_of rack).out n ≡ false) → (n : ℕ) → rack.out n ≡ false
-disks_home rack home n = elim (below_or_not n 16) [
+disks_home rack home n = elim (below_or_not n most_shelves) [
   | inl a ↦ (three_home rack n a (home n)).0
-  | inr not_a ↦ elim (below_or_not n 32) [
-    | inl b ↦ moved n (16 + (n - 16)) (omega (arith, not_a)) (three_home rack (n - 16) (omega (arith, b, not_a)) (home (n - 16))).1
-    | inr not_b ↦ elim (below_or_not n 48) [
-      | inl root ↦ moved n (32 + (n - 32)) (omega (arith, not_b)) (three_home rack (n - 32) (omega (arith, root, not_b)) (home (n - 32))).2
-      | inr behind ↦ moved n (32 + (n - 32)) (omega (arith, behind))
-          (subst (λ (b : Bool). out_by b rack (n - 32) ≡ false) (le-ltb (n - 32) 16 (omega (arith, behind))) (home (n - 32)))
+  | inr not_a ↦ elim (below_or_not n (2 * most_shelves)) [
+    | inl b ↦ moved n (most_shelves + (n - most_shelves)) (omega (arith, not_a)) (three_home rack (n - most_shelves) (omega (arith, b, not_a)) (home (n - most_shelves))).1
+    | inr not_b ↦ elim (below_or_not n (3 * most_shelves)) [
+      | inl root ↦ moved n (2 * most_shelves + (n - 2 * most_shelves)) (omega (arith, not_b)) (three_home rack (n - 2 * most_shelves) (omega (arith, root, not_b)) (home (n - 2 * most_shelves))).2
+      | inr behind ↦ moved n (2 * most_shelves + (n - 2 * most_shelves)) (omega (arith, behind))
+          (subst (λ (b : Bool). out_by b rack (n - 2 * most_shelves) ≡ false) (le-ltb (n - 2 * most_shelves) most_shelves (omega (arith, behind))) (home (n - 2 * most_shelves)))
     ]
   ]
 ]

@@ -2,9 +2,11 @@ ghost use Rattle.std.specs.Prelude.{◌≡◌, ◌≢◌, ◌≤◌, ◌<◌, �
 ghost use Rattle.web_outside.specs.Causes.{Rose};
 ghost use Rattle.web_disk.specs.View.{AreAmong};
 ghost use Rattle.disk_trio.specs.Trio.{trio_view};
+ghost use Rattle.server_limits.specs.Limits.{most_shelves};
 ghost use Rattle.trio_rack.specs.Trios.{shelves_of, AreFrom, AreGivenTo, AsksForThree, CountsEach, CountsNoOther, CountsTake, CountsWhole, IsFrom, IsGivenTo, KeepsHome, LeavesAllDisks, LeavesAllShelves, LeavesOtherDisks, LeavesOtherShelves};
 
 use disk_trio::Disks;
+use server_limits::MOST_SHELVES;
 use std::alloc::Global;
 use web_disk::{Disk, Rack, RackFault};
 
@@ -16,7 +18,7 @@ pub fn take_trio<D: Disk, R: Rack<D>>(
     directory: &str,
     shelf: u32,
 ) -> Result<Disks<D>, RackFault>
-    requires shelf { shelf < 16 }
+    requires shelf { shelf < most_shelves }
     ensures unopened { IfOk result (λ disks. disks.known ≡ false) }
     ensures images { IsTrue R.tells → IfOk result (λ disks. IsFrom (R.view rack.old) shelf disks) }
     ensures each { IsTrue R.tells →
@@ -43,17 +45,17 @@ pub fn take_trio<D: Disk, R: Rack<D>>(
         Ok(a) => a,
         Err(fault) => return Err(fault),
     };
-    let b = match rack.take(alloc, directory, 16 + shelf) {
+    let b = match rack.take(alloc, directory, MOST_SHELVES + shelf) {
         Ok(b) => b,
         Err(fault) => {
             give_unused(rack, shelf, a);
             return Err(fault);
         }
     };
-    match rack.take(alloc, directory, 32 + shelf) {
+    match rack.take(alloc, directory, 2 * MOST_SHELVES + shelf) {
         Ok(root) => Ok(Disks::new(a, b, root)),
         Err(fault) => {
-            give_unused(rack, 16 + shelf, b);
+            give_unused(rack, MOST_SHELVES + shelf, b);
             give_unused(rack, shelf, a);
             Err(fault)
         }
@@ -62,7 +64,7 @@ pub fn take_trio<D: Disk, R: Rack<D>>(
 
 /// Gives back the three disks of a shelf. Their faults count as the rack's, for this shelf.
 pub fn give_trio<D: Disk, R: Rack<D>>(rack: &mut R, shelf: u32, disks: Disks<D>)
-    requires shelf { shelf < 16 }
+    requires shelf { shelf < most_shelves }
     ensures images { IsTrue R.tells → IsTrue D.tells → IsGivenTo (R.view rack.new) shelf disks }
     ensures each { IsTrue R.tells → AreGivenTo (R.view rack.new) shelf disks }
     ensures others { LeavesOtherShelves shelf (R.view rack.old) (R.view rack.new) }
@@ -79,8 +81,8 @@ pub fn give_trio<D: Disk, R: Rack<D>>(rack: &mut R, shelf: u32, disks: Disks<D>)
 {
     let (a, b, root) = disks.close();
     rack.give(shelf, a);
-    rack.give(16 + shelf, b);
-    rack.give(32 + shelf, root);
+    rack.give(MOST_SHELVES + shelf, b);
+    rack.give(2 * MOST_SHELVES + shelf, root);
 }
 
 // Gives back the disk of this number, of which no call was made.
