@@ -48,13 +48,6 @@ impl Lending {
         self.faults
     }
 
-    /// Whether the disk of this number is out.
-    pub fn is_out(&self, number: u32) -> bool
-        ensures { result ≡ is_out self.now number }
-    {
-        self.out.contains(&number)
-    }
-
     /// The disk of this number is asked for.
     pub fn ask(&mut self, number: u32)
         ensures asked { asked_in self.new.asked ≡ asked_in self.old.asked ++ number ∷ [] }

@@ -1,4 +1,4 @@
-ghost use Rattle.std.specs.Prelude.{◌≡◌, ◌↔◌, IsTrue, option_map};
+ghost use Rattle.std.specs.Prelude.{◌≡◌, IsTrue, option_map};
 ghost use Rattle.std.specs.List.{list_all};
 ghost use Rattle.page_names.specs.Names.{is_name_byte, is_name, name_in};
 ghost use Rattle.page_names.specs.Views.{name_of};
@@ -38,13 +38,6 @@ impl ScriptName {
             Ok(text) => text,
             Err(_) => unreachable!(),
         }
-    }
-
-    /// Whether both have the same bytes.
-    pub fn same(&self, other: &ScriptName) -> bool
-        ensures { IsTrue result ↔ (name_of self.now ≡ name_of other.now) }
-    {
-        self.as_bytes() == other.as_bytes()
     }
 }
 
