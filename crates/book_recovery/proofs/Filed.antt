@@ -1,13 +1,13 @@
 -- What is known of a file after all of its records.
-use Rattle.std.proofs.Common.{◌≡◌, ◌∙◌, ap, sym, subst, ℕ, ◌+◌, ◌==◌, Bool, true, false, List, [], ◌∷◌, ◌++◌, length, refl, arith, append_assoc, if◌then◌else◌, inl, inr}
+use Rattle.std.proofs.Common.{◌≡◌, ◌∙◌, ap, sym, subst, ℕ, ◌+◌, ◌==◌, Bool, true, false, List, [], ◌∷◌, ◌++◌, length, refl, append_assoc, if◌then◌else◌, inl, inr}
 use Rattle.std.proofs.lemmas.List.{append-nil}
-use Rattle.std.proofs.lemmas.Bool.Decides.{nat_tests}
 use Rattle.setup_reader.specs.Texts.{setup_of_texts}
 use Rattle.page_journal.specs.Records.{newest, frames}
 use Rattle.page_journal.specs.Taken.{TakesAll}
 use Rattle.book_redo.specs.JournalSpec.Making.{Making, nothing, damaged, other}
 use Rattle.book_redo.specs.JournalSpec.Old.{with_body_at, with_bodies_at, book_of_format}
 use Rattle.file_notes.specs.Files.{marks_in}
+use Rattle.book_recovery.proofs.Made.{other_number, same_number}
 use Rattle.book_recovery.specs.declared.found.Found.{Found}
 use Rattle.book_recovery.specs.declared.found.Found.TheVariants as found
 use Rattle.book_recovery.specs.declared.reader.Reader.{Reader}
@@ -209,12 +209,6 @@ all_anew format shelf place (body ∷ bodies) old new t number its m is =
         by_found (found.Other p) h = tt
         by_found found.Memory h = tt
 
-differ : (n k : ℕ) → (n ≡ k → ⊥) → (n == k) ≡ false
-differ n k apart = grind (arith, nat_tests, apart)
-
-alike : (n k : ℕ) → n ≡ k → (n == k) ≡ true
-alike n k is = grind (arith, nat_tests, is)
-
 -- of all records
 pub anew_of_all : (format shelf : ℕ) (bodies : List (List ℕ)) (old new : Reader) → old.shelf ≡ shelf → old.format ≡ format → old.found ≡ found.Nothing → old.follows ≡ false → seen_by old.seen ≡ [] → old.anew.items ≡ []
     → TakesAll IsTaken old 8 bodies new → WhereMade new.found (ReadsAnew format shelf bodies new.anew.items)
@@ -231,12 +225,12 @@ anew_of_all format shelf bodies old new number its empty apart none bare t =
 
     by_found : (f : Found) → WhereMade f (Adds format shelf 8 bodies old new nothing) → WhereMade f (ReadsAnew format shelf bodies new.anew.items)
     by_found (found.Made b library) h = (
-      λ old_format. subst (AreAnew format setup_of_texts shelf 8 bodies nothing) (older (format == newest) h.0 new.anew.items h.1.1 (differ format newest old_format)) h.1.0,
-      λ is. newer (format == newest) h.0 new.anew.items h.1.1 (alike format newest is),
+      λ old_format. subst (AreAnew format setup_of_texts shelf 8 bodies nothing) (older (format == newest) h.0 new.anew.items h.1.1 (other_number format newest old_format)) h.1.0,
+      λ is. newer (format == newest) h.0 new.anew.items h.1.1 (same_number format newest is),
     )
     by_found found.Nothing h = (
-      λ old_format. subst (AreAnew format setup_of_texts shelf 8 bodies nothing) (older (format == newest) h.0 new.anew.items h.1.1 (differ format newest old_format)) h.1.0,
-      λ is. newer (format == newest) h.0 new.anew.items h.1.1 (alike format newest is),
+      λ old_format. subst (AreAnew format setup_of_texts shelf 8 bodies nothing) (older (format == newest) h.0 new.anew.items h.1.1 (other_number format newest old_format)) h.1.0,
+      λ is. newer (format == newest) h.0 new.anew.items h.1.1 (same_number format newest is),
     )
     by_found (found.Damaged p) h = tt
     by_found (found.Other p) h = tt

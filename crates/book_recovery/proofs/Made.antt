@@ -33,6 +33,7 @@ use Rattle.book_redo.specs.JournalSpec.Old.{change_next, next_at, second_at, wit
 use Rattle.book_redo.specs.declared.renew.Renewed.{Renewed}
 use Rattle.book_redo.specs.declared.renew.Renewed.TheVariants as renewed
 use Rattle.book_redo.specs.Renewing.{IsAsNewest, IsPassedOver, IsOutside, IsToldAsIs}
+use Rattle.replay_spec.proofs.Compacted.{one_among}
 use Rattle.book_recovery.specs.Found.{beside_file}
 use Rattle.book_recovery.specs.Reading.{seen_by, TellsOf, IsUnderWay, SeesNumber, Sees, may_stand, IsMadeOf, IsPassed, IsMadeBy, IsMadeIn, turns, making_of, IsMadeAs, IsBefore, IsNothing, IsRenewed, IsFirst}
 use Rattle.book_recovery.proofs.Longer.{instances_longer, states_longer}
@@ -40,14 +41,6 @@ use Rattle.book_recovery.proofs.Longer.{instances_longer, states_longer}
 -- What a reader of records makes.
 
 -- ---- numbers that were seen
-
-is_among : (n : ℕ) (ns : List ℕ) → is_one n ns ≡ true → Among n ns
-is_among n [] h = absurd (let not : ⊥ = cc in not)
-is_among n (m ∷ ns) h = by_test (m == n) refl h (is_among n ns)
-  where
-    by_test : (t : Bool) → (m == n) ≡ t → (if t then true else is_one n ns) ≡ true → (is_one n ns ≡ true → Among n ns) → Among n (m ∷ ns)
-    by_test true e f rest = inl (grind (arith, nat_tests, e))
-    by_test false e f rest = inr (rest f)
 
 put_sees : {T : Type 0} (x : Numbered T) (xs : List (Numbered T)) (k : ℕ)
     → is_one k (numbers_of (put_in_order (λ t. t.number) x xs)) ≡ is_one k (x.number ∷ numbers_of xs)
@@ -77,8 +70,8 @@ with_alike (Some n) ms ns same k = ap (λ (t : Bool). if n == k then true else t
 pub orderly_alike : (m n : recovery.Made) → m.book ≡ n.book → ((k : ℕ) → is_one k m.seen ≡ is_one k n.seen) → IsOrderlyMade n → IsOrderlyMade m
 orderly_alike m n book seen h =
     subst (λ (b : Book). IsOrderlyMade (record { book = b; seen = m.seen })) (sym book) (record {
-      instances = orderly_less (λ k. Among k n.seen → ⊥) (λ k. Among k m.seen → ⊥) n.book.instances (λ k free there. free (is_among k m.seen (seen k ∙ among_is k n.seen there))) h.instances;
-      counted = λ k there. h.counted k (is_among k n.seen (sym (seen k) ∙ among_is k m.seen there));
+      instances = orderly_less (λ k. Among k n.seen → ⊥) (λ k. Among k m.seen → ⊥) n.book.instances (λ k free there. free (one_among k m.seen (seen k ∙ among_is k n.seen there))) h.instances;
+      counted = λ k there. h.counted k (one_among k n.seen (sym (seen k) ∙ among_is k m.seen there));
       again = h.again;
     })
 
@@ -440,10 +433,10 @@ long_rules n = record {
   journal = Some (record { begun = λ scripts. n; renewed = λ scripts. 0; length_of = λ b c. 0 });
 }
 
-same_number : (n k : ℕ) → n ≡ k → (n == k) ≡ true
+pub same_number : (n k : ℕ) → n ≡ k → (n == k) ≡ true
 same_number n k e = grind (arith, nat_tests, e)
 
-other_number : (n k : ℕ) → (n ≡ k → ⊥) → (n == k) ≡ false
+pub other_number : (n k : ℕ) → (n ≡ k → ⊥) → (n == k) ≡ false
 other_number n k e = grind (arith, nat_tests, e)
 
 module _ (format shelf place : ℕ) (body : List ℕ) (number : ℕ) (named : List (List ℕ × List ℕ)) (read : read_record_in format body ≡ Some (begins number named)) (fed : Bool) (seen : InOrder (Unit {0}))

@@ -187,7 +187,7 @@ in_order law format shelf bodies bytes n fed alone found.Memory seen way is = tt
 
 -- ---- where each record is an own one
 
-frames_behind : (front : List (List ℕ)) (body : List ℕ) → length (frames (front ++ body ∷ [])) ≡ length (frames front) + (length body + 5)
+pub frames_behind : (front : List (List ℕ)) (body : List ℕ) → length (frames (front ++ body ∷ [])) ≡ length (frames front) + (length body + 5)
 frames_behind [] body = omega (arith, length-append (framed body) [], length-framed body)
 frames_behind (first ∷ front) body =
     omega (arith, length-append (framed first) (frames (front ++ body ∷ [])), length-append (framed first) (frames front), frames_behind front body)

@@ -54,11 +54,12 @@ use Rattle.instance_book.specs.Makes.{shelf_from, HasStatesFrom, HasItsStates, K
 use Rattle.instance_book.specs.Changes.{begun_with, shown_with, gone_in, changed_by, OpensKept, HasRoomFor, KeepsStatesBy}
 use Rattle.instance_book.specs.Standing.{book_under, place_of, BeginsAt}
 use Rattle.instance_book.specs.Segments.{IsNewPage, root_instance, IsOpenedBy, IsExtendedBy}
+use Rattle.journal_spec.proofs.Telling.{at_number_again}
 use Rattle.book_redo.specs.Redo.{no_rules, counted_to, Counts, are_held, IsStateTold, IsAnswerTold, HasNoAnswer, told_of, HasToldStates, is_read, names_told, IsFree, IsUntold, told_states, IsLandedBy, IsLanded, OpensAt, first_in, opens_on, opens_so, LandsAs, HasFirstState, KeepsStatesOpened, takes_record, StandsThere, IsMisread, IsPassed, IsExtended}
 use Rattle.instance_book.proofs.Seen.{mend_agrees, instance_some}
 use Rattle.instance_book.proofs.Given.{more_given}
 use Rattle.instance_book.proofs.States.{links_of, links_next}
-use Rattle.book_redo.proofs.Passed.{can_when, told_more, told_first, none_either, names_there, names_again, counted_passed, passed, misread_so, formed_kept}
+use Rattle.book_redo.proofs.Passed.{can_when, told_more, none_either, names_there, names_again, counted_passed, passed, misread_so, formed_kept}
 
 -- ---- a start
 
@@ -251,7 +252,7 @@ module _ (library : Library) (old : kept.Book) (k : ℕ) (r : PageRecord) (bytes
               let known = told_more r.ticket d ss (free r.ticket refl) in
               let grown : HasToldStates library.all more old = more_given (λ n. state_at n ss) (λ n. state_at n more) known library.all old has in
               subst (λ (xs : States). HasToldStates library.all xs new) (sym (same true so))
-              (keeps (given (λ n. state_at n more)) library.all (λ _. first_state (given (λ n. state_at n more)) (told_first r.ticket d ss, is.stored)) grown)
+              (keeps (given (λ n. state_at n more)) library.all (λ _. first_state (given (λ n. state_at n more)) (at_number_again r.ticket d ss, is.stored)) grown)
 
   pub opening_none : (new : kept.Book) → origin_of r.origin ≡ fields.start k → slice_get library.setup k ≡ None → Counts r.ticket old new → KeepsStates old new
       → IsLanded library (page_change r) (Some bytes) again true old new
@@ -535,7 +536,7 @@ module _ (library : Library) (old : kept.Book) (k m : ℕ) (answer : Val) (r : P
               ap (λ (y : Told). told_states library again x y old ss) (extension_state earlier has)
               ∙ ap (λ (o : Option (List TxName)). states_with o (Some r.ticket) (told d) ss) names in
               subst (λ (xs : States). HasToldStates library.all xs new) (sym same)
-              (keeps (given (λ n. state_at n more)) (extension_given (λ n. state_at n more) grown (told_first r.ticket d ss)) grown);
+              (keeps (given (λ n. state_at n more)) (extension_given (λ n. state_at n more) grown (at_number_again r.ticket d ss)) grown);
           states = λ left states. keeps (own tt) (extension_own states (subst (IsOwnState (book_under library old) x) (extension_state earlier has) left)) states;
         }
 

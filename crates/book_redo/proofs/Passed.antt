@@ -106,13 +106,6 @@ told_more n d ss none m e is = by_test (n == m) refl
         let no : None ≡ Some e = sym none ∙ (ap (λ (k : ℕ). state_at k ss) here ∙ is) in absurd (let never : ⊥ = cc in never)
     by_test false other = is
 
-pub told_first : (n : ℕ) (d : Suspended) (ss : States) → state_at n ((n, d) ∷ ss) ≡ Some d
-told_first n d ss = by_test (n == n) refl
-  where
-    by_test : (t : Bool) → (n == n) ≡ t → (if t then Some d else state_at n ss) ≡ Some d
-    by_test true e = refl
-    by_test false e = absurd (grind (arith, nat_tests, e))
-
 pub states_unread : (o : Option (List TxName)) (number : Option ℕ) (ss : States) → states_with o number unread ss ≡ ss
 states_unread None number ss = refl
 states_unread (Some names) None ss = refl

@@ -1,5 +1,5 @@
 -- No more pages go than have to.
-use Rattle.std.proofs.Common.{◌≡◌, ◌≤◌, ◌==◌, ◌+◌, ◌-◌, ℕ, zero, suc, List, [], ◌∷◌, length, Option, Some, None, Bool, true, false, refl, sym, ◌∙◌, ap, subst, max, if◌then◌else◌, arith}
+use Rattle.std.proofs.Common.{◌≡◌, ◌≤◌, ◌+◌, ◌-◌, ℕ, zero, suc, List, [], ◌∷◌, length, Option, Some, None, sym, ◌∙◌, subst, arith}
 use Rattle.std.specs.Prelude.{⊤}
 use Rattle.std.proofs.lemmas.Option.{same_Some}
 use Rattle.script_value.specs.declared.outcome.TxName.{TxName}
@@ -16,20 +16,13 @@ use Rattle.replay_spec.specs.Step.{Fate, plain, no_memory, disk_fault, lost, kep
 use Rattle.replay_spec.specs.Runs.{recorded_by, recorded_under}
 use Rattle.replay_spec.proofs.Admitted.{Says, says}
 use Rattle.replay_spec.proofs.Orderly.{stands_there}
+use Rattle.replay_spec.proofs.Room.{used_many}
 use Rattle.history_spec.specs.Room.{NoneGoesTooSoon}
 
 few_least : (k : ℕ) (us : List Use) → length (least_used k us) ≤ k
 few_least zero us = omega arith
 few_least (suc k) [] = omega arith
 few_least (suc k) (u ∷ us) = let rest = few_least k (but (least u us).page (u ∷ us)) in omega (arith, rest)
-
-used_many : (page number : ℕ) (us : List Use) → length (used_by page number us) ≡ length us
-used_many page n [] = refl
-used_many page n (u ∷ us) = by_page (u.page == page) (used_many page n us)
-  where
-    by_page : (b : Bool) → length (used_by page n us) ≡ length us → length (if b then record u { last = max u.last n } ∷ us else u ∷ used_by page n us) ≡ length (u ∷ us)
-    by_page true many = refl
-    by_page false many = ap suc many
 
 few_go : (limit page number : ℕ) (us : List Use) → length (goes_for limit page number us) ≤ (length us + 1) - limit
 few_go limit page n us =

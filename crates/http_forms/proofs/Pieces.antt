@@ -18,7 +18,7 @@ use Rattle.http_forms.proofs.Decisions.{outcomes_are_one, requests_stand_alone, 
 use Rattle.http_forms.proofs.Fronts.{requests_are_fronts}
 use Rattle.http_forms.proofs.Bounds.{unfinished_bound}
 
-consumes_none : (known : Option (List ℕ)) → Consumes known known []
+pub consumes_none : (known : Option (List ℕ)) → Consumes known known []
 consumes_none None = tt
 consumes_none (Some xs) = refl
 

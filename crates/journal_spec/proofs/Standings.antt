@@ -9,7 +9,7 @@ use Rattle.page_journal.specs.Holding.{IsClosed, MayHoldNowAndThroughout, Closed
 use Rattle.page_journal.specs.Settled.{IsSettled, view_of, bodies_in}
 use Rattle.page_journal.specs.declared.journal.Journal.{Journal}
 use Rattle.page_journal.proofs.Holds.{settled_images}
-use Rattle.page_journal.proofs.Mending.{leaves_then}
+use Rattle.page_journal.proofs.Mending.{leaves_then, leaves_map}
 use Rattle.replay_spec.specs.Book.{Doubt, Book, reopened}
 use Rattle.replay_spec.specs.Step.{kept, recovered}
 use Rattle.journal_spec.specs.Before.{Earlier, Made, made_of}
@@ -31,13 +31,6 @@ CountsNow v = (t : ℕ) (image : List ℕ) → t ≤ v.moment → v.images image
 -- what a crash leaves at any moment of a call it leaves now
 pub left_now : (v0 v1 : View) (P : List ℕ → Type 0) → CountsNow v1 → LeavesOnly v0 v1 P → (image : List ℕ) → v1.images image → P image
 left_now v0 v1 P counts run image left = run.each image (counts v0.moment image run.later left)
-
-pub any_less : (v0 v1 : View) (P Q : List ℕ → Type 0) → ((image : List ℕ) → P image → Q image) → LeavesOnly v0 v1 P → LeavesOnly v0 v1 Q
-any_less v0 v1 P Q more run = record {
-  later = run.later;
-  each = λ image left. more image (run.each image left);
-  before = λ t image early left. ⊎_elim (λ old. inl old) (λ now. inr (more image now)) (run.before t image early left);
-}
 
 -- what stands closed is held, whatever may be in flight
 pub closed_holds : (f : ℕ) (bodies : List (List ℕ)) (t : Flight) (image : List ℕ) → IsClosed f bodies image → Hold f bodies t image
@@ -140,7 +133,7 @@ one_of texts shelf scripts v m reads opened = λ before after k held.
 pub recovery_opens : (texts : Texts) (shelf : ℕ) (scripts : List Named) (v0 v1 : View) → CountsNow v1 → StaysThroughout texts shelf v0 v1 → OpensThroughout texts shelf scripts v0 v1
 recovery_opens texts shelf scripts v0 v1 counts stays before after k held =
     let run = stays before after k held in
-    record { moments = any_less v0 v1 (Held k) (HeldOpened k scripts) (λ image h. inl h) run; stands = inl (left_now v0 v1 (Held k) counts run) }
+    record { moments = leaves_map v0 v1 (Held k) (HeldOpened k scripts) (λ image h. inl h) run; stands = inl (left_now v0 v1 (Held k) counts run) }
 
 -- a call that stood between the book that was found and the one with the setup, on a disk that stood between two books of which it is one
 opens_from : (texts : Texts) (shelf : ℕ) (scripts : List Named) (b c : Book) (v0 v1 : View) → b ≡ reopened c → Throughout texts shelf b (opened_book shelf scripts b) v0 v1
@@ -149,23 +142,23 @@ opens_from texts shelf scripts b c v0 v1 is (k, run) =
     let here : reopened b ≡ reopened c = ap reopened is in
     let there : reopened (opened_book shelf scripts b) ≡ reopened (opened_book shelf scripts c) = ap (λ (y : Book). reopened (opened_book shelf scripts y)) is in
     let l = (stand_alike texts shelf).1 b (opened_book shelf scripts b) c (opened_book shelf scripts c) here there k in
-    (l.0, any_less v0 v1 (Held k) (Held l.0) (carried k.format k.bodies k.flight l.0 l.1) run)
+    (l.0, leaves_map v0 v1 (Held k) (Held l.0) (carried k.format k.bodies k.flight l.0 l.1) run)
 
 pub opening_stays : (texts : Texts) (shelf : ℕ) (scripts : List Named) (v0 v1 v2 : View) (b : Book) → CountsNow v2 → StaysThroughout texts shelf v0 v1 → IsFoundOne texts shelf v0 b
     → Throughout texts shelf b (opened_book shelf scripts b) v1 v2 → OpensThroughout texts shelf scripts v0 v2
 opening_stays texts shelf scripts v0 v1 v2 b counts stays found throughout before after k held =
-    let first = any_less v0 v1 (Held k) (HeldOpened k scripts) (λ image h. inl h) (stays before after k held) in
+    let first = leaves_map v0 v1 (Held k) (HeldOpened k scripts) (λ image h. inl h) (stays before after k held) in
     ⊎_elim
     (λ is.
     let l = opens_from texts shelf scripts b before v1 v2 is throughout in
     record {
-      moments = leaves_then v0 v1 v2 (HeldOpened k scripts) first (any_less v1 v2 (Held l.0) (HeldOpened k scripts) (λ image h. inr (inl (l.0, h))) l.1);
+      moments = leaves_then v0 v1 v2 (HeldOpened k scripts) first (leaves_map v1 v2 (Held l.0) (HeldOpened k scripts) (λ image h. inr (inl (l.0, h))) l.1);
       stands = inr (inl (l.0, left_now v1 v2 (Held l.0) counts l.1));
     })
     (λ is.
     let l = opens_from texts shelf scripts b after v1 v2 is throughout in
     record {
-      moments = leaves_then v0 v1 v2 (HeldOpened k scripts) first (any_less v1 v2 (Held l.0) (HeldOpened k scripts) (λ image h. inr (inr (l.0, h))) l.1);
+      moments = leaves_then v0 v1 v2 (HeldOpened k scripts) first (leaves_map v1 v2 (Held l.0) (HeldOpened k scripts) (λ image h. inr (inr (l.0, h))) l.1);
       stands = inr (inr (l.0, left_now v1 v2 (Held l.0) counts l.1));
     })
     (found before after k held)
@@ -174,7 +167,7 @@ opening_stays texts shelf scripts v0 v1 v2 b counts stays found throughout befor
 pub written : (f : ℕ) (bodies : List (List ℕ)) (texts : Texts) (shelf : ℕ) (before after : Book) (v0 v1 v2 : View) (t : Flight) → OnlyNow v0 → ((image : List ℕ) → v0.images image → IsClosed f bodies image)
     → (k : Between texts shelf before after) → Carries f bodies t k → NoNewImage v0 v1 → Elapses v0 v1 → LeavesOnly v1 v2 (Hold f bodies t) → Throughout texts shelf before after v0 v2
 written f bodies texts shelf before after v0 v1 v2 t only_now closed k carries no_new time run =
-    let here : LeavesOnly v1 v2 (Held k) = any_less v1 v2 (Hold f bodies t) (Held k) (carried f bodies t k carries) run in
+    let here : LeavesOnly v1 v2 (Held k) = leaves_map v1 v2 (Hold f bodies t) (Held k) (carried f bodies t k carries) run in
     (k, closed_then f bodies v0 v1 v2 only_now closed no_new time k carries.format carries.bodies_are here)
 
 -- what a call left

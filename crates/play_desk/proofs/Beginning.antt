@@ -22,13 +22,14 @@ use Rattle.trio_rack.proofs.Bare.{bare_among, of_another, some_among}
 use Rattle.trio_rack.proofs.Homes.{below_or_not}
 use Rattle.play_steps.specs.declared.stage.Reopen.{Reopen}
 use Rattle.play_steps.specs.declared.stage.Reopen.TheVariants as reopen
+use Rattle.trio_rack.proofs.Each.{some_at}
 use Rattle.play_desk.specs.Desk.{Desk, first_desk, first_shelves}
 use Rattle.play_steps.specs.Rules.{StaysUp}
 use Rattle.shelf.specs.Ranges.{numbered}
 use Rattle.play_desk.specs.Opening.{AreOpened, AllKept, AllStayKept, AreHome, CountStays, FailedFor, GivesOne, HoldImages, IsClosedBy, IsKept, IsRefusedBy, LeaveOthers, OpensNext, rules_at}
 use Rattle.play_desk.specs.Staff.{AreFit, HaveOwnNumbers, IsHome, desk_with, faults_in, numbers_in, shelf_at, total}
 use Rattle.play_desk.proofs.Asking.{asked_more, asked_none}
-use Rattle.play_desk.proofs.Places.{in_push, none_there, same_Some, some_at}
+use Rattle.play_desk.proofs.Places.{in_push, none_there, same_Some}
 use Rattle.play_desk.proofs.Closing.{at_last, in_front}
 use Rattle.play_desk.proofs.Fitting.{number_at, own_numbers}
 use Rattle.play_desk.proofs.Keeping.{all_kept_in}

@@ -55,12 +55,6 @@ at_index [] k x d h e = absurd (omega arith)
 at_index (y ∷ xs) zero x d h e = ap Some (sym e)
 at_index (y ∷ xs) (suc k) x d h e = at_index xs k x d (omega arith) e
 
--- something stands at each index that is there
-pub some_at : {A : Type 0} (xs : List A) (k : ℕ) → k < length xs → (x : A) × (slice_get xs k ≡ Some x)
-some_at [] k h = absurd (omega arith)
-some_at (y ∷ xs) zero h = (y, refl)
-some_at (y ∷ xs) (suc k) h = some_at xs k (omega arith)
-
 -- one more of what a list begins with
 pub take_more : {A : Type 0} (xs : List A) (k : ℕ) (x : A) → slice_get xs k ≡ Some x → take (k + 1) xs ≡ take k xs ++ x ∷ []
 take_more [] k x e = absurd (let no : None ≡ Some x = e in cc)

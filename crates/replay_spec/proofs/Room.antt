@@ -84,7 +84,7 @@ put_most w (u ∷ us) = grind (arith, nat_tests, put_most w us)
 abbrev AreRoomy : (most : ℕ) → List Instance → Type 0
 AreRoomy most is = (k : ℕ) (i : Instance) → instance_at k is ≡ Some i → length i.used ≤ most
 
-used_many : (p n : ℕ) (us : List Use) → length (used_by p n us) ≡ length us
+pub used_many : (p n : ℕ) (us : List Use) → length (used_by p n us) ≡ length us
 used_many p n us = sym (map_length (λ (u : Use). u.page) (used_by p n us)) ∙ (ap (λ (ns : List ℕ). length ns) (used_pages p n us) ∙ map_length (λ (u : Use). u.page) us)
 
 mended : (most n : ℕ) (f : Instance → Instance) (is : List Instance) → KeepsNumber f → AreRoomy most is

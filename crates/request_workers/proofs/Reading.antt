@@ -10,6 +10,7 @@ use Rattle.http_forms.specs.Progress.{IsDecided, Follows, Knows}
 use Rattle.http_forms.specs.declared.progress.RequestScanner.{RequestScanner}
 use Rattle.http_forms.proofs.Decisions.{outcomes_are_one}
 use Rattle.http_forms.proofs.Bounds.{unfinished_bound}
+use Rattle.http_forms.proofs.Pieces.{consumes_none}
 use Rattle.request_workers.specs.Bytes.{NeedsAll, Takes, IsEnough, ReadsPiece, ReadsAll}
 use Rattle.http_forms.specs.declared.reader.ReadStop.{ReadStop}
 use Rattle.http_forms.specs.declared.reader.ReadStop.TheVariants.{Failed, Memory}
@@ -49,10 +50,6 @@ pub record Came (old new : Option (List ℕ)) (bytes : List ℕ) (scanner : Requ
   pub decided : wanted ≡ 0 → IsDecided bytes
   pub short : (more : List ℕ) → length more < wanted → Decides (bytes ++ more) false unfinished
   pub later : before ≤ now
-
-consumes_none : (known : Option (List ℕ)) → Consumes known known []
-consumes_none None = tt
-consumes_none (Some xs) = refl
 
 -- nothing was read yet
 begins : (known : Option (List ℕ)) (bytes : List ℕ) → bytes ≡ [] → Takes known known bytes

@@ -19,6 +19,7 @@ use Rattle.http_forms.specs.declared.refused.Refused.{Refused as Reason}
 use Rattle.http_forms.specs.declared.request.Request.{Request}
 use Rattle.http_forms.specs.declared.reply.Answer.TheVariants as answers
 use Rattle.http_forms.proofs.Streaming.{streams_last, streams_more}
+use Rattle.http_forms.proofs.Pieces.{consumes_none}
 use Rattle.request_workers.specs.Linking.{Visited, no_visit, both, visited, Exchange, SweepsAll, SweepsNone, SweptBy, Turned, Wrote, WroteReply, WroteRefusal, Answered, Refuses, Linked, TurnsLink, TellsBy, StopsBy, LastSweep, stop_text}
 use Rattle.request_workers.specs.declared.link.LinkEnd.{LinkEnd}
 use Rattle.request_workers.specs.declared.link.LinkEnd.TheVariants as ends
@@ -223,10 +224,6 @@ read_lacks rules shown left p m kept kept' read old new i i' count swept at to c
     (link_stops rules shown left p m kept read old new cut false ends.Memory
     (subst (λ (s : SourceView). Consumes s.left new.input.left read) at (subst (λ (s : SourceView). Consumes i.left s.left read) input consumed))
     (λ e. cc) tt (inl swept) (inr (ap (λ (l : LinkView). l.output) to, refl)) refl)
-
-consumes_none : (known : Option (List ℕ)) → Consumes known known []
-consumes_none None = tt
-consumes_none (Some xs) = refl
 
 -- there was no memory for the answers to the tick
 pub tick_lacks : {P : Type 0} (rules : PassRules P) (shown : Option ℕ) (left : ℕ) (p m : P) (kept kept' : List ℕ) (old : LinkView)

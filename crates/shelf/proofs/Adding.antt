@@ -8,12 +8,12 @@ use Rattle.page_journal.specs.declared.journal.Journal.{Journal}
 use Rattle.page_journal.proofs.Mending.{leaves_then}
 use Rattle.book_recovery.proofs.JournalSpec.Standings.{any_less}
 use Rattle.replay_spec.specs.Admission.{◌>>=◌}
+use Rattle.page_journal.proofs.Scans.{quiet_none}
 use Rattle.shelf.specs.declared.follower.Follower.{Follower}
 use Rattle.shelf.specs.declared.shelf.Shelf.{Shelf}
 use Rattle.shelf.specs.Following.{CanBeFed}
 use Rattle.shelf.specs.Views.{doubt_of, IsFed, IsInOrder}
 use Rattle.shelf.proofs.Newest.{newest_images}
-use Rattle.shelf.proofs.Openings.{quiet_none}
 use Rattle.shelf.proofs.Standing.{OnlyNow}
 
 -- calls that write nothing leave what a crash might have left at first

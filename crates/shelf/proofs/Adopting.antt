@@ -8,11 +8,10 @@ use Rattle.script_nodes.specs.Views.{library_of}
 use Rattle.script_nodes.specs.declared.library.Library as kept
 use Rattle.web_disk.specs.View.{View}
 use Rattle.value_bytes.specs.Laws.{AreBytes}
-use Rattle.page_journal.specs.Records.{newest, at_rest, frames, framed}
+use Rattle.page_journal.specs.Records.{newest, at_rest, frames}
 use Rattle.page_journal.specs.Settled as journal
 use Rattle.page_journal.specs.Settled.{IsSettled, bodies_in, length_of, length_with, is_broken}
 use Rattle.page_journal.specs.declared.journal.Journal.{Journal}
-use Rattle.page_journal.proofs.Frames.{length-framed}
 use Rattle.replay_spec.specs.Book.{File}
 use Rattle.journal_records.specs.Records.{follows, body_of}
 use Rattle.journal_records.specs.Roles.{is_role}
@@ -33,7 +32,7 @@ use Rattle.book_recovery.specs.declared.found.Found.TheVariants as found
 use Rattle.book_recovery.specs.Found.{FindsBook, IsBookInOrder, beside_file}
 use Rattle.book_recovery.specs.Noting.{mark_in, marks_of, IsFileOf, NotesFile}
 use Rattle.book_recovery.specs.Reading.{IsUnderWay, IsMadeAs, making_of}
-use Rattle.book_recovery.proofs.Took.{finds, in_order}
+use Rattle.book_recovery.proofs.Took.{finds, in_order, frames_behind}
 use Rattle.file_copies.specs.OfFileNotes.declared.notes.FileNotes.{FileNotes}
 use Rattle.file_copies.specs.OfFileNotes.Files.{file_in, marks_in, IsNoted}
 use Rattle.shelf.specs.declared.follower.Follower.{Follower}
@@ -54,11 +53,6 @@ use Rattle.shelf.proofs.Reading.{known_file, none_waits_fed}
 use Rattle.shelf.proofs.Renewing.{opened_book_of}
 
 -- ---- how long a file is with a body more
-
-frames_behind : (front : List (List ℕ)) (body : List ℕ) → length (frames (front ++ body ∷ [])) ≡ length (frames front) + (length body + 5)
-frames_behind [] body = omega (arith, length-append (framed body) [], length-framed body)
-frames_behind (first ∷ front) body =
-    omega (arith, frames_behind front body, length-append (framed first) (frames (front ++ body ∷ [])), length-append (framed first) (frames front))
 
 rest_long : (bodies : List (List ℕ)) → length (at_rest bodies) ≡ 8 + length (frames bodies) + 1
 rest_long bodies = omega (arith, length-append (frames bodies) (0 ∷ []))

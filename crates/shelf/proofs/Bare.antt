@@ -24,7 +24,7 @@ use Rattle.book_recovery.specs.Found.{FindsNone}
 use Rattle.book_recovery.specs.Noting.{marks_of}
 use Rattle.shelf.specs.Opening.{opening_bodies}
 use Rattle.shelf.proofs.Openings.{none_read}
-use Rattle.shelf.proofs.Owned.{none_own, first_own}
+use Rattle.shelf.proofs.Owned.{none_own, first_own, no_body}
 use Rattle.shelf.proofs.Newest.{now_own}
 
 pub record Bare (shelf : ℕ) (bodies : List (List ℕ)) : Type 0 where
@@ -226,10 +226,6 @@ module _ (x : AreRecordsExact) (shelf : ℕ) where
   own_role : (m : Made) (body : List ℕ) (r : Record) → read_record body ≡ Some r → IsOwnRecord m (Some r) → IsOwnRecord m (read_record body)
   own_role m body r read own = subst (IsOwnRecord m) (sym read) own
 
-  no_rest : (front rest : List (List ℕ)) (body : List ℕ) → [] ≡ front ++ body ∷ rest → ⊥
-  no_rest [] rest body is = cc is
-  no_rest (y ∷ front) rest body is = cc is
-
   own_front : (last : List (List ℕ)) → (last ≡ []) ⊎ ((z : List ℕ) × (last ≡ z ∷ [])) → AreOwn texts shelf (f ∷ (p ∷ last))
   own_front last shape [] rest body m is makes = absurd (none-some m makes)
   own_front last shape (a ∷ []) rest body m is makes =
@@ -249,7 +245,7 @@ module _ (x : AreRecordsExact) (shelf : ℕ) where
       by_front (c ∷ front) is makes (inr (z, one)) =
           let rest_is : last ≡ c ∷ (front ++ body ∷ rest) = cc is in
           let both : z ∷ [] ≡ c ∷ (front ++ body ∷ rest) = sym one ∙ rest_is in
-          absurd (no_rest front rest body (let none : [] ≡ front ++ body ∷ rest = cc both in none))
+          absurd (no_body front rest body (let none : [] ≡ front ++ body ∷ rest = cc both in none))
 
   -- none of the two has a mark
   front_marks : (body : List ℕ) → marks_of newest texts shelf 8 (f ∷ (p ∷ (body ∷ []))) nothing ≡ []

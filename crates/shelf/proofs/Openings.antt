@@ -2,10 +2,7 @@
 use Rattle.std.proofs.Common.{◌≡◌, ◌≢◌, ◌⊎◌, inl, inr, ⊎_elim, ℕ, ◌+◌, ◌==◌, Bool, true, false, List, [], ◌∷◌, length, Option, Some, None, if◌then◌else◌, refl, sym, ◌∙◌, ap, subst, arith}
 use Rattle.std.proofs.lemmas.Option.{same_Some}
 use Rattle.book_recovery.specs.SetupReader.Texts.{setup_of_texts as texts, IsReadSetup}
-use Rattle.script_nodes.specs.Arena.{IsScript, script_of}
 use Rattle.script_nodes.specs.Setup.{Named, Library}
-use Rattle.script_nodes.specs.Views.{named_of}
-use Rattle.script_nodes.specs.declared.setup.NamedScript.{NamedScript}
 use Rattle.web_disk.specs.View.{View, LeavesOnly}
 use Rattle.page_journal.specs.Records.{newest, records, format_of, Intact, stored}
 use Rattle.page_journal.specs.Scanned.{IsQuiet}
@@ -23,7 +20,7 @@ use Rattle.book_recovery.specs.JournalSpec.Old.{book_of_format}
 use Rattle.book_recovery.specs.JournalSpec.Opening.{opened_on}
 use Rattle.book_recovery.specs.JournalSpec.Standing.{IsMadeBook, Makes, IsOneOf}
 use Rattle.book_recovery.specs.JournalSpec.Keeping.{Keeps}
-use Rattle.book_recovery.specs.JournalSpec.Whole.{IsWhole, HasWholeScripts}
+use Rattle.book_recovery.specs.JournalSpec.Whole.{HasWholeScripts}
 use Rattle.book_recovery.specs.JournalSpec.Disks.{IsFit}
 use Rattle.book_recovery.proofs.JournalSpec.Fitting.{made_fits}
 use Rattle.book_recovery.proofs.JournalSpec.Between.{read_as}
@@ -32,7 +29,6 @@ use Rattle.shelf.proofs.Newest.{makes_so}
 use Rattle.book_recovery.specs.InstanceBook.declared.book.Book.{Book as RustBook}
 use Rattle.book_recovery.specs.InstanceBook.Views as views
 use Rattle.book_recovery.specs.InstanceBook.Views.{Beside}
-use Rattle.book_recovery.proofs.InstanceBook.Behind.{arena_again}
 use Rattle.book_recovery.specs.Found.{FindsBook, beside_file}
 use Rattle.shelf.specs.Files.{file_in, read_file}
 use Rattle.shelf.specs.Migrating.{making_now}
@@ -136,12 +132,6 @@ none_read shelf (body ∷ bodies) is =
 pub not_nothing : (m : Making) (x : Made) → made_in m ≡ Some x → m ≢ nothing
 not_nothing m x is none = let no : ⊥ = cc (none, is) in no
 
--- each script that is kept can be run
-pub whole_named : (s : NamedScript) → IsScript s.script → IsWhole (named_of s)
-whole_named s script =
-    let same = sym (arena_again s.script script) in
-    record { script = subst IsScript same script; means = ap script_of same }
-
 -- ---- the bytes of a disk, and the bodies of the journal that is opened on it
 
 -- where there are none, any format makes nothing of them
@@ -216,22 +206,6 @@ pub one_of_there : (scripts : List Named) (shelf : ℕ) (v : View) (m : Making) 
     → b ≡ reopened b → IsMadeBook (opened_on shelf scripts m) b → IsOneOf texts shelf scripts v b
 one_of_there scripts shelf v m b find again (seen, is) = subst (IsOneOf texts shelf scripts v) (sym again) (find (made_of b seen) is)
 
--- two calls that write nothing
-pub quiet_then : (v0 v1 v2 : View) → IsQuiet v0 v1 → IsQuiet v1 v2 → IsQuiet v0 v2
-quiet_then v0 v1 v2 p q = record {
-  seen = q.seen ∙ p.seen;
-  images = λ image left. p.images image (q.images image left);
-  moments = record {
-    later = omega (arith, p.moments.later, q.moments.later);
-    each = λ image left. ⊎_elim (λ was. p.moments.each image was) (λ here. p.images image here) (q.moments.before v0.moment image p.moments.later left);
-    before = λ t image le left. ⊎_elim (λ was. p.moments.before t image le was) (λ here. inr (p.images image here)) (q.moments.before t image (omega (arith, le, p.moments.later)) left);
-  };
-  faults = omega (arith, p.faults, q.faults);
-  ready = omega (arith, p.ready, q.ready);
-  end = omega (arith, p.end, q.end);
-  left = omega (arith, p.left, q.left);
-}
-
 -- a call that writes nothing, after which one leaves what has a property that nothing else had before
 pub quiet_leaves : (v0 v1 v2 : View) (P : List ℕ → Type 0) → IsQuiet v0 v1 → ((image : List ℕ) → v0.images image → P image) → LeavesOnly v1 v2 P → LeavesOnly v0 v2 P
 quiet_leaves v0 v1 v2 P quiet holds run = record {
@@ -239,16 +213,4 @@ quiet_leaves v0 v1 v2 P quiet holds run = record {
   each = λ image left. ⊎_elim (λ was. holds image (quiet.moments.each image was)) (λ here. here) (run.before v0.moment image quiet.moments.later left);
   before = λ t image le left. ⊎_elim (λ was. ⊎_elim (λ at. inl at) (λ here. inr (holds image here)) (quiet.moments.before t image le was)) (λ here. inr here)
       (run.before t image (omega (arith, le, quiet.moments.later)) left);
-}
-
--- no call was made
-pub quiet_none : (v : View) → ((image : List ℕ) → v.since v.moment image → v.images image) → IsQuiet v v
-quiet_none v only_now = record {
-  seen = refl;
-  images = λ image left. left;
-  moments = record { later = omega arith; each = λ image left. only_now image left; before = λ t image le left. inl left };
-  faults = omega arith;
-  ready = omega arith;
-  end = omega arith;
-  left = omega arith;
 }

@@ -13,11 +13,12 @@ use Rattle.book_recovery.specs.JournalSpec.Making.{made_in, book_of}
 use Rattle.book_recovery.specs.JournalSpec.Owning.{AreOwn, AreOwnIn}
 use Rattle.book_recovery.specs.JournalSpec.Standing.{Flight, still, adds, puts, with_flight, format_with, HasRoom, Hold}
 use Rattle.book_recovery.proofs.JournalSpec.Between.{closed_format}
+use Rattle.page_journal.proofs.Mending.{leaves_map}
 use Rattle.shelf.specs.Owning.{IsOwnImage, OwnRecords, HoldOwn, HoldsOwnRecords, HasOwnImages, StaysOwnThroughout}
 use Rattle.shelf.proofs.Newest.{own_now}
 
 -- and so is each first record, which tells no state
-no_body : (front rest : List (List ℕ)) (body : List ℕ) → [] ≡ front ++ body ∷ rest → ⊥
+pub no_body : (front rest : List (List ℕ)) (body : List ℕ) → [] ≡ front ++ body ∷ rest → ⊥
 no_body [] rest body is = cc is
 no_body (first ∷ front) rest body is = cc is
 
@@ -96,16 +97,8 @@ settled_own view shelf j s own = (
   settled_images view j s,
 )
 
--- a run leaves what has less
-pub leaves_as : (old new : View) (P Q : List ℕ → Type 0) → ((image : List ℕ) → P image → Q image) → LeavesOnly old new P → LeavesOnly old new Q
-leaves_as old new P Q so run = record {
-  later = run.later;
-  each = λ image left. so image (run.each image left);
-  before = λ t image le left. ⊎_elim (λ was. inl was) (λ here. inr (so image here)) (run.before t image le left);
-}
-
 pub stays_own : (shelf : ℕ) (old new : View) (o : OwnRecords shelf) → LeavesOnly old new (HoldOwn o) → StaysOwnThroughout shelf old new
-stays_own shelf old new o run = leaves_as old new (HoldOwn o) (HoldsOwnRecords shelf) (λ image held. (o, held)) run
+stays_own shelf old new o run = leaves_map old new (HoldOwn o) (HoldsOwnRecords shelf) (λ image held. (o, held)) run
 
 -- a recovery of own records leaves them at each moment
 pub recovery_own : (shelf : ℕ) (old new : View) → MayHoldNowAndThroughout old new → ClosedNowAndThroughout old new → EitherNowAndThroughout old new → HasOwnImages shelf old → StaysOwnThroughout shelf old new
@@ -118,7 +111,7 @@ recovery_own shelf old new may closed either (o, held) = stays_own shelf old new
 
 -- so does what leaves no other image than was there at first
 pub quiet_own : (shelf : ℕ) (old new : View) → LeavesOnly old new old.images → HasOwnImages shelf old → StaysOwnThroughout shelf old new
-quiet_own shelf old new run (o, held) = stays_own shelf old new o (leaves_as old new old.images (HoldOwn o) held run)
+quiet_own shelf old new run (o, held) = stays_own shelf old new o (leaves_map old new old.images (HoldOwn o) held run)
 
 -- and a call that leaves no new image
 pub quiet_run_own : (shelf : ℕ) (old new : View) → ((image : List ℕ) → old.since old.moment image → old.images image) → NoNewImage old new → Elapses old new → HasOwnImages shelf old

@@ -17,6 +17,7 @@ use Rattle.book_recovery.specs.JournalSpec.Making.{Making, nothing, waits, waite
 use Rattle.file_copies.specs.OfFileNotes.declared.notes.FileNotes.{FileNotes}
 use Rattle.file_copies.specs.OfFileNotes.Files as noted
 use Rattle.book_recovery.specs.Noting.{marks_of, IsFileOf, WhereMade, NotesFile}
+use Rattle.page_journal.proofs.Scans.{quiet_then}
 use Rattle.shelf.specs.Files.{file_in, KnowsRead}
 use Rattle.book_recovery.specs.JournalSpec.Opening.{opened_on}
 use Rattle.book_recovery.specs.JournalSpec.Owning.{AreOwn}
@@ -34,7 +35,7 @@ use Rattle.shelf.specs.Faults.{IsReadFault, IsReadFaultOf}
 use Rattle.shelf.specs.Owning.{HoldsOwnRecords, StaysOwnThroughout}
 use Rattle.shelf.specs.declared.begin.BeginFault.{BeginFault}
 use Rattle.shelf.specs.declared.begin.BeginFault.TheVariants as fault
-use Rattle.shelf.proofs.Openings.{quiet_then, quiet_leaves}
+use Rattle.shelf.proofs.Openings.{quiet_leaves}
 use Rattle.shelf.proofs.OwnOpenings.{read_moments}
 use Rattle.shelf.proofs.Newest.{newest_images}
 

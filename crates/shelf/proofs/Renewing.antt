@@ -48,6 +48,7 @@ use Rattle.book_recovery.specs.JournalSpec.Old.{book_of_format, format_of_now}
 use Rattle.book_recovery.specs.JournalSpec.Reading.{AreAllBytes}
 use Rattle.file_copies.specs.OfFileNotes.declared.notes.FileNotes.{FileNotes}
 use Rattle.book_recovery.specs.Noting.{mark_by, marks_of}
+use Rattle.page_journal.proofs.Scans.{quiet_none}
 use Rattle.shelf.proofs.Setups.{few_scripts}
 use Rattle.shelf.proofs.Known.{bodies_more, mark_made, bytes_more}
 use Rattle.shelf.specs.Files.{file_in, read_file, KnowsRead, NotesRenewed}
@@ -58,7 +59,7 @@ use Rattle.book_recovery.specs.Found.{HasToldStates}
 use Rattle.shelf.specs.Faults.{IsReadFaultOf}
 use Rattle.shelf.specs.declared.begin.BeginFault.{BeginFault}
 use Rattle.shelf.specs.declared.begin.BeginFault.TheVariants as fault
-use Rattle.shelf.proofs.Openings.{found_fit, read_beside, there, found_is, found_again, found_makes, found_told, quiet_none}
+use Rattle.shelf.proofs.Openings.{found_fit, read_beside, there, found_is, found_again, found_makes, found_told}
 use Rattle.shelf.proofs.Standing.{OnlyNow}
 use Rattle.shelf.proofs.Owned.{with_added, stays_own, settled_own, quiet_own}
 use Rattle.shelf.proofs.Newest.{own_in, makes_so}

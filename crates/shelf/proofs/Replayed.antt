@@ -42,10 +42,6 @@ use Rattle.book_recovery.proofs.VisitRuns.Visits.{runs_from}
 use Rattle.shelf.specs.Runs.{IsRunFrom, IsRunOver, IsRunAs}
 use Rattle.shelf.specs.Holding.{AreHeld, AreHeldBy, IsWhole, ShowsWholeFrom}
 
--- a script is its nodes in pre-order
-pub arena_is : (a : Arena) → IsScript a → a ≡ arena_of (script_of a)
-arena_is a i = arena_again a i
-
 -- what fits the script can be gone on from
 pub fits_from : (a : Arena) (o : Origin) → FitsScript a (origin_of o) → FitsFrom a o
 fits_from a origin.Start fits = tt
@@ -100,8 +96,8 @@ pub run_like : (scripts : List Named) (t : Ticket) (a : Arena) → IsScript a �
     → (v : Visit) → v.ticket ≡ ticket_of t → IsFor scripts t v → IsLike v over fuel r
 run_like scripts t a i named its found fuel over r is v e fits =
     let script : v.script.script ≡ script_of a = ap (λ (s : Named). s.script) (same_Some v.script named (sym fits.script ∙ found)) ∙ its in
-    let same : a ≡ arena_of v.script.script = arena_is a i ∙ ap arena_of (sym script) in
-    let mine : arena_of named.script ≡ a = ap arena_of its ∙ sym (arena_is a i) in
+    let same : a ≡ arena_of v.script.script = arena_again a i ∙ ap arena_of (sym script) in
+    let mine : arena_of named.script ≡ a = ap arena_of its ∙ sym (arena_again a i) in
     runs_from v a over fuel r script same t.from fits.from
     (subst (λ (x : Answer). Replays t.from a x r) (answer_is scripts t v over fuel e fits)
     (subst (λ (c : Arena). Replays t.from c (newest (meaning t.answer) t.number t.url over fuel) r) mine (is named found).replays))

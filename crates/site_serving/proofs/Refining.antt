@@ -1,8 +1,6 @@
 -- What a pass of a site knows, and what a worker has seen: the one stands for the other.
-use Rattle.std.proofs.Common.{◌≡◌, ◌⊎◌, inl, inr, ◌∙◌, ◌≤◌, ◌<◌, ◌==◌, ℕ, zero, suc, Bool, true, false, cond, List, [], ◌∷◌, ◌++◌, map, length, Option, Some, None, Result, Ok, Err, slice_get, set, length-append, refl, ap, sym, subst, arith, le-ltb}
+use Rattle.std.proofs.Common.{◌≡◌, ◌⊎◌, inl, inr, ◌∙◌, ◌≤◌, ◌<◌, ℕ, zero, suc, Bool, true, false, cond, List, [], ◌∷◌, ◌++◌, map, length, Option, Some, None, Result, Ok, Err, slice_get, set, length-append, refl, ap, sym, subst, arith, le-ltb}
 use Rattle.std.specs.Prelude.{⊤}
-use Rattle.std.proofs.lemmas.Bool.Decides.{nat_tests}
-use Rattle.std.proofs.lemmas.List.Elements.{filter-append}
 use Rattle.web_disk.specs.View.{View}
 use Rattle.web_outside.specs.View.{LinkView, PorchView}
 use Rattle.request_workers.specs.Counting.{Count}
@@ -33,15 +31,10 @@ use Rattle.site.specs.Openings.{IsOwnOpening, book_then, count_of, opened_of, so
 use Rattle.site.specs.Passes.{Compacted, Follows, GoesFrom, Known, Published, Spots, Swept, Ticked, Took, has_freed, seen_by}
 use Rattle.site.specs.Rules.{TicksAs, site_rules}
 use Rattle.site.specs.Sites.{PublishesAt, TakesOn, VisitsAt, place_for}
+use Rattle.history_spec.proofs.Passing.{own_append, own_one}
 use Rattle.site_serving.specs.Serving.{AreSeenBy, opened_as, openings_of}
 use Rattle.site_serving.proofs.Moving.{worked}
 use Rattle.site_serving.specs.Visits.{AreSwept, HappensAt, IsCompacted, IsFollowed, IsSwept, IsTicked, IsVisited, IsWorn, Makes, Seen, SweepsOn, VisitsOn, history_rules, nothing_seen, unseen}
-
-own_append : (c : ℕ) (es more : List Entry) → own_of c (es ++ more) ≡ own_of c es ++ own_of c more
-own_append c es more = filter-append (λ (e : Entry). e.caller == c) es more
-
-own_one : (e : Entry) (c : ℕ) → e.caller ≡ c → own_of c (e ∷ []) ≡ e ∷ []
-own_one e c is = let yes : (e.caller == c) ≡ true = grind (arith, nat_tests) in ap (λ (b : Bool). cond b (e ∷ []) []) yes
 
 is_none : {A : Type 0} (xs : List A) → length xs ≡ 0 → xs ≡ []
 is_none [] e = refl

@@ -50,10 +50,10 @@ shelves_as_disks old new same n = by_test (is_shelf n)
     by_test true image h = record { naming = h.naming; root = same (root_number n) h.naming h.root; file = same (file_number (names h.naming) n) image h.file }
     by_test false image h = same (number_behind n) image h
 
-there : {A : Type 0} (xs : List A) (k : ℕ) → k < length xs → (x : A) × (slice_get xs k ≡ Some x)
-there [] k low = absurd (omega (arith, low))
-there (x ∷ xs) zero low = (x, refl)
-there (x ∷ xs) (suc k) low = there xs k (omega (arith, low))
+pub some_at : {A : Type 0} (xs : List A) (k : ℕ) → k < length xs → (x : A) × (slice_get xs k ≡ Some x)
+some_at [] k low = absurd (omega (arith, low))
+some_at (x ∷ xs) zero low = (x, refl)
+some_at (x ∷ xs) (suc k) low = some_at xs k (omega (arith, low))
 
 module _ {D : Type 0} {G : Ghosts D} where
   -- the three of one more shelf were taken
@@ -129,7 +129,7 @@ module _ {D : Type 0} {G : Ghosts D} where
   back_as_they_were before mid after last disks few taken same given number image h =
       elim (one_or_none (length disks) number few) [
         | inl its ↦ (
-            let d = there disks its.0 its.1 in
+            let d = some_at disks its.0 its.1 in
             let from = taken.from its.0 d.0 d.1 in
             let to = given.to its.0 d.0 d.1 in
             by_number its.0 d.0 its.2 from to)

@@ -1,6 +1,6 @@
 use Rattle.std.proofs.Common.{rules, ◌≡◌, Err, sym, subst, IsTrue, refl}
 use Rattle.shelf.specs.PageJournal.Settled.{bodies_in}
-use Rattle.shelf.proofs.Openings.{quiet_none}
+use Rattle.shelf.proofs.PageJournal.Scans.{quiet_none}
 use Rattle.page_follower.specs.Causes.{HasExportCauses}
 use Rattle.page_follower.specs.Exporting.{Exports}
 use Rattle.page_follower.specs.declared.exporting.ExportFault.TheVariants as fault

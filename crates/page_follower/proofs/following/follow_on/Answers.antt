@@ -1,6 +1,6 @@
 use Rattle.std.proofs.Common.{rules, ◌∙◌, IsTrue, Some, ap, sym, subst, refl}
 use Rattle.shelf.specs.PageJournal.Settled.{view_of}
-use Rattle.shelf.proofs.Openings.{quiet_none}
+use Rattle.shelf.proofs.PageJournal.Scans.{quiet_none}
 use Rattle.page_follower.specs.Comparing.{progress}
 use Rattle.page_follower.specs.Held.{Begins, fed_behind, headless}
 use Rattle.page_follower.proofs.Adoptions.{quiet_rested}

@@ -9,6 +9,7 @@ use Rattle.play_steps.specs.declared.stage.Reopen.TheVariants.{Disk}
 use Rattle.disk_trio.specs.Trio.{trio_view}
 use Rattle.disk_trio.specs.declared.trio.Disks.{Disks}
 use Rattle.trio_rack.specs.Trios.{shelves_of}
+use Rattle.trio_rack.proofs.Each.{some_at}
 use Rattle.play_desk.specs.Opening.{HoldImages, LeaveOthers}
 use Rattle.play_desk.specs.Staff.{AreLow, HaveOwnNumbers, IsHome, faults_in, numbers_in, total}
 use Rattle.play_desk.proofs.Asking.{first_rests}
@@ -16,7 +17,6 @@ use Rattle.play_desk.proofs.Closing.{left_behind}
 use Rattle.play_desk.proofs.Fitting.{number_at}
 use Rattle.play_desk.proofs.Outage.{fit_none}
 use Rattle.play_desk.proofs.Owning.{own_alone}
-use Rattle.play_desk.proofs.Places.{some_at}
 use Rattle.play_desk.proofs.crashing.crash.Goals as goal
 
 pub put_all_back-requires-clause-numbers : goal.put_all_back-requires-clause-numbers

@@ -16,6 +16,7 @@ use Rattle.shelf.specs.Views.{book_in, fate_by}
 use Rattle.play_steps.specs.Rules.{Comes}
 use Rattle.web_disk.specs.View.{View}
 use Rattle.page_journal.specs.declared.journal.Journal.{Journal}
+use Rattle.trio_rack.proofs.Each.{some_at}
 use Rattle.play_desk.specs.Target.{answer_to, path_and_query, shelf_for}
 use Rattle.play_desk.specs.Desk.{desk_take, is_fault}
 use Rattle.play_desk.specs.Staff.{RoseBeside, desk_with, faults_in, shelf_at}
@@ -23,7 +24,7 @@ use Rattle.play_desk.proofs.Counting.{faults_later}
 use Rattle.play_desk.proofs.Fitting.{fit_same, fit_take, numbers_set}
 use Rattle.play_desk.proofs.Owning.{own_same, own_take}
 use Rattle.play_desk.proofs.Happening.{Happens, happens, take_no_fault, took}
-use Rattle.play_desk.proofs.Places.{at_index, same_set, some_at}
+use Rattle.play_desk.proofs.Places.{at_index, same_set}
 use Rattle.play_desk.proofs.Stepping.{count_is, holds_it, is_event, left_alone, refused_step, shelf_there, take_step, takes, was_admitted}
 use Rattle.play_desk.proofs.staff.take.Goals as goal
 

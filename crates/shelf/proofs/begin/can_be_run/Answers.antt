@@ -1,4 +1,4 @@
-use Rattle.shelf.proofs.Openings.{whole_named}
+use Rattle.book_recovery.proofs.Longer.{whole_named}
 use Rattle.shelf.proofs.begin.can_be_run.Goals as goal
 
 pub returns : goal.returns

@@ -7,8 +7,9 @@ use Rattle.machine_states.specs.Machine.{Suspended}
 use Rattle.machine_states.specs.Views.{origin_of}
 use Rattle.book_recovery.specs.InstanceBook.Places.{arena_of}
 use Rattle.book_recovery.specs.InstanceBook.Fits.{FitsScript}
+use Rattle.script_nodes.proofs.Scripts.{arena_again}
 use Rattle.shelf.specs.Runs.{IsRunFrom}
-use Rattle.shelf.proofs.Replayed.{arena_is, fits_from, run_alike, run_as, if_ok, for_all}
+use Rattle.shelf.proofs.Replayed.{fits_from, run_alike, run_as, if_ok, for_all}
 use Rattle.shelf.proofs.run.run_ticket.Goals as goal
 
 pub run_from-requires-clause-fits : goal.run_from-requires-clause-fits
@@ -16,7 +17,7 @@ run_from-requires-clause-fits c =
     let rust = c.in-Some.named.now in
     let runs = c.requires.fits in
     let mine : named_of rust ≡ runs.named = same_Some (named_of rust) runs.named (c.in-Some.ensures ∙ runs.script) in
-    let arena : rust.script ≡ arena_of runs.named.script = arena_is rust.script c.root-root.ensures.script ∙ ap (λ (n : Named). arena_of n.script) mine in
+    let arena : rust.script ≡ arena_of runs.named.script = arena_again rust.script c.root-root.ensures.script ∙ ap (λ (n : Named). arena_of n.script) mine in
     fits_from rust.script c.in_ok-from.from
     (subst (λ (a : Arena). FitsScript a (origin_of c.in_ok-from.from)) (sym arena)
     (subst (λ (o : Option Suspended). FitsScript (arena_of runs.named.script) o) (sym c.in_ok-from.ensures) runs.from))
@@ -27,7 +28,7 @@ runs : (c : goal.After-run_from) → let rust = c.in-Some.named.now in (named : 
 runs c named found =
     let rust = c.in-Some.named.now in
     let mine : named_of rust ≡ named = same_Some (named_of rust) named (c.in-Some.ensures ∙ found) in
-    let arena : rust.script ≡ arena_of named.script = arena_is rust.script c.root-root.ensures.script ∙ ap (λ (n : Named). arena_of n.script) mine in
+    let arena : rust.script ≡ arena_of named.script = arena_again rust.script c.root-root.ensures.script ∙ ap (λ (n : Named). arena_of n.script) mine in
     run_alike c.args.ticket.now c.in_ok-from.from rust.script (arena_of named.script) c.args.fuel c.args.cells.now c.run_from.result c.in_ok-from.ensures arena c.run_from.ensures.replays
     c.run_from.ensures.consistent c.run_from.ensures.kept
 

@@ -1,13 +1,13 @@
 use Rattle.std.proofs.Common.{◌≡◌, ◌∙◌, ap, sym, subst, refl, ℕ, ◌+◌, ◌++◌, ◌∷◌, [], List, Bool, true, false, length, Option, Some, Ok, arith}
 use Rattle.page_journal.specs.Records.{stored}
 use Rattle.page_journal.specs.Settled.{length_of, length_with, view_of}
+use Rattle.page_journal.proofs.Scans.{quiet_none}
 use Rattle.shelf.specs.declared.follower.Follower.{Follower}
 use Rattle.shelf.specs.Following.{IsFedMore, TellsPlace}
 use Rattle.shelf.specs.Views.{book_in, IsInOrder}
 use Rattle.shelf.proofs.Adding.{as_before, then_adds, can_be_fed, settled_fed}
 use Rattle.shelf.proofs.Adopting.{stands_nowhere, stands_there, fed_stands, adopted, adopted_order}
 use Rattle.shelf.proofs.Known.{told_still}
-use Rattle.shelf.proofs.Openings.{quiet_none}
 use Rattle.shelf.proofs.Quiet.{untouched}
 use Rattle.shelf.proofs.Still.{order_still}
 use Rattle.shelf.proofs.Unmoved.{same_book, kept_order}
