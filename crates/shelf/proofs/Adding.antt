@@ -5,8 +5,7 @@ use Rattle.page_journal.specs.Records.{newest, stored}
 use Rattle.page_journal.specs.Holding.{MayHold}
 use Rattle.page_journal.specs.Settled.{IsSettled, view_of, bodies_in}
 use Rattle.page_journal.specs.declared.journal.Journal.{Journal}
-use Rattle.page_journal.proofs.Mending.{leaves_then}
-use Rattle.book_recovery.proofs.JournalSpec.Standings.{any_less}
+use Rattle.page_journal.proofs.Mending.{leaves_then, leaves_map}
 use Rattle.replay_spec.specs.Admission.{◌>>=◌}
 use Rattle.page_journal.proofs.Scans.{quiet_none}
 use Rattle.shelf.specs.declared.follower.Follower.{Follower}
@@ -37,7 +36,7 @@ module _ {D : Type 0} (view : D → View) (j : Journal D) (body : List ℕ) (set
 
   -- no call was made
   pub none_adds : LeavesOnly (view_of view j) (view_of view j) Held
-  none_adds = any_less (view_of view j) (view_of view j) (view_of view j).images Held held_now (quiet_none (view_of view j) only_now).moments
+  none_adds = leaves_map (view_of view j) (view_of view j) (view_of view j).images Held held_now (quiet_none (view_of view j) only_now).moments
 
   module _ (mid : Journal D) (less : NoNewImage (view_of view j) (view_of view mid)) (time : Elapses (view_of view j) (view_of view mid)) where
     -- room was made

@@ -36,11 +36,12 @@ use Rattle.book_recovery.specs.JournalSpec.Disks.{IsFit}
 use Rattle.book_recovery.specs.JournalSpec.Laws.{MeasuresDoubt, CompactionsStandBetween, compacted_book}
 use Rattle.book_recovery.proofs.JournalSpec.Between.{stand_alike}
 use Rattle.book_recovery.proofs.JournalSpec.Fitting.{no_doubt}
-use Rattle.book_recovery.proofs.JournalSpec.Standings.{any_less, carried, stands_then, settled_stands, left_standing}
+use Rattle.book_recovery.proofs.JournalSpec.Standings.{carried, stands_then, settled_stands, left_standing}
 use Rattle.file_copies.specs.OfFileNotes.declared.notes.FileNotes.{FileNotes}
 use Rattle.file_copies.specs.OfFileNotes.Files.{file_in, marks_in, IsPlanned, IsPicked}
 use Rattle.book_recovery.specs.Found.{HasToldStates}
 use Rattle.book_recovery.specs.Noting.{marks_of}
+use Rattle.page_journal.proofs.Mending.{leaves_map}
 use Rattle.shelf.specs.declared.doubt.Doubt as doubt_type
 use Rattle.shelf.specs.declared.doubt.Work.TheVariants as doubted
 use Rattle.shelf.specs.declared.shelf.Shelf.{Shelf}
@@ -112,14 +113,14 @@ uncompacted {D} {N} view tells coming s order j sound room fed x none comes =
       };
       any_moment = λ told.
           let st = (order.fit told).stands in
-          (st.0, subst (λ (y : Book). Throughout texts shelf b (if_kept st.0 y) v w) (sym is) (st.1.0, any_less v w v.images (Held st.1.0) st.1.1 room.moments));
+          (st.0, subst (λ (y : Book). Throughout texts shelf b (if_kept st.0 y) v w) (sym is) (st.1.0, leaves_map v w v.images (Held st.1.0) st.1.1 room.moments));
       own_moments = λ told own.
           let its = own.own told in
           let st = its.stands in
           record {
             own = quiet_own shelf v w room.moments its.images;
             measured = subst (λ (y : Book). (n : ℕ) × Throughout texts shelf b (if_kept n y) v w × MeasuresDoubt rules n y) (sym is)
-                (st.0, (st.1.0, any_less v w v.images (Held st.1.0) st.1.1.0 room.moments), st.1.1.1);
+                (st.0, (st.1.0, leaves_map v w v.images (Held st.1.0) st.1.1.0 room.moments), st.1.1.1);
           };
       tickets = tickets_kept view s u refl order.orderly (subst (λ (y : Book). Later b y) (sym is) (same b order.orderly)) (states_stay view s u (λ source all. all));
     }
@@ -141,7 +142,7 @@ no_room view tells j only_now = record {
 both_alike : (shelf : ℕ) (a b c d : Book) (old new : View) → reopened a ≡ reopened c → reopened b ≡ reopened d → Throughout texts shelf a b old new → Throughout texts shelf c d old new
 both_alike shelf a b c d old new first second (k, run) =
     let l = (stand_alike texts shelf).1 a b c d first second k in
-    (l.0, any_less old new (Held k) (Held l.0) (λ image held. carried k.format k.bodies k.flight l.0 l.1 image held) run)
+    (l.0, leaves_map old new (Held k) (Held l.0) (λ image held. carried k.format k.bodies k.flight l.0 l.1 image held) run)
 
 -- what the laws say of the copies
 pub record Laws : Type 0 where
@@ -270,7 +271,7 @@ module _ {D N : Type 0} (view : D → View) (tells : Bool) (coming : N → ℕ �
       throughout : Throughout texts shelf m.book (compacted_book m.book) (view_of view s.journal) (view_of view j)
       throughout =
           let l = between_these in
-          (l.0, any_less (view_of view s.journal) (view_of view j) (Hold newest bodies (puts newest others)) (Held l.0) (carried newest bodies (puts newest others) l.0 l.1) run_here)
+          (l.0, leaves_map (view_of view s.journal) (view_of view j) (Hold newest bodies (puts newest others)) (Held l.0) (carried newest bodies (puts newest others) l.0 l.1) run_here)
 
       -- whatever the shelf's book is after it
       moments_to : (d : Book) (n : ℕ) → reopened then_ ≡ reopened (if_kept n d) → Throughout texts shelf b (if_kept n d) (view_of view s.journal) (view_of view j)

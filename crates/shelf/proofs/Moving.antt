@@ -22,7 +22,7 @@ use Rattle.book_recovery.specs.JournalSpec.Copying.{copies, MigrationsMakeTheBoo
 use Rattle.std.proofs.lemmas.Option.{same_Some}
 use Rattle.book_recovery.specs.JournalSpec.Laws.{MigrationsStandBetween}
 use Rattle.book_recovery.specs.JournalSpec.Standing.{puts, Held}
-use Rattle.book_recovery.proofs.JournalSpec.Standings.{any_less, carried}
+use Rattle.book_recovery.proofs.JournalSpec.Standings.{carried}
 use Rattle.book_recovery.specs.JournalSpec.OwnCopies.{CopiesAreOwn}
 use Rattle.book_recovery.specs.JournalSpec.Owning.{AreOwn, AreOwnIn}
 use Rattle.file_copies.specs.OfFileNotes.declared.notes.FileNotes.{FileNotes}
@@ -40,6 +40,7 @@ use Rattle.book_recovery.specs.JournalSpec.Reading.{AreAllBytes}
 use Rattle.book_recovery.specs.JournalSpec.Whole.{AreWhole}
 use Rattle.book_recovery.specs.Anew.{ReadsAnew}
 use Rattle.book_recovery.specs.Noting.{IsFileOf, WhereMade, NotesFile}
+use Rattle.page_journal.proofs.Mending.{leaves_map}
 use Rattle.shelf.specs.Compacting.{IsRoomMade}
 use Rattle.shelf.specs.declared.migration.FileAnew.{FileAnew}
 use Rattle.shelf.specs.Migrating.{bodies_by, bodies_now, making_by, making_now, StaysBy, HasLowNumber, anew_by, IsFileAnew, IsNoneAnew, IsMigrationFault, Moves, Migrates}
@@ -391,7 +392,7 @@ module _ {D : Type 0} (view : D → View) (tells : Bool) (shelf : ℕ) (j : Jour
                   makes = ap (λ (bs : List (List ℕ)). made_in (book_of texts shelf bs)) written ∙ k.1;
                   renewed = k.2;
                   between = l.0;
-                  run = any_less v (view_of view new) (IsEither j.format newest bodies (copies j.format texts shelf bodies w)) (Held l.0)
+                  run = leaves_map v (view_of view new) (IsEither j.format newest bodies (copies j.format texts shelf bodies w)) (Held l.0)
                       (carried j.format bodies (puts newest (copies j.format texts shelf bodies w)) l.0 l.1) here;
                 }
 

@@ -33,7 +33,7 @@ use Rattle.book_recovery.specs.JournalSpec.Events.{IsGiven}
 use Rattle.book_recovery.specs.JournalSpec.Whole.{AreWhole, HasWholeScripts}
 use Rattle.book_recovery.specs.JournalSpec.Disks.{IsFit}
 use Rattle.book_recovery.specs.JournalSpec.Laws.{ASetupIsItsTexts, RenewalsAreKept, RenewalsStandBetween}
-use Rattle.book_recovery.proofs.JournalSpec.Standings.{any_less, carried, settled_stands}
+use Rattle.book_recovery.proofs.JournalSpec.Standings.{carried, settled_stands}
 use Rattle.book_recovery.specs.InstanceBook.declared.book.Book.{Book as RustBook}
 use Rattle.book_recovery.specs.InstanceBook.Views as views
 use Rattle.book_recovery.specs.InstanceBook.Views.{Beside}
@@ -49,6 +49,7 @@ use Rattle.book_recovery.specs.JournalSpec.Reading.{AreAllBytes}
 use Rattle.file_copies.specs.OfFileNotes.declared.notes.FileNotes.{FileNotes}
 use Rattle.book_recovery.specs.Noting.{mark_by, marks_of}
 use Rattle.page_journal.proofs.Scans.{quiet_none}
+use Rattle.page_journal.proofs.Mending.{leaves_map}
 use Rattle.shelf.proofs.Setups.{few_scripts}
 use Rattle.shelf.proofs.Known.{bodies_more, mark_made, bytes_more}
 use Rattle.shelf.specs.Files.{file_in, read_file, KnowsRead, NotesRenewed}
@@ -213,7 +214,7 @@ module _ {D : Type 0} (view : D → View) (tells : Bool) (scripts : List Named) 
         let f = finds told in
         let is = found_is view shelf false j b lib f in
         let l = between texts shelf (bodies_in view j) pre scripts (keeps_old told) given_setup refl differs (room told short) in
-        let run_held = any_less (view_of view j) (view_of view new) (Hold newest (bodies_in view j) (adds body)) (Held l.0) (carried newest (bodies_in view j) (adds body) l.0 l.1) run in
+        let run_held = leaves_map (view_of view j) (view_of view new) (Hold newest (bodies_in view j) (adds body)) (Held l.0) (carried newest (bodies_in view j) (adds body) l.0 l.1) run in
         let Q : Book → Type 0 = λ y. ThroughoutFrom (bodies_in view j) texts shelf y (opened_book shelf scripts y) (view_of view j) (view_of view new) in
         record {
           made = f.whole;

@@ -18,7 +18,8 @@ use Rattle.book_recovery.specs.JournalSpec.Disks.{IsFit}
 use Rattle.book_recovery.specs.JournalSpec.Laws.{MeasuresDoubt, EventsAreKept}
 use Rattle.book_recovery.specs.JournalSpec.Owning.{IsOwnBefore}
 use Rattle.book_recovery.proofs.JournalSpec.Between.{kept_alike, stand_alike}
-use Rattle.book_recovery.proofs.JournalSpec.Standings.{any_less, carried, stays_then, stands_then}
+use Rattle.book_recovery.proofs.JournalSpec.Standings.{carried, stays_then, stands_then}
+use Rattle.page_journal.proofs.Mending.{leaves_map}
 use Rattle.shelf.specs.Owning.{StandsMeasured, StandsOwn}
 
 abbrev pub OnlyNow : View → Type 0
@@ -55,7 +56,7 @@ stands_alike shelf v b c same down s =
 pub throughout_alike : (shelf : ℕ) (a b c : Book) (old new : View) → reopened b ≡ reopened c → Throughout texts shelf a b old new → Throughout texts shelf a c old new
 throughout_alike shelf a b c old new same (k, run) =
     let l = (stand_alike texts shelf).1 a b a c refl same k in
-    (l.0, any_less old new (Held k) (Held l.0) (λ image held. carried k.format k.bodies k.flight l.0 l.1 image held) run)
+    (l.0, leaves_map old new (Held k) (Held l.0) (λ image held. carried k.format k.bodies k.flight l.0 l.1 image held) run)
 
 -- where nothing is in doubt, all that is kept is kept with it
 abbrev pub nothing_doubted : (shelf : ℕ) (bodies : List (List ℕ)) (b : Book) → b.down ≡ None → Keeps texts shelf bodies b → KeepsDoubt texts shelf bodies b

@@ -4,7 +4,7 @@ use mathlib.Core.List.{IsPrefix}
 use Rattle.shelf.specs.SetupReader.Texts.{setup_of_texts}
 use Rattle.web_disk.specs.View.{View, LeavesOnly}
 use Rattle.web_disk.proofs.Moments.{started}
-use Rattle.page_journal.proofs.Mending.{leaves_then}
+use Rattle.page_journal.proofs.Mending.{leaves_then, leaves_map}
 use Rattle.shelf.specs.JournalSpec.Before.{Made}
 use Rattle.shelf.specs.JournalSpec.Laws.{ImagesMakeBooks, MeasuresDoubt}
 use Rattle.shelf.specs.JournalSpec.Standing.{MakesIn, if_kept, Held, Stands}
@@ -23,7 +23,6 @@ use Rattle.history_spec.specs.Kept.{IsKept}
 use Rattle.history_spec.proofs.Keeping.{kept_on}
 use Rattle.history_spec.proofs.Members.{contains_none}
 use Rattle.shelf_lock.proofs.Prefixes.{prefix_self}
-use Rattle.shelf.proofs.Owned.{leaves_as}
 use Rattle.shelf.proofs.Quiet.{untouched}
 use Rattle.shelf.specs.declared.rules.Rules as limits_of
 use Rattle.shelf.specs.declared.shelf.Shelf.{Shelf}
@@ -160,7 +159,7 @@ module _ {D N : Type 0} (view : D → View) (tells : Bool) (coming : N → ℕ �
         let b = book_in view s in
         let c = if_kept th.0 (book_in view t) in
         leaves_then (view o.shelf.value.journal.disk) (view s.journal.disk) (view t.journal.disk) Q (p.ever told)
-        (leaves_as _ _ (Held th.1.0) Q
+        (leaves_map _ _ (Held th.1.0) Q
         (λ image held. some_book o b c image
         (subst (λ (r : limits_of.Rules). MakesIn setup_of_texts r.number image b ⊎ MakesIn setup_of_texts r.number image c) p.rules (law setup_of_texts s.rules.number b c th.1.0 image held))) th.1.1)
 
@@ -211,8 +210,8 @@ module _ {D N : Type 0} (view : D → View) (tells : Bool) (coming : N → ℕ �
           (subst (λ (r : limits_of.Rules). P r b c image) p.rules
           (both.0, makes_either n (rules_of s.rules) k.0 b c image k.2 (law setup_of_texts n b (if_kept k.0 c) k.1.0 image both.1)))) in
           leaves_then (view o.shelf.value.journal.disk) (view s.journal.disk) (view t.journal.disk) Q
-          (leaves_as _ _ (IsLeft view tells coming o es) Q (left_more (e ∷ [])) (h.ever told))
-          (leaves_as _ _ (λ image. HoldsOwnRecords n image × Held k.1.0 image) Q
+          (leaves_map _ _ (IsLeft view tells coming o es) Q (left_more (e ∷ [])) (h.ever told))
+          (leaves_map _ _ (λ image. HoldsOwnRecords n image × Held k.1.0 image) Q
           (λ image both.
           let there = here image both in
           elim there.1 [
@@ -225,7 +224,7 @@ module _ {D N : Type 0} (view : D → View) (tells : Bool) (coming : N → ℕ �
       pub ever_same : (e : Entry) → t.journal ≡ s.journal → IsTrue tells → LeavesOnly (view o.shelf.value.journal.disk) (view t.journal.disk) (IsLeft view tells coming o (es ++ e ∷ []))
       ever_same e same told =
           subst (λ j. LeavesOnly (view o.shelf.value.journal.disk) (view j.disk) (IsLeft view tells coming o (es ++ e ∷ []))) (sym same)
-          (leaves_as _ _ (IsLeft view tells coming o es) (IsLeft view tells coming o (es ++ e ∷ [])) (left_more (e ∷ [])) (h.ever told))
+          (leaves_map _ _ (IsLeft view tells coming o es) (IsLeft view tells coming o (es ++ e ∷ [])) (left_more (e ∷ [])) (h.ever told))
 
     -- one entry more
     pub sound_push : (e : Entry) → IsInOrder view tells t → AreOut (book_in view t).out (es ++ e ∷ []) → HasGiven (source_of coming o) (length (tickets_taken (es ++ e ∷ []))) (coming t.nonces)
