@@ -1,7 +1,7 @@
-ghost use Rattle.std.specs.Prelude.{◌≡◌, ◌⊎◌, [], ◌+◌, ◌<◌, ◌≤◌, List, ℕ, length, true, false, IsTrue, IfOk, OnOk, OnErr, IsErrOf};
-ghost use Rattle.web_disk.specs.View.{View, Only, LeavesOnly, NoNewImage, Elapses};
+ghost use Rattle.std.specs.Prelude.{◌≡◌, [], ◌≤◌, List, ℕ, length, true, false, IsTrue, OnOk, OnErr};
+ghost use Rattle.web_disk.specs.View.{LeavesOnly, NoNewImage};
 ghost use Rattle.disk_trio.specs.Naming.{AllName, other_side};
-ghost use Rattle.disk_trio.specs.Trio.{trio_view, HasFailed, three_of, before, before_in, read_side, IsReadAlone, AreSameFiles, AreSameDisks};
+ghost use Rattle.disk_trio.specs.Trio.{trio_view, HasFailed, three_of, before, IsReadAlone, AreSameDisks};
 ghost use Rattle.disk_trio.specs.Filling.{HasRoomToFill, HasRoomToSwitch, IsFilled, KeepsFiles, IsSwitched, MayBeEither, KeepsOther};
 
 use crate::side::Side;
