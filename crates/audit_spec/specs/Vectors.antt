@@ -11,6 +11,7 @@ use Rattle.instance_cells.specs.Cells.{Effect, read}
 use Rattle.wire_bytes.specs.Spelling.{u64_bytes}
 use Rattle.value_bytes.specs.Reading.{read_within}
 use Rattle.replay_spec.specs.Book.{Opening, opens, ends, finishes, sweeps}
+use Rattle.replay_spec.specs.Samples.{plain_start}
 use Rattle.machine_states.specs.Machine.{Suspended, in_seq}
 use Rattle.frame_codec.specs.Forms.{form_bytes}
 use Rattle.journal_records.specs.Fields.{name_bytes, Origin, start, answered, origin_bytes, send_byte}
@@ -89,7 +90,7 @@ no_begin = refl
 
 -- a start that the script comes to
 abbrev pub first : Opening
-first = record { number = 0; nonce = 5; script = 0; effects = []; left = []; kind = Suspend; deadline = 3600; evicted = [] }
+first = record plain_start { nonce = 5 }
 
 -- the state of the first page
 abbrev pub first_state : Suspended

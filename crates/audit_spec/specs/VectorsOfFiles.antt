@@ -13,6 +13,7 @@ use Rattle.core_syntax.specs.Heads.{syntax_of, page_form_of}
 use Rattle.prim_spec.specs.Table.{number_operation_of, test_of, list_operation_of, text_operation_of}
 use Rattle.setup_reader.specs.Texts.{setup_of_texts}
 use Rattle.replay_spec.specs.Book.{Opening, Extension, opens, extends, ends}
+use Rattle.replay_spec.specs.Samples.{plain_start, plain_answer}
 use Rattle.machine_states.specs.Machine.{Suspended, in_binding, in_operand}
 use Rattle.frame_codec.specs.Forms.{form_bytes}
 use Rattle.journal_records.specs.Records.{changes, begin_of, body_of}
@@ -60,11 +61,11 @@ query digits = list (vals_of (list (vals_of (symbol (codes "n") ∷ text digits 
 
 -- the start, which shows the first page
 abbrev pub first : Opening
-first = record { number = 0; nonce = 0; script = 0; effects = []; left = []; kind = Suspend; deadline = 3600; evicted = [] }
+first = plain_start
 
 -- the answer to the first page, which shows the second one
 abbrev pub second : Extension
-second = record { number = 1; nonce = 1; instance = 0; page = 0; answer = query (codes "3"); effects = []; left = []; kind = Suspend; deadline = 3600; evicted = [] }
+second = record plain_answer { answer = query (codes "3") }
 
 -- the state of the first page
 abbrev pub first_state : Suspended

@@ -1,11 +1,11 @@
 -- Worked rows of files without pages.
 use Rattle.std.specs.Prelude.{◌≡◌, ℕ, ◌+◌, ◌-◌, ◌^◌, true, false, List, [], ◌∷◌, Some, None, codes, refl}
 use Rattle.script_value.specs.Val.{text, symbol, list, vals_of, no_vals}
-use Rattle.script_nodes.specs.declared.script.SendKind.TheVariants.{Suspend}
 use Rattle.script_nodes.specs.Core.{lit, no_cores}
 use Rattle.script_nodes.specs.Setup.{Named}
 use Rattle.replay_spec.specs.Book.{Change, opens, ends, sweeps, changed, renewed, Book}
 use Rattle.replay_spec.specs.Compaction.{file_length}
+use Rattle.replay_spec.specs.Samples.{plain_start}
 use Rattle.value_bytes.specs.Reading.{read_within}
 use Rattle.journal_records.specs.Records.{begins, changes, draws, renews, follows, promotes, begin_of, renewal_of, body_of}
 use Rattle.journal_records.specs.Old.{newest_format, read_record_in}
@@ -121,7 +121,7 @@ another_shelf = refl
 
 -- a start of the script at this place, for which these pages went
 abbrev opening : (place : ℕ) → (gone : List ℕ) → Change
-opening k gone = opens (record { number = 0; nonce = 5; script = k; effects = []; left = []; kind = Suspend; deadline = 3600; evicted = gone })
+opening k gone = opens (record plain_start { nonce = 5; script = k; evicted = gone })
 
 -- a start of a script that is not of the setup is damage
 no_such_script : book_of texts 0 (begin_ten ∷ body_of (changes (opening 1 []) (Some [])) ∷ []) ≡ damaged 45

@@ -1,11 +1,12 @@
 -- Worked rows of files with pages.
-use Rattle.std.specs.Prelude.{◌≡◌, false, ℕ, ◌+◌, List, [], ◌∷◌, ◌++◌, Some, None, codes, refl}
-use Rattle.script_value.specs.Val.{text, list, no_vals}
+use Rattle.std.specs.Prelude.{◌≡◌, false, ℕ, ◌+◌, List, [], ◌∷◌, ◌++◌, Some, codes, refl}
+use Rattle.script_value.specs.Val.{text}
 use Rattle.script_nodes.specs.declared.script.SendKind.TheVariants.{Suspend}
 use Rattle.script_nodes.specs.Core.{lit, send, no_cores}
 use Rattle.script_nodes.specs.Setup.{Named}
 use Rattle.wire_bytes.specs.Spelling.{byte_string, u64_bytes}
 use Rattle.replay_spec.specs.Book.{Page, Instance, Change, opens, extends, changed, Book}
+use Rattle.replay_spec.specs.Samples.{plain_page, plain_start, plain_answer}
 use Rattle.machine_states.specs.Machine.{Suspended}
 use Rattle.kept_states.specs.FrameCodec.Spelling.{state_bytes}
 use Rattle.kept_states.specs.FrameCodec.Forms.{form_bytes}
@@ -60,22 +61,11 @@ as_before_is_spelled = refl
 
 -- a start of the script at a place, of the segment of this number
 abbrev opening : (number place : ℕ) → Change
-opening n k = opens (record { number = n; nonce = 5; script = k; effects = []; left = []; kind = Suspend; deadline = 3600; evicted = [] })
+opening n k = opens (record plain_start { number = n; nonce = 5; script = k })
 
 -- an answer to a page of an instance, of the segment of this number, for whose page these went
 abbrev answering : (number instance page : ℕ) → (gone : List ℕ) → Change
-answering n i p gone = extends (record {
-  number = n;
-  nonce = 6;
-  instance = i;
-  page = p;
-  answer = list no_vals;
-  effects = [];
-  left = [];
-  kind = Suspend;
-  deadline = 3600;
-  evicted = gone;
-})
+answering n i p gone = extends (record plain_answer { number = n; nonce = 6; instance = i; page = p; evicted = gone })
 
 -- the body of a start of the script of this place, with these bytes of a state
 abbrev start_body : (number place : ℕ) → (state : List ℕ) → List ℕ
@@ -87,11 +77,11 @@ answer_body n i p gone state = body_of (changes (answering n i p gone) (Some sta
 
 -- the first page of the instance
 abbrev root : Page
-root = record { number = 0; nonce = 5; parent = None; answer = list no_vals; reads = []; inside = []; deadline = 3600 }
+root = record plain_page { nonce = 5 }
 
 -- the page that answers the first one, of the segment of this number
 abbrev second : ℕ → Page
-second n = record { number = n; nonce = 6; parent = Some 0; answer = list no_vals; reads = []; inside = []; deadline = 3600 }
+second n = record plain_page { number = n; nonce = 6; parent = Some 0 }
 
 -- the instance with its first page, which was used by the segment of this number at last
 abbrev first_instance : (last : ℕ) → Instance

@@ -1,5 +1,5 @@
--- What the computed rows share: small scripts, rules, and events of one shelf.
-use Rattle.std.specs.Prelude.{◌≡◌, ℕ, pos, negsuc, List, [], ◌∷◌, Some, codes}
+-- What the computed rows share: small scripts, rules, events of one shelf, and pages and records of pages of which a row says what differs.
+use Rattle.std.specs.Prelude.{◌≡◌, ℕ, pos, negsuc, List, [], ◌∷◌, Some, None, codes}
 use Rattle.script_value.specs.Val.{Val, number, text, list, no_vals}
 use Rattle.script_value.specs.declared.outcome.Op.TheVariants as op
 use Rattle.script_value.specs.declared.outcome.TxName.{TxName}
@@ -7,6 +7,7 @@ use Rattle.script_nodes.specs.PageNames.Names.{Destination, page}
 use Rattle.script_nodes.specs.declared.script.SendKind.TheVariants.{Suspend, Forward}
 use Rattle.script_nodes.specs.Core.{Core, lit, var, bind, seq, branch, prim, send, finish, isolate, cell_ref, cell_shadow, inst_ref, inst_set, inst_add, no_cores, cores_of}
 use Rattle.script_nodes.specs.Setup.{Named}
+use Rattle.replay_spec.specs.Book.{Page, Opening, Extension}
 use Rattle.replay_spec.specs.Rules.{Rules, Journal}
 use Rattle.replay_spec.specs.Next.{url_of}
 use Rattle.replay_spec.specs.Step.{Event, take, publish, Fate, plain, Reply, shown}
@@ -71,6 +72,29 @@ get d v n = takes d v ∷ publishes d v n ∷ []
 -- the answer without a pair
 abbrev pub nothing : Val
 nothing = list no_vals
+
+-- the first page of an instance, of the shelf's first segment, which read nothing, and waits until second 3,600
+abbrev pub plain_page : Page
+plain_page = record { number = 0; nonce = 0; parent = None; answer = nothing; reads = []; inside = []; deadline = 3600 }
+
+-- a start of the first script that showed a page, as the shelf's first segment, and did nothing else
+abbrev pub plain_start : Opening
+plain_start = record { number = 0; nonce = 0; script = 0; effects = []; left = []; kind = Suspend; deadline = 3600; evicted = [] }
+
+-- an answer without fields to that start's page, as the shelf's second segment, which showed a page and did nothing else
+abbrev pub plain_answer : Extension
+plain_answer = record {
+  number = 1;
+  nonce = 1;
+  instance = 0;
+  page = 0;
+  answer = nothing;
+  effects = [];
+  left = [];
+  kind = Suspend;
+  deadline = 3600;
+  evicted = [];
+}
 
 -- an expression whose value is a text, as the body of a page
 abbrev pub says : List ℕ → Core

@@ -2,15 +2,14 @@
 use Rattle.std.specs.Prelude.{◌≡◌, ℕ, ◌+◌, ◌*◌, ◌-◌, ◌^◌, false, List, [], ◌∷◌, ◌++◌, Option, Some, None, codes, refl}
 use Rattle.script_value.specs.Val.{Val, text}
 use Rattle.script_nodes.specs.PageNames.Names.{start}
-use Rattle.script_nodes.specs.declared.script.SendKind.TheVariants.{Suspend}
 use Rattle.script_nodes.specs.Setup.{Named}
-use Rattle.replay_spec.specs.Book.{Page, Use, Instance, Opening, Extension, Ending, Change, opens, extends, ends, sweeps, Line, changed, File, Book, reopened}
+use Rattle.replay_spec.specs.Book.{Page, Instance, Change, opens, extends, ends, sweeps, Line, changed, Book, reopened}
 use Rattle.replay_spec.specs.Rules.{Rules}
 use Rattle.replay_spec.specs.Compaction.{compaction, file_length}
 use Rattle.replay_spec.specs.Recovery.{made_of_file}
 use Rattle.replay_spec.specs.Runs.{after}
 use Rattle.replay_spec.specs.Step.{Event, sweep, compact, crash, Fate, plain, no_memory, disk_fault, lost, kept, Reply, taken, ended, memory, disk_failed, down, journal_full, compacted, swept, live, step}
-use Rattle.replay_spec.specs.Samples.{name, script, rules, opened, counted, Answers, at, link_to, get, nothing, says, link, hotel}
+use Rattle.replay_spec.specs.Samples.{name, script, rules, opened, counted, Answers, at, link_to, get, nothing, plain_page, plain_start, plain_answer, says, link, hotel}
 
 -- in these rows the body of a tick's record has 9 bytes, and each other one 50
 abbrev body_of : Change → ℕ
@@ -47,8 +46,7 @@ live_on = (sweep 5, plain) ∷ (sweep 6, plain) ∷ get (start name) nothing 0 +
 
 -- a page that this answer to its parent showed, and that waits until this time
 abbrev shown_page : (n deadline : ℕ) → Option ℕ → Val → Page
-shown_page n deadline parent answer =
-    record { number = n; nonce = n; parent = parent; answer = answer; reads = []; inside = []; deadline = deadline }
+shown_page n deadline parent answer = record plain_page { number = n; nonce = n; parent = parent; answer = answer; deadline = deadline }
 
 -- the instance of a start and of this answer to its page, with the time until which each page waits, and the last use of the second one
 abbrev of_two : Named → (deadline later : ℕ) → Val → (last : ℕ) → Instance
@@ -65,23 +63,11 @@ of_two s deadline later answer last = record {
 
 -- the record of a start whose page has this deadline, as a line of the file
 abbrev opened_so : (deadline : ℕ) → Line
-opened_so deadline =
-    changed (opens (record { number = 0; nonce = 0; script = 0; effects = []; left = []; kind = Suspend; deadline = deadline; evicted = [] })) 50
+opened_so deadline = changed (opens (record plain_start { deadline = deadline })) 50
 
 -- the record of this answer to the start's page, where the page that it shows has this deadline, as a line of the file
 abbrev extended_so : (deadline : ℕ) → Val → Line
-extended_so deadline answer = changed (extends (record {
-  number = 1;
-  nonce = 1;
-  instance = 0;
-  page = 0;
-  answer = answer;
-  effects = [];
-  left = [];
-  kind = Suspend;
-  deadline = deadline;
-  evicted = [];
-})) 50
+extended_so deadline answer = changed (extends (record plain_answer { answer = answer; deadline = deadline })) 50
 
 -- the record of this tick, as a line of the file
 abbrev swept_to : (tick : ℕ) → Line

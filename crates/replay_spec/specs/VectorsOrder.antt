@@ -16,7 +16,7 @@ use Rattle.replay_spec.specs.Rules.{Rules, first_file}
 use Rattle.replay_spec.specs.Next.{url_of}
 use Rattle.replay_spec.specs.Step.{Event, take, sweep, compact, crash, Fate, plain, no_memory, disk_fault, lost, Reply, taken, shown, ended, refusal, fault, shelf_full, down, oversize, journal_full, following, worn, memory, swept, live, step}
 use Rattle.replay_spec.specs.Runs.{Shelf, empty_shelf, after, answers_to}
-use Rattle.replay_spec.specs.Samples.{name, script, journal, rules, at, takes, publishing, nothing, link}
+use Rattle.replay_spec.specs.Samples.{name, script, journal, rules, at, takes, publishing, nothing, plain_page, link}
 
 -- a tick that may have been recorded when the disk failed
 abbrev doubt : Doubt
@@ -36,7 +36,7 @@ closed_one = record { ticket = 0; entry = 0 }
 
 -- a page that was revoked, inside a closed transaction and expired at 5
 abbrev old_page : Page
-old_page = record { number = 0; nonce = 0; parent = None; answer = nothing; reads = []; inside = closed_one ∷ []; deadline = 5 }
+old_page = record plain_page { inside = closed_one ∷ []; deadline = 5 }
 
 -- page 0 went for this one
 abbrev went_for : (page : ℕ) → List Eviction
@@ -284,8 +284,7 @@ visits_replies = refl
 
 -- a page of this number, nonce, parent and answer, which lives up to 60
 abbrev page_with : ℕ → ℕ → Option ℕ → Val → Page
-page_with n nonce parent answer =
-    record { number = n; nonce = nonce; parent = parent; answer = answer; reads = []; inside = []; deadline = 60 }
+page_with n nonce parent answer = record plain_page { number = n; nonce = nonce; parent = parent; answer = answer; deadline = 60 }
 
 -- the book after four visits: both answers to page 0 have it as their parent, and the one that ended left no page
 abbrev visited : Book

@@ -13,7 +13,7 @@ use Rattle.replay_spec.specs.Book.{Change, opens, extends, ends, finishes, sweep
 use Rattle.replay_spec.specs.Runs.{after, records_of}
 use Rattle.replay_spec.specs.Recovery.{Made, nothing_made, taken_in, redo}
 use Rattle.replay_spec.specs.Step.{Event, sweep, crash, Fate, plain, lost, disk_fault, kept, taken, ended, refusal, disk_failed, live, step}
-use Rattle.replay_spec.specs.Samples.{name, rules, script, opened, counted, Answers, at, link_to, takes, publishing, get, nothing, says, link, hotel, shop, pay, transaction}
+use Rattle.replay_spec.specs.Samples.{name, rules, script, opened, counted, Answers, at, link_to, takes, publishing, get, nothing, plain_start, plain_answer, says, link, hotel, shop, pay, transaction}
 
 -- what these changes make, each as recovery redoes it, after what is made
 abbrev records_after : Rules → List Change → Made → Made
@@ -22,8 +22,7 @@ records_after r (c ∷ cs) m = records_after r cs (redo r c m)
 
 -- a start of the script of this place, which shows a page of this kind with these effects
 abbrev opening : (number place : ℕ) → SendKind → List Effect → Change
-opening n place kind effects =
-    opens (record { number = n; nonce = n; script = place; effects = effects; left = []; kind = kind; deadline = 3600; evicted = [] })
+opening n place kind effects = opens (record plain_start { number = n; nonce = n; script = place; effects = effects; kind = kind })
 
 -- an answer to a page of an instance with a last page, with these effects
 abbrev ending : (number instance page : ℕ) → List Effect → Change
@@ -32,18 +31,8 @@ ending n k m effects =
 
 -- an answer to a page of an instance that shows another page, with these effects and these transactions left
 abbrev extension : (number instance page : ℕ) → SendKind → List Effect → List TxName → Change
-extension n k m kind effects left = extends (record {
-  number = n;
-  nonce = n;
-  instance = k;
-  page = m;
-  answer = nothing;
-  effects = effects;
-  left = left;
-  kind = kind;
-  deadline = 3600;
-  evicted = [];
-})
+extension n k m kind effects left =
+    extends (record plain_answer { number = n; nonce = n; instance = k; page = m; effects = effects; left = left; kind = kind })
 
 -- the shop's one instance, with its page 0, and one item
 abbrev begun : Made
