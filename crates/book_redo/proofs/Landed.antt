@@ -31,8 +31,8 @@ use Rattle.frame_codec.specs.Forms.{read_form}
 use Rattle.instance_book.specs.KeptStates.Kept.{Kept, IsKeptBy, kept_of}
 use Rattle.instance_book.specs.KeptStates.Links.{next_links, links_at, behind_at}
 use Rattle.journal_records.specs.Fields as fields
-use Rattle.journal_records.specs.Reading.{change_from}
-use Rattle.journal_records.specs.Views.{origin_of, page_change}
+use Rattle.journal_records.specs.Reading.{opening_from, extension_from}
+use Rattle.journal_records.specs.Views.{origin_of, page_of as told_page, change_with, page_change}
 use Rattle.journal_records.specs.declared.records.PageRecord.{PageRecord}
 use Rattle.journal_spec.specs.Before.{States, state_at, Earlier, links_behind, before_told}
 use Rattle.journal_spec.specs.Retaking.{Told, unread, told, told_as, told_by, script_for, if_held, held, states_with}
@@ -65,19 +65,10 @@ use Rattle.book_redo.proofs.Passed.{can_when, told_more, none_either, names_ther
 
 -- the opening that a record of a start tells of
 abbrev pub opening_in : PageRecord → (script : ℕ) → spec.Opening
-opening_in r k = record {
-  number = r.ticket;
-  nonce = r.nonce;
-  script = k;
-  effects = effects_in r;
-  left = r.left.items;
-  kind = r.kind;
-  deadline = r.deadline;
-  evicted = r.evicted.items;
-}
+opening_in r k = opening_from k (told_page r [])
 
 pub opening_is : (r : PageRecord) (k : ℕ) → origin_of r.origin ≡ fields.start k → page_change r ≡ opens (opening_in r k)
-opening_is r k e = ap (λ (o : fields.Origin). change_from r.ticket r.nonce o (effects_in r) r.left.items r.kind r.deadline r.evicted.items) e
+opening_is r k e = ap (λ (o : fields.Origin). change_with o r) e
 
 -- the names that it lands with
 opening_held : (b : Book) (k : ℕ) (s : Named) (r : PageRecord) (inside : List TxName) → slice_get b.scripts k ≡ Some s
@@ -278,21 +269,10 @@ module _ (library : Library) (old : kept.Book) (k : ℕ) (r : PageRecord) (bytes
 
 -- the extension that a record of an answer tells of
 abbrev pub extension_in : PageRecord → (instance page : ℕ) → (answer : Val) → spec.Extension
-extension_in r k m answer = record {
-  number = r.ticket;
-  nonce = r.nonce;
-  instance = k;
-  page = m;
-  answer = answer;
-  effects = effects_in r;
-  left = r.left.items;
-  kind = r.kind;
-  deadline = r.deadline;
-  evicted = r.evicted.items;
-}
+extension_in r k m answer = extension_from k m answer (told_page r [])
 
 pub extension_is : (r : PageRecord) (k m : ℕ) (answer : Val) → origin_of r.origin ≡ fields.answered k m answer → page_change r ≡ extends (extension_in r k m answer)
-extension_is r k m answer e = ap (λ (o : fields.Origin). change_from r.ticket r.nonce o (effects_in r) r.left.items r.kind r.deadline r.evicted.items) e
+extension_is r k m answer e = ap (λ (o : fields.Origin). change_with o r) e
 
 -- the page of an answer has its state, after that of the page that it answers
 next_state : (source : Source ⊤) (shelf : ℕ) (at : Place) (k0 : Kept) (r : PageRecord) (m : ℕ) (answer : Val) (p : ShownState) (bytes : List ℕ) (x : Numbered KeptPage)

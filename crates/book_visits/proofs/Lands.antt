@@ -1,5 +1,5 @@
 -- What a prepared visit makes of a book is what the definitions make of it.
-use Rattle.std.proofs.Common.{◌≡◌, ◌∙◌, ap, sym, subst, ℕ, ◌+◌, max, nat_le, List, [], map, length, slice_get, Option, Some, None, Result, Ok, Err, IfOk, IfErr, OnOk, refl, false, inr}
+use Rattle.std.proofs.Common.{◌≡◌, ◌∙◌, ap, sym, subst, ℕ, ◌+◌, max, nat_le, List, [], length, slice_get, Option, Some, None, Result, Ok, Err, IfOk, IfErr, OnOk, refl, false, inr}
 use Rattle.std.proofs.lemmas.Option.{get_or_from_slice_get, same_Some}
 use Rattle.script_value.specs.declared.outcome.Reply.{Reply}
 use Rattle.script_value.specs.declared.outcome.Reply.TheVariants as reply
@@ -18,10 +18,8 @@ use Rattle.replay_spec.specs.Admission.{Place}
 use Rattle.replay_spec.specs.Next.{start_visit, page_visit, url_for}
 use Rattle.replay_spec.specs.Step as step
 use Rattle.replay_spec.specs.Step.{Decision, replies, records, compacts, settles, carried_out, opening, extension, ending, finish}
-use Rattle.instance_cells.specs.Views.{effect_of}
 use Rattle.journal_records.specs.Fields as told
-use Rattle.journal_records.specs.Reading.{change_from}
-use Rattle.journal_records.specs.Views.{origin_of, page_change}
+use Rattle.journal_records.specs.Views.{origin_of, page_change, change_with}
 use Rattle.journal_records.specs.declared.records.PageRecord.{PageRecord}
 use Rattle.book_visits.specs.declared.prepared.Prepared.{Prepared}
 use Rattle.instance_book.specs.declared.change.Change.{Change}
@@ -88,7 +86,7 @@ FreesAs scripts c is _ = Unit {0}
 shows_as : (scripts : List Named) (r : step.Reply) (c : Option Change) (inside : List TxName) (is : List Instance) (p : PageRecord) → FreesAs scripts c is (records r (page_change p) inside)
 shows_as scripts r c inside is p = by_origin (origin_of p.origin)
   where
-    by_origin : (o : told.Origin) → FreesAs scripts c is (records r (change_from p.ticket p.nonce o (map effect_of p.effects.items) p.left.items p.kind p.deadline p.evicted.items) inside)
+    by_origin : (o : told.Origin) → FreesAs scripts c is (records r (change_with o p) inside)
     by_origin (told.start k) = tt
     by_origin (told.answered i n answer) = tt
 
@@ -306,7 +304,7 @@ IsFinishing _ = Unit {0}
 page_is_none : (r : step.Reply) (inside : List TxName) (p : PageRecord) → IsFinishing (records r (page_change p) inside) → ⊥
 page_is_none r inside p = by_origin (origin_of p.origin)
   where
-    by_origin : (o : told.Origin) → IsFinishing (records r (change_from p.ticket p.nonce o (map effect_of p.effects.items) p.left.items p.kind p.deadline p.evicted.items) inside) → ⊥
+    by_origin : (o : told.Origin) → IsFinishing (records r (change_with o p) inside) → ⊥
     by_origin (told.start k) h = h
     by_origin (told.answered i n answer) h = h
 

@@ -1,15 +1,13 @@
 -- What is prepared tells no fault, and a deadline that can be told.
-use Rattle.std.proofs.Common.{◌≡◌, sym, subst, ◌<◌, ◌^◌, List, map, Option, Some, None, Result, Ok, Err, IfOk}
+use Rattle.std.proofs.Common.{◌≡◌, sym, subst, ◌<◌, ◌^◌, List, Option, Some, None, Result, Ok, Err, IfOk}
 use Rattle.std.specs.declared.alloc.AllocError.{AllocError}
 use Rattle.script_value.specs.declared.outcome.Reply.{Reply}
 use Rattle.script_value.specs.declared.outcome.TxName.{TxName}
 use Rattle.replay_spec.specs.Book as spec
 use Rattle.replay_spec.specs.Step as step
 use Rattle.replay_spec.specs.Step.{Decision, replies, records, compacts}
-use Rattle.instance_cells.specs.Views.{effect_of}
 use Rattle.journal_records.specs.Fields as told
-use Rattle.journal_records.specs.Reading.{change_from}
-use Rattle.journal_records.specs.Views.{origin_of, page_change}
+use Rattle.journal_records.specs.Views.{origin_of, change_with, page_change}
 use Rattle.journal_records.specs.declared.records.PageRecord.{PageRecord}
 use Rattle.book_visits.specs.declared.prepared.Prepared.{Prepared}
 use Rattle.instance_book.specs.declared.change.Change.{Change}
@@ -30,7 +28,7 @@ IsTimely (compacts r) = IsOfRun r
 timely_page : (r : step.Reply) (inside : List TxName) (p : PageRecord) → IsTimely (records r (page_change p) inside) → IsOfRun r × (p.deadline < 2 ^ 63)
 timely_page r inside p = by_origin (origin_of p.origin)
   where
-    by_origin : (o : told.Origin) → IsTimely (records r (change_from p.ticket p.nonce o (map effect_of p.effects.items) p.left.items p.kind p.deadline p.evicted.items) inside) → IsOfRun r × (p.deadline < 2 ^ 63)
+    by_origin : (o : told.Origin) → IsTimely (records r (change_with o p) inside) → IsOfRun r × (p.deadline < 2 ^ 63)
     by_origin (told.start k) h = h
     by_origin (told.answered i n answer) h = h
 

@@ -18,8 +18,8 @@ use Rattle.value_bytes.specs.Laws.{AreBytes, Spells, IsExact}
 use Rattle.value_bytes.proofs.Numbers.{bind_some, seen_some, rest_are_bytes, u32_exact, u64_exact, i64_exact, string_exact}
 use Rattle.value_bytes.proofs.Trees.{value_exact, chosen}
 use Rattle.journal_records.specs.Fields.{name_bytes, NameFits, effect_bytes, EffectFits, send_byte, Origin, start, answered, nothing, origin_bytes, OriginFits, numbers_end, deadlines_end}
-use Rattle.journal_records.specs.Records.{Record, begins, changes, renews, draws, follows, promotes, page_bytes, PageFits, ending_bytes, EndingFits, finish_bytes, FinishFits, change_bytes, ChangeFits, body_of, IsInGrammar}
-use Rattle.journal_records.specs.Reading.{name_from, read_name, read_effect_of, read_effect, send_of, read_send, is_nothing, read_nothing, start_from, answered_from, read_origin_of, read_origin, page_from, read_page, ending_from, read_ending, finish_from, read_finish, begins_from, read_begins, page_change, change_from, read_kind, read_front, alone, read_record}
+use Rattle.journal_records.specs.Records.{Page, Record, begins, changes, renews, draws, follows, promotes, page_bytes, PageFits, ending_bytes, EndingFits, finish_bytes, FinishFits, change_bytes, ChangeFits, body_of, IsInGrammar}
+use Rattle.journal_records.specs.Reading.{name_from, read_name, read_effect_of, read_effect, send_of, read_send, is_nothing, read_nothing, start_from, answered_from, read_origin_of, read_origin, page_from, read_page, ending_from, read_ending, finish_from, read_finish, begins_from, read_begins, stateless, page_change, change_from, read_kind, read_front, alone, read_record}
 use Rattle.journal_records.specs.Laws.{IsBodyOf}
 use Rattle.journal_records.proofs.Codec.{Codec, both, listed, IsSeen, seen_exact, byte_codec, below_codec}
 
@@ -311,17 +311,14 @@ begins_parts = both short_codec (listed (both string_codec string_codec))
 
 -- ---- a record
 
-page_body : (ticket nonce : ℕ) (o : Origin) (effects : List Effect) (left : List TxName) (kind : SendKind) (deadline : ℕ) (evicted state : List ℕ)
-    → change_bytes (change_from ticket nonce o effects left kind deadline evicted) state
-    ≡ 2 ∷ page_bytes (record { ticket = ticket; nonce = nonce; origin = o; effects = effects; left = left; kind = kind; deadline = deadline; evicted = evicted; state = state })
-page_body ticket nonce (start script) effects left kind deadline evicted state = refl
-page_body ticket nonce (answered instance page answer) effects left kind deadline evicted state = refl
+-- the change that a page makes is written as the page
+pub page_told : (o : Origin) (p : Page) → change_bytes (change_from o (stateless p)) p.state ≡ 2 ∷ page_bytes (record p { origin = o })
+page_told (start script) p = refl
+page_told (answered instance page answer) p = refl
 
-pub page_fits : (ticket nonce : ℕ) (o : Origin) (effects : List Effect) (left : List TxName) (kind : SendKind) (deadline : ℕ) (evicted state : List ℕ)
-    → PageFits (record { ticket = ticket; nonce = nonce; origin = o; effects = effects; left = left; kind = kind; deadline = deadline; evicted = evicted; state = state })
-    → ChangeFits (change_from ticket nonce o effects left kind deadline evicted) (Some state)
-page_fits ticket nonce (start script) effects left kind deadline evicted state fits = fits
-page_fits ticket nonce (answered instance page answer) effects left kind deadline evicted state fits = fits
+pub page_fits : (o : Origin) (p : Page) → PageFits (record p { origin = o }) → ChangeFits (change_from o (stateless p)) (Some p.state)
+page_fits (start script) p fits = fits
+page_fits (answered instance page answer) p fits = fits
 
 front_back : (r : Record) (rest : List ℕ) → IsInGrammar r → read_front (body_of r ++ rest) ≡ Some (r, rest)
 front_back (begins shelf scripts) rest fits = ap (seen_as begins_from) (begins_parts.law.back (shelf, scripts) rest fits)
@@ -356,8 +353,8 @@ page_spells kind bytes r rest small k h =
     let p = s.0 in
     let x = page_exact.exact bytes p rest small s.1 in
     subst (λ q. Body (kind ∷ bytes) q rest) s.2 (record {
-      whole = (λ i. k i ∷ x.whole i) ∙ ap (λ (b : List ℕ). b ++ rest) (sym (page_body p.ticket p.nonce p.origin p.effects p.left p.kind p.deadline p.evicted p.state));
-      fit = page_fits p.ticket p.nonce p.origin p.effects p.left p.kind p.deadline p.evicted p.state x.fit;
+      whole = (λ i. k i ∷ x.whole i) ∙ ap (λ (b : List ℕ). b ++ rest) (sym (page_told p.origin p));
+      fit = page_fits p.origin p x.fit;
     })
 
 ending_spells : (kind : ℕ) (bytes : List ℕ) (r : Record) (rest : List ℕ) → AreBytes bytes → kind ≡ 3 → seen_as (λ e. changes (ends e) None) (read_ending bytes) ≡ Some (r, rest)

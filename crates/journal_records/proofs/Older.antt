@@ -2,14 +2,14 @@
 use Rattle.std.proofs.Common.{◌≡◌, ℕ, ◌<◌, ◌^◌, ◌==◌, Bool, true, false, List, [], ◌∷◌, length, Some, None, nat_lt, if◌then◌else◌, refl, sym, ap, subst, ◌∙◌, inl, inr, lit≤}
 use Rattle.std.proofs.lemmas.List.{append-nil}
 use Rattle.std.proofs.lemmas.Option.{some_pair_parts, none-some}
-use Rattle.wire_bytes.specs.Reading.{read_u8, read_u64, read_bytes}
+use Rattle.wire_bytes.specs.Reading.{read_u8, read_bytes}
 use Rattle.value_bytes.specs.Reading.{Reader, seen_as, read_list}
 use Rattle.value_bytes.specs.Laws.{AreBytes, Spells}
 use Rattle.value_bytes.proofs.Numbers.{bind_some, seen_some, rest_are_bytes}
 use Rattle.value_bytes.proofs.Trees.{chosen}
 use Rattle.journal_records.specs.Fields.{Origin, start, answered}
 use Rattle.journal_records.specs.Records.{Page, PageFits, Record, changes, body_of, IsInGrammar}
-use Rattle.journal_records.specs.Reading.{◌then◌, read_number, read_deadline, read_origin, read_effects, read_names, read_send, PageParts, page_from, change_from, page_change, alone, read_record}
+use Rattle.journal_records.specs.Reading.{read_number, read_page_with, PageParts, page_from, stateless, change_from, page_change, alone, read_record}
 use Rattle.journal_records.specs.Old.{read_page_in, read_shown, lacks, is_older_page, read_kind_in, read_front_in, read_record_in}
 use Rattle.journal_records.specs.Laws.{TellsNoPage, IsBodyOf}
 use Rattle.journal_records.proofs.Codec.{Codec, both, listed, byte_codec}
@@ -84,9 +84,7 @@ state_by bare bytes = if bare then Some ([], bytes) else read_bytes bytes
 
 -- how a page is read whose last two fields are told or not
 abbrev page_by : (untold bare : Bool) → Reader Page
-page_by untold bare bytes =
-    seen_as page_from
-    ((read_number then (read_u64 then (read_origin then (read_effects then (read_names then (read_send then (read_deadline then (gone_by untold then state_by bare)))))))) bytes)
+page_by untold bare bytes = read_page_with (gone_by untold) (state_by bare) bytes
 
 page_by_fits : (untold bare : Bool) (bytes : List ℕ) (p : Page) (rest : List ℕ) → AreBytes bytes → page_by untold bare bytes ≡ Some (p, rest) → PageFits p
 page_by_fits true true bytes p rest small e = fitting_parts none_codec none_codec no_pages no_bytes bytes p rest small e
@@ -103,7 +101,7 @@ shown_fits : (format : ℕ) (bytes : List ℕ) (r : Record) (rest : List ℕ) �
 shown_fits format bytes r rest small e =
     let s = seen_some (λ p. changes (page_change p) (Some p.state)) (read_page_in format bytes) r rest e in
     let p = s.0 in
-    subst IsInGrammar s.2 (page_fits p.ticket p.nonce p.origin p.effects p.left p.kind p.deadline p.evicted p.state (page_in format bytes p rest small s.1))
+    subst IsInGrammar s.2 (page_fits p.origin p (page_in format bytes p rest small s.1))
 
 kind_fits : (format kind : ℕ) (bytes : List ℕ) (r : Record) (rest : List ℕ) → AreBytes bytes → read_kind_in format kind bytes ≡ Some (r, rest) → IsInGrammar r
 kind_fits format kind bytes r rest small e =
@@ -130,7 +128,7 @@ record_fits format bytes r small e = front_fits format bytes r [] small (alone_s
 no_page : (p : Page) → TellsNoPage (changes (page_change p) (Some p.state)) → ⊥
 no_page p h = by_origin p.origin h
   where
-    by_origin : (o : Origin) → TellsNoPage (changes (change_from p.ticket p.nonce o p.effects p.left p.kind p.deadline p.evicted) (Some p.state)) → ⊥
+    by_origin : (o : Origin) → TellsNoPage (changes (change_from o (stateless p)) (Some p.state)) → ⊥
     by_origin (start script) never = never
     by_origin (answered instance page answer) never = never
 

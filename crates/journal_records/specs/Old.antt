@@ -7,10 +7,10 @@ use Rattle.value_bytes.specs.Reading.{Reader, seen_as, read_list, read_within}
 use Rattle.wire_bytes.specs.Spelling.{u64_bytes}
 use Rattle.replay_spec.specs.Book.{opens}
 use Rattle.script_value.specs.Pieces.{◌>>=◌}
-use Rattle.wire_bytes.specs.Reading.{read_u8, read_u64, read_bytes}
+use Rattle.wire_bytes.specs.Reading.{read_u8, read_bytes}
 use Rattle.journal_records.specs.Fields.{start, origin_bytes}
 use Rattle.journal_records.specs.Records.{Page, Record, changes, renews, draws, follows, promotes, body_of, effects_bytes, names_bytes}
-use Rattle.journal_records.specs.Reading.{◌then◌, read_number, read_deadline, read_origin, read_effects, read_names, read_send, page_from, page_change, read_kind, alone}
+use Rattle.journal_records.specs.Reading.{read_number, read_page_with, page_change, read_kind, alone}
 
 -- the number of the format that is written
 abbrev pub newest_format : ℕ
@@ -24,11 +24,9 @@ read_gone format bytes = if nat_lt format 6 then Some ([], bytes) else read_list
 abbrev pub read_state : (format : ℕ) → Reader (List ℕ)
 read_state format bytes = if format == 1 then Some ([], bytes) else read_bytes bytes
 
--- the fields of a page in this format
+-- a page in this format
 abbrev pub read_page_in : (format : ℕ) → Reader Page
-read_page_in format bytes =
-    seen_as page_from
-    ((read_number then (read_u64 then (read_origin then (read_effects then (read_names then (read_send then (read_deadline then (read_gone format then read_state format)))))))) bytes)
+read_page_in format bytes = read_page_with (read_gone format) (read_state format) bytes
 
 -- a page in this format, as a record
 abbrev pub read_shown : (format : ℕ) → Reader Record

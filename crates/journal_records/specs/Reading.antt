@@ -6,7 +6,7 @@ use Rattle.script_value.specs.declared.outcome.TxName.{TxName}
 use Rattle.instance_cells.specs.Cells.{Effect, read, set, add}
 use Rattle.script_nodes.specs.declared.script.SendKind.{SendKind}
 use Rattle.script_nodes.specs.declared.script.SendKind.TheVariants.{Suspend, Forward}
-use Rattle.replay_spec.specs.Book.{Ending, Finish, Change, opens, extends, ends, finishes, sweeps}
+use Rattle.replay_spec.specs.Book.{Opening, Extension, Ending, Finish, Change, opens, extends, ends, finishes, sweeps}
 use Rattle.wire_bytes.specs.Reading.{read_u8, read_u32, read_u64, read_bytes}
 use Rattle.value_bytes.specs.Reading.{Reader, seen_as, read_list, read_i64, read_value}
 use Rattle.journal_records.specs.Fields.{Origin, start, answered, numbers_end, deadlines_end}
@@ -136,11 +136,15 @@ page_from x = record {
   state = x.1.1.1.1.1.1.1.1;
 }
 
+-- a page whose last two fields, the pages that went for it and the bytes of its state, are read so
+abbrev pub read_page_with : (gone state : Reader (List ℕ)) → Reader Page
+read_page_with gone state bytes =
+    seen_as page_from
+    ((read_number then (read_u64 then (read_origin then (read_effects then (read_names then (read_send then (read_deadline then (gone then state)))))))) bytes)
+
 -- a page, as it is written in the newest format
 abbrev pub read_page : Reader Page
-read_page bytes =
-    seen_as page_from
-    ((read_number then (read_u64 then (read_origin then (read_effects then (read_names then (read_send then (read_deadline then (read_list read_number then read_bytes)))))))) bytes)
+read_page bytes = read_page_with (read_list read_number) read_bytes bytes
 
 -- the fields of an answer with a last page, in the order in which they are written
 abbrev pub EndingParts : Type 0
@@ -186,34 +190,46 @@ begins_from x = begins x.0 x.1
 abbrev pub read_begins : Reader Record
 read_begins bytes = seen_as begins_from ((read_u32 then read_list read_script) bytes)
 
--- the change that a page is, by its origin
-abbrev pub change_from : ℕ → ℕ → Origin → List Effect → List TxName → SendKind → ℕ → List ℕ → Change
-change_from ticket nonce (start script) effects left kind deadline evicted = opens (record {
-  number = ticket;
-  nonce = nonce;
+-- the opening of a script's instance that a page tells of
+abbrev pub opening_from : (script : ℕ) → Page → Opening
+opening_from script p = record {
+  number = p.ticket;
+  nonce = p.nonce;
   script = script;
-  effects = effects;
-  left = left;
-  kind = kind;
-  deadline = deadline;
-  evicted = evicted;
-})
-change_from ticket nonce (answered instance page answer) effects left kind deadline evicted = extends (record {
-  number = ticket;
-  nonce = nonce;
+  effects = p.effects;
+  left = p.left;
+  kind = p.kind;
+  deadline = p.deadline;
+  evicted = p.evicted;
+}
+
+-- the extension of an instance that a page tells of, by this answer to a page of it
+abbrev pub extension_from : (instance page : ℕ) → (answer : Val) → Page → Extension
+extension_from instance page answer p = record {
+  number = p.ticket;
+  nonce = p.nonce;
   instance = instance;
   page = page;
   answer = answer;
-  effects = effects;
-  left = left;
-  kind = kind;
-  deadline = deadline;
-  evicted = evicted;
-})
+  effects = p.effects;
+  left = p.left;
+  kind = p.kind;
+  deadline = p.deadline;
+  evicted = p.evicted;
+}
 
--- the change that a page makes of a book: it opens an instance or extends one
+-- the change that a page makes of a book whose segment began so: it opens an instance or extends one
+abbrev pub change_from : Origin → Page → Change
+change_from (start script) p = opens (opening_from script p)
+change_from (answered instance page answer) p = extends (extension_from instance page answer p)
+
+-- a page without the bytes of its state
+abbrev pub stateless : Page → Page
+stateless p = record p { state = [] }
+
+-- the change that a page makes of a book, of which its state is no part
 abbrev pub page_change : Page → Change
-page_change p = change_from p.ticket p.nonce p.origin p.effects p.left p.kind p.deadline p.evicted
+page_change p = change_from p.origin (stateless p)
 
 -- a record of this kind
 abbrev pub read_kind : ℕ → Reader Record

@@ -1,5 +1,5 @@
 -- What the program's records stand for.
-use Rattle.std.specs.Prelude.{◌≡◌, ℕ, List, ◌∷◌, map, Option, Some, None, option_map, IfSome}
+use Rattle.std.specs.Prelude.{◌≡◌, ℕ, List, [], ◌∷◌, map, Option, Some, None, option_map, IfSome}
 use Rattle.std.specs.Borrow.{Bor}
 use Rattle.std.specs.Global.{Vec}
 use Rattle.script_value.specs.Views.{meaning}
@@ -61,9 +61,13 @@ page_of p state = record {
   state = state;
 }
 
+-- the change of the book that a page is whose segment began so
+abbrev pub change_with : spec.Origin → PageRecord → Change
+change_with origin p = change_from origin (page_of p [])
+
 -- the change of the book that a page is: an instance opens where it is of a start, and goes on where it is of an answer
 abbrev pub page_change : PageRecord → Change
-page_change p = change_from p.ticket p.nonce (origin_of p.origin) (map effect_of p.effects.items) p.left.items p.kind p.deadline p.evicted.items
+page_change p = change_with (origin_of p.origin) p
 
 -- a copy of a page's record is of the same change, with the same deadline and pages that went
 pub record IsSamePage (r copy : PageRecord) : Type 0 where

@@ -1,15 +1,11 @@
 -- Records of pages, and of what shows none.
-use Rattle.std.proofs.Common.{◌≡◌, ℕ, ◌==◌, List, Bool, true, false, Some, None, refl, if◌then◌else◌}
+use Rattle.std.proofs.Common.{◌≡◌, ℕ, ◌==◌, Bool, true, false, Some, None, refl, if◌then◌else◌}
 use Rattle.std.specs.Prelude.{⊤}
-use Rattle.script_value.specs.declared.outcome.TxName.{TxName}
-use Rattle.script_nodes.specs.declared.script.SendKind.{SendKind}
-use Rattle.instance_cells.specs.Cells.{Effect}
 use Rattle.replay_spec.specs.Book as spec
 use Rattle.replay_spec.specs.Book.{Change, opens, extends, ends, finishes, sweeps}
 use Rattle.replay_spec.specs.Recovery.{number_in}
 use Rattle.journal_records.specs.Fields as fields
-use Rattle.journal_records.specs.Reading.{change_from}
-use Rattle.journal_records.specs.Views.{origin_of, page_change}
+use Rattle.journal_records.specs.Views.{origin_of, change_with, page_change}
 use Rattle.journal_records.specs.declared.records.PageRecord.{PageRecord}
 use Rattle.book_redo.specs.JournalSpec.Before.{Made}
 use Rattle.book_redo.specs.JournalSpec.Retaking.{unread}
@@ -22,27 +18,27 @@ IsPage (opens o) = ⊤
 IsPage (extends x) = ⊤
 IsPage _ = ⊥
 
-module _ (t n : ℕ) (es : List Effect) (ns : List TxName) (k : SendKind) (d : ℕ) (gone : List ℕ) where
-  page_from : (o : fields.Origin) → IsPage (change_from t n o es ns k d gone)
+module _ (r : PageRecord) where
+  page_from : (o : fields.Origin) → IsPage (change_with o r)
   page_from (fields.start s) = tt
   page_from (fields.answered i p v) = tt
 
-  goes_from : (b : spec.Book) (o : fields.Origin) → goes_on b (change_from t n o es ns k d gone) ≡ true
+  goes_from : (b : spec.Book) (o : fields.Origin) → goes_on b (change_with o r) ≡ true
   goes_from b (fields.start s) = refl
   goes_from b (fields.answered i p v) = refl
 
-  time_from : (b : spec.Book) (o : fields.Origin) → is_in_time b (change_from t n o es ns k d gone) ≡ is_due b.clock d
+  time_from : (b : spec.Book) (o : fields.Origin) → is_in_time b (change_with o r) ≡ is_due b.clock r.deadline
   time_from b (fields.start s) = refl
   time_from b (fields.answered i p v) = refl
 
 pub is_page : (r : PageRecord) → IsPage (page_change r)
-is_page r = page_from _ _ _ _ _ _ _ (origin_of r.origin)
+is_page r = page_from r (origin_of r.origin)
 
 pub page_goes : (b : spec.Book) (r : PageRecord) → goes_on b (page_change r) ≡ true
-page_goes b r = goes_from _ _ _ _ _ _ _ b (origin_of r.origin)
+page_goes b r = goes_from r b (origin_of r.origin)
 
 pub page_time : (b : spec.Book) (r : PageRecord) → is_in_time b (page_change r) ≡ is_due b.clock r.deadline
-page_time b r = time_from _ _ _ _ _ _ _ b (origin_of r.origin)
+page_time b r = time_from r b (origin_of r.origin)
 
 pub its_number : (r : PageRecord) → number_in (page_change r) ≡ Some r.ticket
 its_number r = page_number r (origin_of r.origin) refl

@@ -1,5 +1,5 @@
 -- A prepared visit lands, by what became of its record: first whatever its ticket was for, then where that was its own visit.
-use Rattle.std.proofs.Common.{◌≡◌, ◌∙◌, ap, sym, subst, refl, ℕ, ◌+◌, ◌≤◌, ◌<◌, ◌^◌, Bool, true, Err, List, [], ◌∷◌, length, map, inl, inr, Option, Some, None, option_map, IfSome, Contains, arith}
+use Rattle.std.proofs.Common.{◌≡◌, ◌∙◌, ap, sym, subst, refl, ℕ, ◌+◌, ◌≤◌, ◌<◌, ◌^◌, Bool, true, Err, List, [], ◌∷◌, length, inl, inr, Option, Some, None, option_map, IfSome, Contains, arith}
 use Rattle.std.proofs.lemmas.Bool.Decides.{nat_tests}
 use Rattle.std.proofs.lemmas.Option.{slice_get_within}
 use Rattle.script_value.specs.declared.outcome.Reply.{Reply}
@@ -33,13 +33,8 @@ use Rattle.book_recovery.proofs.JournalSpec.Brief.{moved_told, length_short}
 use Rattle.book_recovery.proofs.JournalSpec.Grammar.{TellsInRange, IsToldWith, in_grammar}
 use Rattle.machine_states.specs.Views.{segment_of, suspended_of}
 use Rattle.machine_states.specs.declared.segment.Segment.{Segment}
-use Rattle.instance_cells.specs.Cells.{Effect}
-use Rattle.instance_cells.specs.Views.{effect_of}
-use Rattle.script_value.specs.declared.outcome.TxName.{TxName}
-use Rattle.script_nodes.specs.declared.script.SendKind.{SendKind}
 use Rattle.journal_records.specs.Fields as spec_records
-use Rattle.journal_records.specs.Reading.{change_from}
-use Rattle.journal_records.specs.Views.{origin_of as origin_in, page_change}
+use Rattle.journal_records.specs.Views.{origin_of as origin_in, change_with, page_change}
 use Rattle.journal_records.specs.declared.records.PageRecord.{PageRecord}
 use Rattle.book_recovery.specs.InstanceBook.declared.book.Book.{Book}
 use Rattle.book_recovery.specs.InstanceBook.declared.change.Change.{Change}
@@ -84,13 +79,12 @@ admit_spent n b (page name p) = refl
 
 -- ---- what is told of a change
 
-page_from : (number nonce : ℕ) (o : spec_records.Origin) (effects : List Effect) (left : List TxName) (kind : SendKind) (deadline : ℕ) (gone : List ℕ) (state : Option (List ℕ))
-    → IsToldWith (change_from number nonce o effects left kind deadline gone) state
-page_from number nonce (spec_records.start script) effects left kind deadline gone state = tt
-page_from number nonce (spec_records.answered instance shown answer) effects left kind deadline gone state = tt
+page_from : (o : spec_records.Origin) (p : PageRecord) (state : Option (List ℕ)) → IsToldWith (change_with o p) state
+page_from (spec_records.start script) p state = tt
+page_from (spec_records.answered instance shown answer) p state = tt
 
 page_with : (p : PageRecord) (state : Option (List ℕ)) → IsToldWith (page_change p) state
-page_with p state = page_from p.ticket p.nonce (origin_in p.origin) (map effect_of p.effects.items) p.left.items p.kind p.deadline p.evicted.items state
+page_with p state = page_from (origin_in p.origin) p state
 
 told_with : (t : Ticket) (c : Change) → IsToldWith (change_of c) (told_in t c)
 told_with t (Opens o) = page_with o.record (told_in t (Opens o))
@@ -163,7 +157,7 @@ page_in_range : (t : Ticket) (d : Destination) (s : eval.Segment) (p : PageRecor
 page_in_range t d s p nonce is low = by_origin (origin_in p.origin) refl
   where
     its : spec_records.Origin → spec.Change
-    its o = change_from p.ticket p.nonce o (map effect_of p.effects.items) p.left.items p.kind p.deadline p.evicted.items
+    its o = change_with o p
 
     start_nonce : (d : Destination) (o : spec.Opening) → IsChangeBy t s d (spec.opens o) → (o.nonce < 2 ^ 64) × (o.evicted ≡ [])
     start_nonce (start name) o h = subst (λ (x : spec.Opening). (x.nonce < 2 ^ 64) × (x.evicted ≡ [])) (sym h.1.1) (nonce, refl)

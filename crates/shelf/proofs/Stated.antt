@@ -1,16 +1,13 @@
 -- A change of a ticket's segment has the state that its script leaves, where the ticket is for its visit.
-use Rattle.std.proofs.Common.{◌≡◌, ◌∙◌, ap, sym, subst, refl, ℕ, List, [], ◌∷◌, ◌++◌, length, map, slice_get, Option, Some, None, inl, inr}
+use Rattle.std.proofs.Common.{◌≡◌, ◌∙◌, ap, sym, subst, refl, ℕ, List, [], ◌∷◌, ◌++◌, length, slice_get, Option, Some, None, inl, inr}
 use Rattle.std.proofs.lemmas.List.{map-append}
 use Rattle.script_nodes.specs.Setup.{Named, Library}
 use Rattle.page_names.specs.Names.{Destination, start, page}
 use Rattle.page_names.specs.declared.names.PageName.{PageName}
-use Rattle.script_value.specs.declared.outcome.TxName.{TxName}
 use Rattle.script_nodes.specs.declared.script.SendKind.{SendKind}
-use Rattle.instance_cells.specs.Cells.{Effect, reads_of}
-use Rattle.instance_cells.specs.Views.{effect_of}
+use Rattle.instance_cells.specs.Cells.{reads_of}
 use Rattle.journal_records.specs.Fields as spec_records
-use Rattle.journal_records.specs.Reading.{change_from}
-use Rattle.journal_records.specs.Views.{origin_of as origin_in, page_change}
+use Rattle.journal_records.specs.Views.{origin_of as origin_in, change_with, page_change}
 use Rattle.journal_records.specs.declared.records.PageRecord.{PageRecord}
 use Rattle.replay_spec.specs.Tape.{recorded, Answer, Tape, shows, finishes, ends, Outcome, paged, faulted, out_of_fuel}
 use Rattle.replay_spec.specs.Eval as eval
@@ -71,9 +68,9 @@ left_over s t d w is =
 -- ---- by the kinds of admission and of change
 
 -- a page's record that is the change of a start is an opening
-module _ (t : Ticket) (s : eval.Segment) (number nonce : ℕ) (effects : List Effect) (left : List TxName) (kind : SendKind) (deadline : ℕ) (gone : List ℕ) where
+module _ (t : Ticket) (s : eval.Segment) (p : PageRecord) where
   abbrev its : spec_records.Origin → spec.Change
-  its o = change_from number nonce o effects left kind deadline gone
+  its o = change_with o p
 
   opens_so : (o : spec_records.Origin) → IsStartBy t s (its o) → (k : SendKind) × ((until : ℕ) × (its o ≡ spec.opens (opening_by t s.effects s.left k until)))
   opens_so (spec_records.start script) is = (is.0, (is.1.0, ap spec.opens is.1.1))
@@ -85,11 +82,11 @@ module _ (t : Ticket) (s : eval.Segment) (number nonce : ℕ) (effects : List Ef
   extends_so n m (spec_records.answered instance shown answer) is = (is.0, (is.1.0, (is.1.1.0, ap spec.extends is.1.1.1)))
 
 pub start_shows : (t : Ticket) (s : eval.Segment) (p : PageRecord) → IsStartBy t s (page_change p) → (k : SendKind) × ((until : ℕ) × (page_change p ≡ spec.opens (opening_by t s.effects s.left k until)))
-start_shows t s p is = opens_so t s p.ticket p.nonce (map effect_of p.effects.items) p.left.items p.kind p.deadline p.evicted.items (origin_in p.origin) is
+start_shows t s p is = opens_so t s p (origin_in p.origin) is
 
 pub answer_shows : (t : Ticket) (s : eval.Segment) (n m : ℕ) (p : PageRecord) → IsAnswerBy t s n m (page_change p)
     → (k : SendKind) × ((until : ℕ) × ((went : List ℕ) × (page_change p ≡ spec.extends (extension_by t n m s.effects s.left k until went))))
-answer_shows t s n m p is = extends_so t s p.ticket p.nonce (map effect_of p.effects.items) p.left.items p.kind p.deadline p.evicted.items n m (origin_in p.origin) is
+answer_shows t s n m p is = extends_so t s p n m (origin_in p.origin) is
 
 keeps_it : (o : StoredOutcome) (P : Suspended → Type 0) (d : Suspended) → Keeps o P → state_of o ≡ Some d → P d
 keeps_it (Shown bytes kind state) P d k e = subst P (cc e) k

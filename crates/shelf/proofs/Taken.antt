@@ -1,5 +1,5 @@
 -- What can be landed would be taken in again by a recovery.
-use Rattle.std.proofs.Common.{◌≡◌, ◌∙◌, ap, sym, subst, refl, ℕ, List, [], length, map, Bool, true, if◌then◌else◌, slice_get, Option, Some, None, option_map, inl, inr}
+use Rattle.std.proofs.Common.{◌≡◌, ◌∙◌, ap, sym, subst, refl, ℕ, List, [], length, Bool, true, if◌then◌else◌, slice_get, Option, Some, None, option_map, inl, inr}
 use Rattle.std.proofs.lemmas.Bool.{and_from}
 use Rattle.script_value.specs.Val.{Val}
 use Rattle.script_value.specs.declared.outcome.TxName.{TxName}
@@ -7,11 +7,8 @@ use Rattle.script_nodes.specs.Setup.{Named, Library}
 use Rattle.page_names.specs.Names.{Destination, start, page}
 use Rattle.page_names.specs.declared.names.PageName.{PageName}
 use Rattle.instance_cells.specs.Cells.{Effect}
-use Rattle.instance_cells.specs.Views.{effect_of}
-use Rattle.script_nodes.specs.declared.script.SendKind.{SendKind}
 use Rattle.journal_records.specs.Fields as spec_records
-use Rattle.journal_records.specs.Reading.{change_from}
-use Rattle.journal_records.specs.Views.{origin_of as origin_in, page_change}
+use Rattle.journal_records.specs.Views.{origin_of as origin_in, change_with, page_change}
 use Rattle.journal_records.specs.declared.records.PageRecord.{PageRecord}
 use Rattle.replay_spec.specs.Eval as eval
 use Rattle.replay_spec.specs.Book as spec
@@ -100,13 +97,12 @@ evicted_in (spec.extends x) = x.evicted
 evicted_in _ = []
 
 -- a page's record tells the pages that went for it
-evicted_from : (number nonce : ℕ) (o : spec_records.Origin) (effects : List Effect) (left : List TxName) (kind : SendKind) (deadline : ℕ) (gone : List ℕ)
-    → evicted_in (change_from number nonce o effects left kind deadline gone) ≡ gone
-evicted_from number nonce (spec_records.start script) effects left kind deadline gone = refl
-evicted_from number nonce (spec_records.answered instance shown answer) effects left kind deadline gone = refl
+evicted_from : (o : spec_records.Origin) (p : PageRecord) → evicted_in (change_with o p) ≡ p.evicted.items
+evicted_from (spec_records.start script) p = refl
+evicted_from (spec_records.answered instance shown answer) p = refl
 
 pub evicted_is : (p : PageRecord) → evicted_in (page_change p) ≡ p.evicted.items
-evicted_is p = evicted_from p.ticket p.nonce (origin_in p.origin) (map effect_of p.effects.items) p.left.items p.kind p.deadline p.evicted.items
+evicted_is p = evicted_from (origin_in p.origin) p
 
 pub goes_there : (all : List Named) (is : InOrder KeptInstance) (x : Extension) (n : ℕ) (i : Instance) → x.instance ≡ n → instance_at n (instances_of all is) ≡ Some i → CanShowAt x.instance x.show (gone_in x) is
     → can_go (gone_in x) i.used ≡ true
