@@ -129,7 +129,7 @@ start_fair : (rules : Rules) (b : Book) (t : Ticket) (k : ℕ) (s : Named) (outc
 start_fair rules b t k s (paged (shows kind) bytes) bound =
     let v = start_visit b t k s in
     let m = comes_to v (present s.script.cells rules.fuel) in
-    let c = opening (b.clock + rules.life) v m k kind in
+    let c = opens (opening rules b v m k kind) in
     let r = reply_by (shows kind) bytes (url_for v) in
     unless_fair b (full rules (shows kind) (starts k) (length b.instances)) (with_room rules b r m.entered (Some c))
     (recorded rules b r m.entered c (λ made. opening_fair b _ m.entered made refl (due b.clock rules.life bound.low bound.high)))
@@ -157,7 +157,7 @@ page_fair : (rules : Rules) (b : Book) (t : Ticket) (at : Place) (outcome : Outc
 page_fair rules b t at (paged (shows kind) bytes) bound whole h why e =
     let v = page_visit b t at in
     let m = comes_to v (present at.instance.cells rules.fuel) in
-    let c = extension (b.clock + rules.life) (gone_for rules t at) v m at.instance.number at.page.number kind in
+    let c = extends (extension rules b (gone_for rules t at) v m at.instance.number at.page.number kind) in
     let r = reply_by (shows kind) bytes (url_for v) in
     unless_fair b (full rules (shows kind) v.origin (length b.instances)) (with_room rules b r m.entered (Some c))
     (recorded rules b r m.entered c
@@ -165,7 +165,7 @@ page_fair rules b t at (paged (shows kind) bytes) bound whole h why e =
 page_fair rules b t at (paged finishes bytes) bound whole h why e =
     let v = page_visit b t at in
     let m = comes_to v (present at.instance.cells rules.fuel) in
-    let c = finish v m at.instance.number at.page.number in
+    let c = book.finishes (finish v m at.instance.number at.page.number) in
     let last = last_same b t at rules.fuel finishes bytes bound.fuel (whole.instances at.instance.number at.instance (stands_there b at h).0) e tt in
     let so : finishes_so m.effects (last_segment b t.number t.answer at) ≡ true =
     ap (finishes_so m.effects) last ∙ and_from (is_finish m.outcome) (are_effects m.effects m.effects) (ap is_finish e) (effects_self m.effects) in
@@ -173,7 +173,7 @@ page_fair rules b t at (paged finishes bytes) bound whole h why e =
 page_fair rules b t at (paged ends bytes) bound whole h why e =
     let v = page_visit b t at in
     let m = comes_to v (present at.instance.cells rules.fuel) in
-    let c = ending v m at.instance.number at.page.number in
+    let c = book.ends (ending v m at.instance.number at.page.number) in
     let last = last_same b t at rules.fuel ends bytes bound.fuel (whole.instances at.instance.number at.instance (stands_there b at h).0) e tt in
     let so : ends_so m.effects m.left (last_segment b t.number t.answer at) ≡ true =
     ap (ends_so m.effects m.left) last

@@ -132,38 +132,38 @@ no_room n = grind (arith, nat_tests)
 
 -- a start that shows a page, where there is room for one more instance
 start_shows : (life limit : ℕ) (b : Book) (v : Visit) (m : Segment) (k : ℕ) (kind : SendKind) (bytes : List ℕ) → v.origin ≡ starts k → m.outcome ≡ paged (shows kind) bytes
-    → settles (free_rules life limit b) b [] v m ≡ records (reply_by (shows kind) bytes (url_for v)) (opening (b.clock + life) v m k kind) m.entered
+    → settles (free_rules life limit b) b [] v m ≡ records (reply_by (shows kind) bytes (url_for v)) (opens (opening (free_rules life limit b) b v m k kind)) m.entered
 start_shows life limit b v m k kind bytes from e =
     let rules = free_rules life limit b in
     let n = length b.instances in
     let r = reply_by (shows kind) bytes (url_for v) in
-    let d = records r (opening (b.clock + life) v m k kind) m.entered in
+    let d = records r (opens (opening (free_rules life limit b) b v m k kind)) m.entered in
     ap (λ (o : Outcome). stopped rules b [] v m o) e
-    ∙ (ap (λ o. unless (full rules (shows kind) o n) (with_room rules b r m.entered (change_by (b.clock + life) [] v m o (shows kind)))) from
+    ∙ (ap (λ o. unless (full rules (shows kind) o n) (with_room rules b r m.entered (change_by (free_rules life limit b) b [] v m o (shows kind)))) from
     ∙ ap (λ (t : Bool). unless (when t (shelf_full n)) d) (no_room n))
 
 -- a visit of an answer that shows a page
 page_shows : (life limit : ℕ) (b : Book) (gone : List ℕ) (v : Visit) (m : Segment) (i p : ℕ) (kind : SendKind) (bytes : List ℕ) → v.origin ≡ answers i p → m.outcome ≡ paged (shows kind) bytes
-    → settles (free_rules life limit b) b gone v m ≡ records (reply_by (shows kind) bytes (url_for v)) (extension (b.clock + life) gone v m i p kind) m.entered
+    → settles (free_rules life limit b) b gone v m ≡ records (reply_by (shows kind) bytes (url_for v)) (extends (extension (free_rules life limit b) b gone v m i p kind)) m.entered
 page_shows life limit b gone v m i p kind bytes from e =
     let rules = free_rules life limit b in
     let r = reply_by (shows kind) bytes (url_for v) in
     ap (λ (o : Outcome). stopped rules b gone v m o) e
-    ∙ ap (λ o. unless (full rules (shows kind) o (length b.instances)) (with_room rules b r m.entered (change_by (b.clock + life) gone v m o (shows kind)))) from
+    ∙ ap (λ o. unless (full rules (shows kind) o (length b.instances)) (with_room rules b r m.entered (change_by (free_rules life limit b) b gone v m o (shows kind)))) from
 
 page_ends : (life limit : ℕ) (b : Book) (gone : List ℕ) (v : Visit) (m : Segment) (i p : ℕ) (bytes : List ℕ) → v.origin ≡ answers i p → m.outcome ≡ paged tape.ends bytes
-    → settles (free_rules life limit b) b gone v m ≡ records (Reply.ended bytes) (ending v m i p) m.entered
+    → settles (free_rules life limit b) b gone v m ≡ records (Reply.ended bytes) (ends (ending v m i p)) m.entered
 page_ends life limit b gone v m i p bytes from e =
     let rules = free_rules life limit b in
     ap (λ (o : Outcome). stopped rules b gone v m o) e
-    ∙ ap (λ o. unless (full rules tape.ends o (length b.instances)) (with_room rules b (Reply.ended bytes) m.entered (change_by (b.clock + life) gone v m o tape.ends))) from
+    ∙ ap (λ o. unless (full rules tape.ends o (length b.instances)) (with_room rules b (Reply.ended bytes) m.entered (change_by (free_rules life limit b) b gone v m o tape.ends))) from
 
 page_finishes : (life limit : ℕ) (b : Book) (gone : List ℕ) (v : Visit) (m : Segment) (i p : ℕ) (bytes : List ℕ) → v.origin ≡ answers i p → m.outcome ≡ paged tape.finishes bytes
-    → settles (free_rules life limit b) b gone v m ≡ records (Reply.finished bytes) (finish v m i p) m.entered
+    → settles (free_rules life limit b) b gone v m ≡ records (Reply.finished bytes) (finishes (finish v m i p)) m.entered
 page_finishes life limit b gone v m i p bytes from e =
     let rules = free_rules life limit b in
     ap (λ (o : Outcome). stopped rules b gone v m o) e
-    ∙ ap (λ o. unless (full rules tape.finishes o (length b.instances)) (with_room rules b (Reply.finished bytes) m.entered (change_by (b.clock + life) gone v m o tape.finishes))) from
+    ∙ ap (λ o. unless (full rules tape.finishes o (length b.instances)) (with_room rules b (Reply.finished bytes) m.entered (change_by (free_rules life limit b) b gone v m o tape.finishes))) from
 
 -- a publish of a start of this script
 start_decides : (rules : Rules) (b : Book) (t : Ticket) (k : ℕ) (s : Named) → b.down ≡ None → admit b t.target ≡ begins k s
@@ -248,7 +248,7 @@ start_published b o up apart runs goes timely =
             let q = comes_to v (present s.script.cells most_fuel) in
             let same : q ≡ m = λ i. comes_to (start_visit b (record { target = t.target; answer = t.answer; number = told.0 i; nonce = told.1 i }) o.script s) (present s.script.cells most_fuel) in
             let admits : admit b t.target ≡ begins o.script s = ap (admit b) at ∙ admits_start b o.script s apart found.1.0 in
-            let change : opening (b.clock + life) v m o.script o.kind ≡ opens o =
+            let change : opens (opening (free_rules life limit b) b v m o.script o.kind) ≡ opens o =
             λ i. opens (record { number = told.0 i; nonce = told.1 i; script = o.script; effects = show.did i; left = show.leaves i; kind = o.kind; deadline = due_at i; evicted = sym none i }) in (
               reply_by (shows o.kind) show.bytes (url_for v),
               start_decides (free_rules life 1 b) b t o.script s up admits
@@ -295,7 +295,7 @@ page_published b x up admitted runs goes timely =
             let admits : admit b t.target ≡ resumes at = ap (admit b) is ∙ found.admits in
             let gone : gone_for (free_rules life limit b) t at ≡ x.evicted =
             (λ i. goes_for limit (found.page_is i) (told.1 i) used) ∙ (ap (λ (k : ℕ). least_used k now) as_many ∙ sym gone_is) in
-            let change : extension (b.clock + life) x.evicted v m at.instance.number at.page.number x.kind ≡ extends x =
+            let change : extends (extension (free_rules life limit b) b x.evicted v m at.instance.number at.page.number x.kind) ≡ extends x =
             λ i. extends (record { number = told.1 i; nonce = told.2 i; instance = found.instance_is i; page = found.page_is i; answer = told.0 i; effects = show.did i; left = show.leaves i; kind = x.kind; deadline = due_at i; evicted = x.evicted }) in
             let r = reply_by (shows x.kind) show.bytes (url_for v) in (
               r,
@@ -342,7 +342,7 @@ ending_published b e up whole admitted runs =
             let v = page_visit b t at in
             let same = last_same b at e.number e.answer t w over told.0 told.1 in
             let admits : admit b t.target ≡ resumes at = ap (admit b) is ∙ found.admits in
-            let change : ending v m at.instance.number at.page.number ≡ ends e =
+            let change : ends (ending v m at.instance.number at.page.number) ≡ ends e =
             λ i. ends (record { number = told.1 i; instance = found.instance_is i; page = found.page_is i; answer = told.0 i; effects = did i; left = leaves i }) in (
               Reply.ended last.0,
               page_decides rules b t at up admits
@@ -378,7 +378,7 @@ finish_published b f up whole admitted runs =
             let v = page_visit b t at in
             let same = last_same b at f.number f.answer t w over told.0 told.1 in
             let admits : admit b t.target ≡ resumes at = ap (admit b) is ∙ found.admits in
-            let change : finish v m at.instance.number at.page.number ≡ finishes f =
+            let change : finishes (finish v m at.instance.number at.page.number) ≡ finishes f =
             λ i. finishes (record { number = told.1 i; instance = found.instance_is i; page = found.page_is i; answer = told.0 i; effects = did i }) in (
               Reply.finished last.0,
               page_decides rules b t at up admits

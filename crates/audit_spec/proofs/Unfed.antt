@@ -1,5 +1,5 @@
 -- What is published on the book of a shelf does not depend on whether the shelf follows another one's journal.
-use Rattle.std.proofs.Common.{◌≡◌, ◌+◌, ℕ, List, [], length, Option, Some, None, refl, ap, ◌∙◌}
+use Rattle.std.proofs.Common.{◌≡◌, ℕ, List, [], length, Option, Some, None, refl, ap, ◌∙◌}
 use Rattle.script_value.specs.declared.outcome.TxName.{TxName}
 use Rattle.page_names.specs.Names.{Destination, start, page}
 use Rattle.replay_spec.specs.Tape.{present, Outcome, paged}
@@ -32,7 +32,7 @@ room_unfed rules b r inside (Some c) = refl
 stopped_unfed : (rules : Rules) (b : Book) (gone : List ℕ) (v : Visit) (s : Segment) (o : Outcome) → stopped (without rules) (unfed b) gone v s o ≡ stopped (without rules) b gone v s o
 stopped_unfed rules b gone v s (paged how bytes) =
     ap (λ (d : Decision). unless (full (without rules) how v.origin (length b.instances)) d)
-    (room_unfed rules b (reply_by how bytes (url_for v)) s.entered (change_by (b.clock + rules.life) gone v s v.origin how))
+    (room_unfed rules b (reply_by how bytes (url_for v)) s.entered (change_by rules b gone v s v.origin how))
 stopped_unfed rules b gone v s (tape.faulted f) = refl
 stopped_unfed rules b gone v s (tape.out_of_fuel cost) = refl
 

@@ -2,8 +2,8 @@
 use Rattle.std.proofs.Common.{◌≡◌, ◌∙◌, ap, sym, subst, ℕ, ◌+◌, ◌≤◌, Bool, not, ◌==◌, List, [], length, Option, Some, None, slice_get, refl, arith}
 use Rattle.script_value.specs.declared.outcome.TxName.{TxName}
 use Rattle.script_nodes.specs.Setup.{Named, Library}
-use Rattle.replay_spec.specs.Book.{Change, opens, extends, ends, finishes, sweeps, Instance, Book, is_live, reopened}
-use Rattle.replay_spec.specs.Change.{opened_by, instances_by, shown_by, page_by, root_by, ended_by, fresh}
+use Rattle.replay_spec.specs.Book.{Change, opens, extends, ends, finishes, sweeps, Instance, Book, is_live, reopened, page_by, root_by}
+use Rattle.replay_spec.specs.Change.{opened_by, instances_by, shown_by, ended_by, fresh}
 use Rattle.replay_spec.specs.Recovery.{redone, of_length, is_repeated, number_in}
 use Rattle.book_redo.specs.InstanceBook.declared.in_order.InOrder.{InOrder}
 use Rattle.book_redo.specs.InstanceBook.declared.book.Book as kept

@@ -14,8 +14,8 @@ use Rattle.script_nodes.specs.declared.script.SendKind.{SendKind}
 use Rattle.script_nodes.specs.declared.script.SendKind.TheVariants.{Suspend, Forward}
 use Rattle.replay_spec.specs.Tape.{recorded, Tape}
 use Rattle.replay_spec.specs.Book as spec
-use Rattle.replay_spec.specs.Book.{Page, at_number, Instance, Change, opens, extends, Book, instance_at, page_at}
-use Rattle.replay_spec.specs.Change.{put_page, put_instance, mend, shown_by, fresh, root_by, page_by, opened_by, logged_by, land}
+use Rattle.replay_spec.specs.Book.{Page, at_number, Instance, Change, opens, extends, Book, instance_at, page_at, root_by, page_by}
+use Rattle.replay_spec.specs.Change.{put_page, put_instance, mend, shown_by, fresh, opened_by, logged_by, land}
 use Rattle.replay_spec.specs.Admission.{◌>>=◌, when, Place}
 use Rattle.replay_spec.specs.Next.{home, page_tape, tape_for}
 use Rattle.replay_spec.specs.Recovery.{can_go, if_can_go, page_of_numbers, opening_visit, extension_visit, redone}

@@ -3,14 +3,13 @@ use Rattle.std.proofs.Common.{◌≡◌, ◌∙◌, ap, sym, subst, ℕ, List, [
 use Rattle.std.specs.declared.alloc.AllocError.{AllocError}
 use Rattle.script_value.specs.declared.outcome.Reply.{Reply}
 use Rattle.script_nodes.specs.Setup.{Named, Library}
-use Rattle.script_nodes.specs.declared.script.SendKind.{SendKind}
 use Rattle.page_names.specs.Names.{start, page}
 use Rattle.page_names.specs.declared.names.PageName.{PageName}
 use Rattle.replay_spec.specs.Eval.{Segment}
 use Rattle.replay_spec.specs.Book as spec
 use Rattle.replay_spec.specs.Book.{Instance, instance_at}
 use Rattle.replay_spec.proofs.Numbered.{number_of}
-use Rattle.replay_spec.specs.Change.{shown_by, ended_by}
+use Rattle.replay_spec.specs.Change.{ended_by}
 use Rattle.replay_spec.specs.Step.{Decision, records}
 use Rattle.replay_spec.specs.Step as step
 use Rattle.book_visits.specs.declared.prepared.Prepared.{Prepared}
@@ -19,7 +18,7 @@ use Rattle.instance_book.specs.declared.book.Book.{Book}
 use Rattle.instance_book.specs.Views.{Beside, book_of, instances_of}
 use Rattle.book_visits.specs.Changes.{decision_of}
 use Rattle.instance_book.specs.Makes.{rules_with}
-use Rattle.book_visits.specs.Prepares.{IsCarriedOut, next_page, extension_by, ending_by, IsOpening, IsExtension, IsEnding, IsFinish, IsDecisionBy, AnswersWithPage, IsOfSegment}
+use Rattle.book_visits.specs.Prepares.{IsCarriedOut, extension_by, ending_by, IsOpening, IsExtension, IsEnding, IsFinish, IsDecisionBy, AnswersWithPage, IsOfSegment}
 use Rattle.book_visits.proofs.Lands.{opening_itself, extension_itself, ending_itself, finish_itself}
 
 module _ (book : Book) (t : Ticket) (s : Segment) where
@@ -28,14 +27,15 @@ module _ (book : Book) (t : Ticket) (s : Segment) where
   CarriedBy library beside d p = IsCarriedOut library (rules_with 0 0 0 0) (book_of library beside book) d p
 
   -- a start showed a page
-  pub opens_itself : (name bytes : List ℕ) (kind : SendKind) (deadline : ℕ) (p : Prepared) → IsOpening p t bytes s.effects s.entered s.left kind deadline
+  pub opens_itself : (name bytes : List ℕ) (o : spec.Opening) (p : Prepared) → IsOpening p t bytes o s.entered → o ≡ opening_by t s.effects s.left o
       → IsOfSegment book t s (start name) p
-  opens_itself name bytes kind deadline p o = record {
-    decision = subst (IsDecisionBy t s (start name)) (sym o.recorded.decision) ((kind, (deadline, refl)), refl);
-    reply = subst AnswersWithPage (sym o.recorded.decision) tt;
+  opens_itself name bytes o p h is = record {
+    decision = subst (IsDecisionBy t s (start name)) (sym h.recorded.decision) (is, refl);
+    reply = subst AnswersWithPage (sym h.recorded.decision) tt;
     lands = λ library beside has.
-        subst (λ (d : Decision). CarriedBy library beside d p) (sym o.recorded.decision)
-        (opening_itself library 0 0 0 0 (book_of library beside book) t refl has bytes s.effects s.entered s.left kind deadline p o);
+        let its : IsOpening p t bytes (opening_by t s.effects s.left o) s.entered = subst (λ (x : spec.Opening). IsOpening p t bytes x s.entered) is h in
+        subst (λ (d : Decision). CarriedBy library beside d p) (sym its.recorded.decision)
+        (opening_itself library 0 0 0 0 (book_of library beside book) t refl has bytes s.effects s.left s.entered o p its);
   }
 
   -- an answer to a page freed the instance
@@ -73,27 +73,31 @@ module _ (book : Book) (t : Ticket) (s : Segment) where
         }
 
     -- or showed one
-    module _ (bytes : List ℕ) (kind : SendKind) (deadline : ℕ) (gone : List ℕ) where
+    module _ (bytes : List ℕ) (x : spec.Extension) where
       abbrev Extends : Prepared → Type 0
-      Extends p =
-          (scripts : List Named)
-          → IsExtension p t (i scripts) n.page bytes s.effects s.entered s.left kind deadline gone (shown_by s.effects s.left kind gone (next_page t n.page s.effects s.entered deadline))
+      Extends p = (scripts : List Named) → IsExtension p t (i scripts) bytes x s.entered
 
-      extends_itself : (p : Prepared) → Extends p → IsOfSegment book t s (page name n) p
-      extends_itself p x =
-          let decided : decision_of p ≡ records (step.shown bytes t.url) (spec.extends (extension_by t n.instance n.page s.effects s.left kind deadline gone)) s.entered =
-          (x []).recorded.decision
-          ∙ ap (λ (m : ℕ). records (step.shown bytes t.url) (spec.extends (extension_by t m n.page s.effects s.left kind deadline gone)) s.entered) (number []) in
+      -- as the ticket's segment did
+      abbrev IsIts : Type 0
+      IsIts = (scripts : List Named) → x ≡ extension_by t (i scripts).number n.page s.effects s.left x
+
+      extends_itself : (p : Prepared) → Extends p → IsIts → IsOfSegment book t s (page name n) p
+      extends_itself p h is =
+          let decided = (h []).recorded.decision in
+          let said : x ≡ extension_by t n.instance n.page s.effects s.left x = is [] ∙ ap (λ (m : ℕ). extension_by t m n.page s.effects s.left x) (number []) in
           record {
-            decision = subst (IsDecisionBy t s (page name n)) (sym decided) ((kind, (deadline, (gone, refl))), refl);
+            decision = subst (IsDecisionBy t s (page name n)) (sym decided) (said, refl);
             reply = subst AnswersWithPage (sym decided) tt;
             lands = λ library beside has.
-                subst (λ (d : Decision). CarriedBy library beside d p) (sym (x library.all).recorded.decision)
-                (extension_itself library 0 0 0 0 (book_of library beside book) t (i library.all) n.page bytes s.effects s.entered s.left p (here library.all) kind deadline gone (x library.all));
+                let j = i library.all in
+                let its : IsExtension p t j bytes (extension_by t j.number n.page s.effects s.left x) s.entered =
+                subst (λ (y : spec.Extension). IsExtension p t j bytes y s.entered) (is library.all) (h library.all) in
+                subst (λ (d : Decision). CarriedBy library beside d p) (sym its.recorded.decision)
+                (extension_itself library 0 0 0 0 (book_of library beside book) t j n.page bytes s.effects s.entered s.left p (here library.all) x its);
           }
 
       -- for which room was wanted too
-      pub extended_itself : (made : Result Prepared AllocError) (r : Result Prepared Reply) → IfOk made Extends → IfOk r (λ p. made ≡ Ok p)
+      pub extended_itself : (made : Result Prepared AllocError) (r : Result Prepared Reply) → IfOk made Extends → IfOk r (λ p. made ≡ Ok p) → IsIts
           → IfOk r (IsOfSegment book t s (page name n))
-      extended_itself made (Ok p) x is = extends_itself p (subst (λ (m : Result Prepared AllocError). IfOk m Extends) is x)
-      extended_itself made (Err e) x is = tt
+      extended_itself made (Ok p) h made_so is = extends_itself p (subst (λ (m : Result Prepared AllocError). IfOk m Extends) made_so h) is
+      extended_itself made (Err e) h made_so is = tt

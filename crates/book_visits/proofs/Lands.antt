@@ -11,9 +11,9 @@ use Rattle.instance_cells.specs.Cells.{Effect}
 use Rattle.replay_spec.specs.Tape.{shows, finishes, ends, paged}
 use Rattle.replay_spec.specs.Eval.{Segment}
 use Rattle.replay_spec.specs.Book as spec
-use Rattle.replay_spec.specs.Book.{Instance, Book, instance_at, at_number, spend}
+use Rattle.replay_spec.specs.Book.{Instance, root_by, Book, instance_at, at_number, spend}
 use Rattle.replay_spec.specs.Rules.{Rules}
-use Rattle.replay_spec.specs.Change.{put_instance, mend, without, shown_by, ended_by, fresh, opened_by}
+use Rattle.replay_spec.specs.Change.{put_instance, mend, without, shown_by, extended_by, ended_by, fresh, opened_by}
 use Rattle.replay_spec.specs.Admission.{Place}
 use Rattle.replay_spec.specs.Next.{start_visit, page_visit, url_for}
 use Rattle.replay_spec.specs.Step as step
@@ -38,7 +38,7 @@ use Rattle.instance_book.specs.Changes.{instances_after, ended_with, gone_in, sh
 use Rattle.book_visits.specs.Changes.{put_into, decision_by, decision_of, IfExtends}
 use Rattle.book_visits.specs.Fits.{IsFor, FitsStart}
 use Rattle.instance_book.specs.Makes.{rules_with}
-use Rattle.book_visits.specs.Prepares.{IsRecord, IsCarriedOut, Prepares, BeginsWithIts, first_page, first_instance, next_page, opening_by, extension_by, ending_by, finish_by, OpensWith, ExtendsBy, EndsBy, IsOpening, IsExtension, IsEnding, IsFinish, ExtendsTo, ShowsNone, AnswerKeepsState}
+use Rattle.book_visits.specs.Prepares.{IsRecord, IsCarriedOut, Prepares, BeginsWithIts, first_instance, opening_by, extension_by, ending_by, finish_by, OpensWith, ExtendsBy, EndsBy, IsOpening, IsExtension, IsEnding, IsFinish, ExtendsTo, ShowsNone, AnswerKeepsState}
 use Rattle.machine_states.specs.Machine.{Suspended}
 use Rattle.machine_states.specs.Views.{segment_of, state_of}
 use Rattle.machine_states.specs.declared.segment.Segment as stored
@@ -98,11 +98,12 @@ finishes_as scripts r (Some (Ends x)) is = tt
 finishes_as scripts r (Some (Finishes f)) is = refl
 
 -- the instance of a start that showed its first page
-pub first_is : (scripts : List Named) (t : Ticket) (s : Named) (effects : List Effect) (inside left : List TxName) (kind : SendKind) (deadline : ℕ)
+first_is : (scripts : List Named) (t : Ticket) (s : Named) (effects : List Effect) (left inside : List TxName) (kind : SendKind) (o : spec.Opening)
     → script_in scripts t.script ≡ s → t.cells ≡ s.script.cells
-    → first_instance scripts t effects inside left deadline ≡ shown_by effects left kind [] (first_page t effects inside deadline) (fresh s t.number)
-first_is scripts t s effects inside left Suspend deadline script cells = rw (script, cells) refl
-first_is scripts t s effects inside left Forward deadline script cells = rw (script, cells) refl
+    → let x = opening_by t effects left o in
+    first_instance scripts t x inside ≡ shown_by effects left kind [] (root_by x inside) (fresh s t.number)
+first_is scripts t s effects left inside Suspend o script cells = rw (script, cells) refl
+first_is scripts t s effects left inside Forward o script cells = rw (script, cells) refl
 
 -- a book with other instances, and more logged
 abbrev logged_with : ℕ → List Instance → Book → Book
@@ -129,55 +130,54 @@ module _ (library : Library) (fuel life instances pages : ℕ) (b : Book) (t : T
 
   start_shows : (k : ℕ) (named : Named) (s : Segment) (kind : SendKind) (bytes : List ℕ) → s.outcome ≡ paged (shows kind) bytes → nat_le instances (length b.instances) ≡ false
       → let v = start_visit b (ticket_of t) k named in
-      settles rules b [] v s ≡ records (step.shown bytes (url_for v)) (opening (b.clock + life) v s k kind) s.entered
+      settles rules b [] v s ≡ records (step.shown bytes (url_for v)) (spec.opens (opening rules b v s k kind)) s.entered
   start_shows k named s kind bytes e full = rw (e, full) refl
 
   -- a start's page, whatever the ticket is for
   pub opening_itself : b.scripts ≡ library.setup → (begins : BeginsWithIts library t)
-      → (bytes : List ℕ) (effects : List Effect) (inside left : List TxName) (kind : SendKind) (deadline : ℕ) (p : Prepared)
-      → IsOpening p t bytes effects inside left kind deadline
-      → IsCarriedOut library rules b (records (step.shown bytes t.url) (spec.opens (opening_by t effects left kind deadline)) inside) p
-  opening_itself setup begins bytes effects inside left kind deadline p o =
-      let x : spec.Opening = opening_by t effects left kind deadline in
+      → (bytes : List ℕ) (effects : List Effect) (left inside : List TxName) (o : spec.Opening) (p : Prepared)
+      → IsOpening p t bytes (opening_by t effects left o) inside
+      → IsCarriedOut library rules b (records (step.shown bytes t.url) (spec.opens (opening_by t effects left o)) inside) p
+  opening_itself setup begins bytes effects left inside o p h =
+      let x : spec.Opening = opening_by t effects left o in
       let d : Decision = records (step.shown bytes t.url) (spec.opens x) inside in
       let its : script_in library.all t.script ≡ begins.named = get_or_from_slice_get library.all t.script begins.named no_script begins.told in
-      let first : Instance = shown_by effects left kind [] (first_page t effects inside deadline) (fresh begins.named t.number) in
+      let first : Instance = shown_by effects left o.kind [] (root_by x inside) (fresh begins.named t.number) in
       let opened : opened_by (slice_get b.scripts t.start) x inside b.instances ≡ put_instance first b.instances =
       ap (λ (ss : List Named). opened_by (slice_get ss t.start) x inside b.instances) setup ∙ ap (λ (y : Option Named). opened_by y x inside b.instances) begins.present in
       let made : instances_after library.all p.change b.instances ≡ put_instance first b.instances =
-      opens_as library.all p.change _ b.instances o.change ∙ ap (λ (i : Instance). put_instance i b.instances) (first_is library.all t begins.named effects inside left kind deadline its begins.cells) in
-      carried p d (put_instance first) o.recorded.decision o.recorded.logged
+      opens_as library.all p.change _ b.instances h.change ∙ ap (λ (i : Instance). put_instance i b.instances) (first_is library.all t begins.named effects left inside o.kind o its begins.cells) in
+      carried p d (put_instance first) h.recorded.decision h.recorded.logged
       (λ n. ap (λ (is : List Instance). (step.shown bytes t.url, logged_with (t.number + 1) is (spend n b))) opened) made
 
   pub opening_lands : b.scripts ≡ library.setup → (k : ℕ) (named : Named) (s : Segment) (kind : SendKind) (bytes : List ℕ) (p : Prepared) → FitsStart library.all b t k named
       → s.outcome ≡ paged (shows kind) bytes → nat_le instances (length b.instances) ≡ false
-      → IsOpening p t bytes s.effects s.entered s.left kind (b.clock + life)
+      → IsOpening p t bytes (opening rules b (start_visit b (ticket_of t) k named) s t.start kind) s.entered
       → Prepares library rules b (settles rules b [] (start_visit b (ticket_of t) k named) s) (Ok p)
   opening_lands setup k named s kind bytes p fits e full o =
       let v = start_visit b (ticket_of t) k named in
-      let deadline = b.clock + life in
-      let record_of : ℕ → spec.Opening = λ m. record (opening_by t s.effects s.left kind deadline) { script = m } in
+      let record_of : ℕ → spec.Opening = λ m. opening rules b v s m kind in
       let same : records (step.shown bytes t.url) (spec.opens (record_of t.start)) s.entered ≡ records (step.shown bytes (url_for v)) (spec.opens (record_of k)) s.entered =
       ap (λ (u : List ℕ). records (step.shown bytes u) (spec.opens (record_of t.start)) s.entered) fits.run.url ∙ ap (λ (m : ℕ). records (step.shown bytes (url_for v)) (spec.opens (record_of m)) s.entered) fits.start in
       let present : slice_get library.setup t.start ≡ Some named =
       subst (λ (ss : List Named). slice_get ss t.start ≡ Some named) setup (subst (λ (m : ℕ). slice_get b.scripts m ≡ Some named) (sym fits.start) fits.present) in
       let begins : BeginsWithIts library t = record { named = named; told = fits.run.script; present = present; cells = fits.cells } in
       subst (λ (x : Decision). IsCarriedOut library rules b x p) (same ∙ sym (start_shows k named s kind bytes e full))
-      (opening_itself setup begins bytes s.effects s.entered s.left kind deadline p o)
+      (opening_itself setup begins bytes s.effects s.left s.entered (record_of t.start) p o)
 
   page_shows : (at : Place) (gone : List ℕ) (s : Segment) (kind : SendKind) (bytes : List ℕ) → s.outcome ≡ paged (shows kind) bytes
       → let v = page_visit b (ticket_of t) at in
-      settles rules b gone v s ≡ records (step.shown bytes (url_for v)) (extension (b.clock + life) gone v s at.instance.number at.page.number kind) s.entered
+      settles rules b gone v s ≡ records (step.shown bytes (url_for v)) (spec.extends (extension rules b gone v s at.instance.number at.page.number kind)) s.entered
   page_shows at gone s kind bytes e = rw e refl
 
   page_ends : (at : Place) (gone : List ℕ) (s : Segment) (bytes : List ℕ) → s.outcome ≡ paged ends bytes
       → let v = page_visit b (ticket_of t) at in
-      settles rules b gone v s ≡ records (step.ended bytes) (ending v s at.instance.number at.page.number) s.entered
+      settles rules b gone v s ≡ records (step.ended bytes) (spec.ends (ending v s at.instance.number at.page.number)) s.entered
   page_ends at gone s bytes e = rw e refl
 
   page_finishes : (at : Place) (gone : List ℕ) (s : Segment) (bytes : List ℕ) → s.outcome ≡ paged finishes bytes
       → let v = page_visit b (ticket_of t) at in
-      settles rules b gone v s ≡ records (step.finished bytes) (finish v s at.instance.number at.page.number) s.entered
+      settles rules b gone v s ≡ records (step.finished bytes) (spec.finishes (finish v s at.instance.number at.page.number)) s.entered
   page_finishes at gone s bytes e = rw e refl
 
   page_wants : (at : Place) (gone : List ℕ) (s : Segment) (kind : SendKind) (bytes : List ℕ) → s.outcome ≡ paged (shows kind) bytes
@@ -186,13 +186,14 @@ module _ (library : Library) (fuel life instances pages : ℕ) (b : Book) (t : T
 
   -- the page of an answer to a page of this instance, and the end and the finish with one, whatever the ticket is for
   module _ (i : Instance) (answered : ℕ) (bytes : List ℕ) (effects : List Effect) (inside left : List TxName) (p : Prepared) where
-    pub extension_itself : instance_at i.number b.instances ≡ Some i → (kind : SendKind) (deadline : ℕ) (gone : List ℕ)
-        → IsExtension p t i answered bytes effects inside left kind deadline gone (shown_by effects left kind gone (next_page t answered effects inside deadline))
-        → IsCarriedOut library rules b (records (step.shown bytes t.url) (spec.extends (extension_by t i.number answered effects left kind deadline gone)) inside) p
-    extension_itself found kind deadline gone x =
-        let d : Decision = records (step.shown bytes t.url) (spec.extends (extension_by t i.number answered effects left kind deadline gone)) inside in
-        let f : Instance → Instance = shown_by effects left kind gone (next_page t answered effects inside deadline) in
-        carried p d (mend i.number f) x.recorded.decision x.recorded.logged (λ n. refl) (extends_as library.all p.change i f b.instances found x.change)
+    pub extension_itself : instance_at i.number b.instances ≡ Some i → (x : spec.Extension)
+        → IsExtension p t i bytes (extension_by t i.number answered effects left x) inside
+        → IsCarriedOut library rules b (records (step.shown bytes t.url) (spec.extends (extension_by t i.number answered effects left x)) inside) p
+    extension_itself found x h =
+        let its : spec.Extension = extension_by t i.number answered effects left x in
+        let d : Decision = records (step.shown bytes t.url) (spec.extends its) inside in
+        carried p d (mend i.number (extended_by its inside)) h.recorded.decision h.recorded.logged (λ n. refl)
+        (extends_as library.all p.change i (extended_by its inside) b.instances found h.change)
 
     pub ending_itself : instance_at i.number b.instances ≡ Some i → IsEnding p t i answered bytes effects inside left (ended_by (ending_by t i.number answered effects left))
         → IsCarriedOut library rules b (records (step.ended bytes) (spec.ends (ending_by t i.number answered effects left)) inside) p
@@ -211,14 +212,15 @@ module _ (library : Library) (fuel life instances pages : ℕ) (b : Book) (t : T
   pub extension_lands : (at : Place) (gone : List ℕ) (s : Segment) (kind : SendKind) (bytes : List ℕ) (p : Prepared) → IsFor library.all t (page_visit b (ticket_of t) at)
       → instance_at at.instance.number b.instances ≡ Some at.instance
       → s.outcome ≡ paged (shows kind) bytes
-      → IsExtension p t at.instance at.page.number bytes s.effects s.entered s.left kind (b.clock + life) gone (shown_by s.effects s.left kind gone (next_page t at.page.number s.effects s.entered (b.clock + life)))
+      → IsExtension p t at.instance bytes (extension rules b gone (page_visit b (ticket_of t) at) s at.instance.number at.page.number kind) s.entered
       → Prepares library rules b (settles rules b gone (page_visit b (ticket_of t) at) s) (Ok p)
-  extension_lands at gone s kind bytes p fits found e x =
-      let change : spec.Change = spec.extends (extension_by t at.instance.number at.page.number s.effects s.left kind (b.clock + life) gone) in
+  extension_lands at gone s kind bytes p fits found e h =
+      let x : spec.Extension = extension rules b gone (page_visit b (ticket_of t) at) s at.instance.number at.page.number kind in
+      let change : spec.Change = spec.extends x in
       let same : records (step.shown bytes t.url) change s.entered ≡ records (step.shown bytes (url_for (page_visit b (ticket_of t) at))) change s.entered =
       ap (λ (u : List ℕ). records (step.shown bytes u) change s.entered) fits.url in
       subst (λ (y : Decision). IsCarriedOut library rules b y p) (same ∙ sym (page_shows at gone s kind bytes e))
-      (extension_itself at.instance at.page.number bytes s.effects s.entered s.left p found kind (b.clock + life) gone x)
+      (extension_itself at.instance at.page.number bytes s.effects s.entered s.left p found x h)
 
   pub ending_lands : (at : Place) (gone : List ℕ) (s : Segment) (bytes : List ℕ) (p : Prepared) → instance_at at.instance.number b.instances ≡ Some at.instance
       → s.outcome ≡ paged ends bytes → IsEnding p t at.instance at.page.number bytes s.effects s.entered s.left (ended_by (ending_by t at.instance.number at.page.number s.effects s.left))
@@ -238,12 +240,12 @@ module _ (library : Library) (fuel life instances pages : ℕ) (b : Book) (t : T
   pub extended : (at : Place) (gone : List ℕ) (s : Segment) (kind : SendKind) (bytes : List ℕ) (made : Result Prepared AllocError) (r : Result Prepared Reply)
       → IsFor library.all t (page_visit b (ticket_of t) at) → instance_at at.instance.number b.instances ≡ Some at.instance
       → s.outcome ≡ paged (shows kind) bytes
-      → IfOk made (λ p. IsExtension p t at.instance at.page.number bytes s.effects s.entered s.left kind (b.clock + life) gone (shown_by s.effects s.left kind gone (next_page t at.page.number s.effects s.entered (b.clock + life))))
+      → IfOk made (λ p. IsExtension p t at.instance bytes (extension rules b gone (page_visit b (ticket_of t) at) s at.instance.number at.page.number kind) s.entered)
       → IfOk r (λ p. made ≡ Ok p) → IfErr r (λ e. e ≡ reply.Memory)
       → Prepares library rules b (settles rules b gone (page_visit b (ticket_of t) at) s) r
   extended at gone s kind bytes made (Ok p) fits found e x is err =
       extension_lands at gone s kind bytes p fits found e
-      (subst (λ (m : Result Prepared AllocError). IfOk m (λ q. IsExtension q t at.instance at.page.number bytes s.effects s.entered s.left kind (b.clock + life) gone (shown_by s.effects s.left kind gone (next_page t at.page.number s.effects s.entered (b.clock + life))))) is x)
+      (subst (λ (m : Result Prepared AllocError). IfOk m (λ q. IsExtension q t at.instance bytes (extension rules b gone (page_visit b (ticket_of t) at) s at.instance.number at.page.number kind) s.entered)) is x)
   extended at gone s kind bytes made (Err q) fits found e x is err =
       subst (λ (z : Reply). Prepares library rules b (settles rules b gone (page_visit b (ticket_of t) at) s) (Err z)) (sym err) (page_wants at gone s kind bytes e)
 
@@ -276,16 +278,15 @@ pub under : {A E : Type 0} (P : List Named → A → Type 0) (r : Result A E) (s
 under P (Ok x) scripts h = h scripts
 under P (Err e) scripts h = tt
 
-pub room_made : (t : Ticket) (i : Numbered KeptInstance) (answered : ℕ) (bytes : List ℕ) (effects : List Effect) (inside left : List TxName) (kind : SendKind) (deadline : ℕ) (gone : List ℕ) (f : Instance → Instance) (n : ℕ) (b : RustBook.Book)
+pub room_made : (P : Prepared → Type 0) (i : Numbered KeptInstance) (f : Instance → Instance) (n : ℕ) (b : RustBook.Book)
     (made : Result Prepared AllocError) (r : Result Prepared Reply) → i.number ≡ n → instance_at n (instances_of [] b.instances) ≡ Some (instance_of [] i)
-    → IfOk made (λ p. IsExtension p t (instance_of [] i) answered bytes effects inside left kind deadline gone f) → IfOk made (CanBeShown i)
+    → IfOk made P → ((p : Prepared) → P p → ExtendsBy p.change (instance_of [] i) f) → IfOk made (CanBeShown i)
     → IfOk r (λ p. made ≡ Ok p) → OnOk r (HasRoomAt n b.instances) → IfOk r (λ p. HasRoomFor p.change b)
-room_made t i answered bytes effects inside left kind deadline gone f n b made (Ok p) number there x follows is room =
-    let one : IsExtension p t (instance_of [] i) answered bytes effects inside left kind deadline gone f =
-    subst (λ (m : Result Prepared AllocError). IfOk m (λ q. IsExtension q t (instance_of [] i) answered bytes effects inside left kind deadline gone f)) is x in
+room_made P i f n b made (Ok p) number there made_so extends follows is room =
+    let one : P p = subst (λ (m : Result Prepared AllocError). IfOk m P) is made_so in
     let its : CanBeShown i p = subst (λ (m : Result Prepared AllocError). IfOk m (CanBeShown i)) is follows in
-    room_by p.change i f n b number one.change its there room
-room_made t i answered bytes effects inside left kind deadline gone f n b made (Err q) number there x follows is room = tt
+    room_by p.change i f n b number (extends p one) its there room
+room_made P i f n b made (Err q) number there made_so extends follows is room = tt
 
 -- what shows no page
 pub ending_shows_none : (c : Option Change) (i : Instance) (f : Instance → Instance) → EndsBy c i f → ShowsNone c

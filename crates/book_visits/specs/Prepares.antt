@@ -6,14 +6,14 @@ use Rattle.script_value.specs.declared.outcome.Reply.{Reply}
 use Rattle.script_value.specs.declared.outcome.Reply.TheVariants as reply
 use Rattle.script_value.specs.declared.outcome.TxName.{TxName}
 use Rattle.script_nodes.specs.Setup.{Named, Library}
-use Rattle.script_nodes.specs.declared.script.SendKind.{SendKind}
 use Rattle.instance_cells.specs.Cells.{Effect, AreOn, reads_of}
 use Rattle.page_names.specs.Names.{Destination, start, page}
 use Rattle.page_names.specs.Views.{target_of}
 use Rattle.page_names.specs.declared.names.PageName.{PageName}
 use Rattle.replay_spec.specs.Eval.{Segment}
 use Rattle.replay_spec.specs.Book as spec
-use Rattle.replay_spec.specs.Book.{instance_at, spend}
+use Rattle.replay_spec.specs.Book.{root_by, instance_at, spend}
+use Rattle.replay_spec.specs.Change.{extended_by}
 use Rattle.replay_spec.specs.Rules.{Rules}
 use Rattle.replay_spec.specs.Admission.{Place, Admission, begins, resumes, refused, refusal_of, admit}
 use Rattle.replay_spec.specs.Next.{start_visit, page_visit}
@@ -76,53 +76,36 @@ WantsRoom (step.shelf_full count) = ⊤
 WantsRoom step.memory = ⊤
 WantsRoom _ = ⊥
 
--- the first page of the instance that a start begins
-abbrev pub first_page : Ticket → List Effect → List TxName → (deadline : ℕ) → spec.Page
-first_page t effects inside deadline = record {
+-- a page as the first one of the instance that a ticket's start begins, after a segment of these effects inside these transactions
+abbrev pub first_page : Ticket → List Effect → (inside : List TxName) → spec.Page → spec.Page
+first_page t effects inside p = record p {
   number = t.number;
   nonce = t.nonce;
   parent = None;
   answer = list no_vals;
   reads = reads_of effects;
   inside = inside;
-  deadline = deadline;
 }
 
--- the instance that a start begins, with its first page
-abbrev pub first_instance : List Named → Ticket → List Effect → (inside left : List TxName) → (deadline : ℕ) → spec.Instance
-first_instance all t effects inside left deadline = record (begun_at all t.script t.cells t.number effects left) {
-  used = record { page = t.number; last = t.number } ∷ [];
-  pages = first_page t effects inside deadline ∷ [];
-}
-
--- the page of an answer to the page of this number
-abbrev pub next_page : Ticket → (parent : ℕ) → List Effect → List TxName → (deadline : ℕ) → spec.Page
-next_page t parent effects inside deadline = record {
+-- a page as the one that a ticket's answer to the page of this number shows, after a segment of these effects inside these transactions
+abbrev pub next_page : Ticket → (parent : ℕ) → List Effect → (inside : List TxName) → spec.Page → spec.Page
+next_page t parent effects inside p = record p {
   number = t.number;
   nonce = t.nonce;
   parent = Some parent;
   answer = meaning t.answer;
   reads = reads_of effects;
   inside = inside;
-  deadline = deadline;
 }
 
--- the opening of a ticket's segment
-abbrev pub opening_by : Ticket → List Effect → List TxName → SendKind → (deadline : ℕ) → spec.Opening
-opening_by t effects left kind deadline = record {
-  number = t.number;
-  nonce = t.nonce;
-  script = t.start;
-  effects = effects;
-  left = left;
-  kind = kind;
-  deadline = deadline;
-  evicted = [];
-}
+-- an opening as that of a ticket's segment, of these effects, which left these transactions
+abbrev pub opening_by : Ticket → List Effect → (left : List TxName) → spec.Opening → spec.Opening
+opening_by t effects left o =
+    record o { number = t.number; nonce = t.nonce; script = t.start; effects = effects; left = left; evicted = [] }
 
--- the extension by a ticket's segment, for whose page these went
-abbrev pub extension_by : Ticket → (instance answered : ℕ) → List Effect → List TxName → SendKind → (deadline : ℕ) → (gone : List ℕ) → spec.Extension
-extension_by t instance answered effects left kind deadline gone = record {
+-- an extension as that of a ticket's segment which answered this page of this instance, of these effects, which left these transactions
+abbrev pub extension_by : Ticket → (instance answered : ℕ) → List Effect → (left : List TxName) → spec.Extension → spec.Extension
+extension_by t instance answered effects left x = record x {
   number = t.number;
   nonce = t.nonce;
   instance = instance;
@@ -130,9 +113,13 @@ extension_by t instance answered effects left kind deadline gone = record {
   answer = meaning t.answer;
   effects = effects;
   left = left;
-  kind = kind;
-  deadline = deadline;
-  evicted = gone;
+}
+
+-- the instance that a ticket's start begins, with the page of this opening inside these transactions
+abbrev pub first_instance : List Named → Ticket → spec.Opening → (inside : List TxName) → spec.Instance
+first_instance all t o inside = record (begun_at all t.script t.cells t.number o.effects o.left) {
+  used = record { page = t.number; last = t.number } ∷ [];
+  pages = root_by o inside ∷ [];
 }
 
 -- the ending by a ticket's segment
@@ -177,16 +164,15 @@ pub record IsLogged (p : Prepared) (t : Ticket) (d : Decision) : Type 0 where
   pub decision : decision_of p ≡ d
   pub logged : p.logged ≡ t.number + 1
 
--- what is prepared is the opening of a start that showed this page
-pub record IsOpening (p : Prepared) (t : Ticket) (bytes : List ℕ) (effects : List Effect) (inside left : List TxName) (kind : SendKind) (deadline : ℕ) : Type 0 where
-  pub recorded : IsLogged p t (records (shown bytes t.url) (spec.opens (opening_by t effects left kind deadline)) inside)
-  pub change : OpensWith p.change (λ all. first_instance all t effects inside left deadline)
+-- what is prepared is this opening by a start that showed this page, inside these transactions
+pub record IsOpening (p : Prepared) (t : Ticket) (bytes : List ℕ) (o : spec.Opening) (inside : List TxName) : Type 0 where
+  pub recorded : IsLogged p t (records (shown bytes t.url) (spec.opens o) inside)
+  pub change : OpensWith p.change (λ all. first_instance all t o inside)
 
--- what is prepared is the extension by an answer to a page of the instance that showed this page, for which these went, and makes of the
--- instance what f does
-pub record IsExtension (p : Prepared) (t : Ticket) (i : spec.Instance) (answered : ℕ) (bytes : List ℕ) (effects : List Effect) (inside left : List TxName) (kind : SendKind) (deadline : ℕ) (gone : List ℕ) (f : spec.Instance → spec.Instance) : Type 0 where
-  pub recorded : IsLogged p t (records (shown bytes t.url) (spec.extends (extension_by t i.number answered effects left kind deadline gone)) inside)
-  pub change : ExtendsBy p.change i f
+-- what is prepared is this extension of the instance by an answer that showed this page, inside these transactions
+pub record IsExtension (p : Prepared) (t : Ticket) (i : spec.Instance) (bytes : List ℕ) (x : spec.Extension) (inside : List TxName) : Type 0 where
+  pub recorded : IsLogged p t (records (shown bytes t.url) (spec.extends x) inside)
+  pub change : ExtendsBy p.change i (extended_by x inside)
 
 -- what is prepared is the ending of the instance by an answer with this page, and makes of the instance what f does
 pub record IsEnding (p : Prepared) (t : Ticket) (i : spec.Instance) (answered : ℕ) (bytes : List ℕ) (effects : List Effect) (inside left : List TxName) (f : spec.Instance → spec.Instance) : Type 0 where
@@ -271,14 +257,14 @@ pub record OpensAs (t : Ticket) (effects : List Effect) (inside : List TxName) (
   pub script : o.instance.script ≡ t.script
   pub pages : pages_of o.instance.pages ≡ []
   pub shown : shown_in o.instance.pages ≡ []
-  pub page : page_of o.page ≡ first_page t effects inside o.page.item.deadline
+  pub page : page_of o.page ≡ first_page t effects inside (page_of o.page)
   pub state : IsKeptFrom None 0 d (kept_at o.page)
   pub told : suspended_of o.state ≡ d
 
 -- an answer's page follows the one that was answered: it is the page of the ticket, after what its segment did, and has this state
 pub record ExtendsAs (t : Ticket) (number answered : ℕ) (effects : List Effect) (inside : List TxName) (d : Suspended) (x : Extension) : Type 0 where
   pub instance : x.instance ≡ number
-  pub page : page_of x.show.page ≡ next_page t answered effects inside x.show.page.item.deadline
+  pub page : page_of x.show.page ≡ next_page t answered effects inside (page_of x.show.page)
   pub state : IsKeptOfTicket t d x.show.page
   pub told : suspended_of x.state ≡ d
 
@@ -333,13 +319,12 @@ KeepsItsState t r c = KeepsStateOf t r (target_of t.target) c
 
 -- the change is the opening of a ticket's segment
 abbrev pub IsStartBy : Ticket → Segment → spec.Change → Type 0
-IsStartBy t s (spec.opens o) = (kind : SendKind) × ((deadline : ℕ) × (o ≡ opening_by t s.effects s.left kind deadline))
+IsStartBy t s (spec.opens o) = o ≡ opening_by t s.effects s.left o
 IsStartBy t s _ = ⊥
 
 -- the change is that of a ticket's segment which answered this page of this instance
 abbrev pub IsAnswerBy : Ticket → Segment → (instance answered : ℕ) → spec.Change → Type 0
-IsAnswerBy t s n m (spec.extends x) =
-    (kind : SendKind) × ((deadline : ℕ) × ((gone : List ℕ) × (x ≡ extension_by t n m s.effects s.left kind deadline gone)))
+IsAnswerBy t s n m (spec.extends x) = x ≡ extension_by t n m s.effects s.left x
 IsAnswerBy t s n m (spec.ends e) = e ≡ ending_by t n m s.effects s.left
 IsAnswerBy t s n m (spec.finishes f) = f ≡ finish_by t n m s.effects
 IsAnswerBy t s n m _ = ⊥

@@ -1,12 +1,13 @@
 -- What the program prepares of a ticket's segment.
-use Rattle.std.specs.Prelude.{ℕ, List, map}
+use Rattle.std.specs.Prelude.{ℕ, List, [], map}
 use Rattle.script_value.specs.declared.outcome.TxName.{TxName}
+use Rattle.script_value.specs.Views.{meaning}
 use Rattle.script_nodes.specs.Setup.{Named}
 use Rattle.instance_cells.specs.declared.effect.Effect.{Effect}
 use Rattle.instance_cells.specs.Views.{effect_of}
 use Rattle.machine_states.specs.Views.{suspended_of}
 use Rattle.replay_spec.specs.Book as spec
-use Rattle.replay_spec.specs.Change.{shown_by, ended_by}
+use Rattle.replay_spec.specs.Change.{ended_by}
 use Rattle.replay_spec.specs.Eviction.{goes_for}
 use Rattle.instance_book.specs.declared.numbered.Numbered.{Numbered}
 use Rattle.instance_book.specs.declared.instance.KeptInstance.{KeptInstance}
@@ -18,15 +19,37 @@ use Rattle.instance_book.specs.Views.{pages_of, used_of, instance_of}
 use Rattle.instance_book.specs.Places.{CanFollow}
 use Rattle.book_visits.specs.Changes.{IfExtends}
 use Rattle.instance_book.specs.Changes.{gone_in}
-use Rattle.book_visits.specs.Prepares.{next_page, ending_by, IsOpening, IsExtension, IsEnding, IsFinish, OpensTo, ExtendsTo}
+use Rattle.book_visits.specs.Prepares.{ending_by, IsOpening, IsExtension, IsEnding, IsFinish, OpensTo, ExtendsTo}
 
 -- ---- of a ticket
 
--- what the segment of a page, for which these went, makes of an instance whose page it answered
-abbrev pub gone_on : Ticket → (parent : ℕ) → ShownPage → (gone : List ℕ) → spec.Instance → spec.Instance
-gone_on t parent p gone i =
-    let effects = map effect_of p.effects.items in
-    shown_by effects p.left.items p.kind gone (next_page t parent effects p.inside.items p.deadline) i
+-- the opening of a ticket's start that showed this page
+abbrev pub opening_of : Ticket → ShownPage → spec.Opening
+opening_of t p = record {
+  number = t.number;
+  nonce = t.nonce;
+  script = t.start;
+  effects = map effect_of p.effects.items;
+  left = p.left.items;
+  kind = p.kind;
+  deadline = p.deadline;
+  evicted = [];
+}
+
+-- the extension of an instance by a ticket's answer that showed this page, for which these pages went
+abbrev pub extension_of : Ticket → (instance answered : ℕ) → ShownPage → (gone : List ℕ) → spec.Extension
+extension_of t instance answered p gone = record {
+  number = t.number;
+  nonce = t.nonce;
+  instance = instance;
+  page = answered;
+  answer = meaning t.answer;
+  effects = map effect_of p.effects.items;
+  left = p.left.items;
+  kind = p.kind;
+  deadline = p.deadline;
+  evicted = gone;
+}
 
 -- the pages of an instance that go for the page of an answer, where so many may be left with it
 abbrev pub goers : (limit : ℕ) → Ticket → (parent : ℕ) → Numbered KeptInstance → List ℕ
@@ -35,9 +58,8 @@ goers limit t parent i = goes_for limit parent t.number (used_of i.item.pages)
 -- what is prepared for a page that an answer showed, where so many pages may be left
 abbrev pub Shows : Ticket → (parent : ℕ) → (bytes : List ℕ) → ShownPage → (limit : ℕ) → Numbered KeptInstance → Prepared → Type 0
 Shows t parent bytes p limit i made =
-    let gone = goers limit t parent i in
-    (all : List Named)
-    → IsExtension made t (instance_of all i) parent bytes (map effect_of p.effects.items) p.inside.items p.left.items p.kind p.deadline gone (gone_on t parent p gone)
+    let x = extension_of t i.number parent p (goers limit t parent i) in
+    (all : List Named) → IsExtension made t (instance_of all i) bytes x p.inside.items
 
 -- the extension that is prepared, if it is one, has a page that can follow those of the instance
 abbrev pub CanBeShown : Numbered KeptInstance → Prepared → Type 0
@@ -57,8 +79,7 @@ FinishesOn t instance parent bytes effects inside p = IsFinish p t instance pare
 
 -- what is prepared for a page that a start showed
 abbrev pub OpensOn : Ticket → (bytes : List ℕ) → ShownPage → Prepared → Type 0
-OpensOn t bytes page p =
-    IsOpening p t bytes (map effect_of page.effects.items) page.inside.items page.left.items page.kind page.deadline
+OpensOn t bytes page p = IsOpening p t bytes (opening_of t page) page.inside.items
 
 -- the first page of an instance that is prepared has the state of the page that was shown
 abbrev pub KeepsFirstState : Ticket → ShownPage → Prepared → Type 0

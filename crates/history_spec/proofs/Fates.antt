@@ -1,5 +1,5 @@
 -- The fate of an event is read off its reply.
-use Rattle.std.proofs.Common.{◌≡◌, ◌+◌, ◌==◌, ◌^◌, ℕ, Bool, true, false, List, [], length, Option, Some, None, refl, sym, ◌∙◌, ap, arith, nat_le, if◌then◌else◌}
+use Rattle.std.proofs.Common.{◌≡◌, ◌==◌, ◌^◌, ℕ, Bool, true, false, List, [], length, Option, Some, None, refl, sym, ◌∙◌, ap, arith, nat_le, if◌then◌else◌}
 use Rattle.std.specs.Prelude.{⊤}
 use Rattle.script_value.specs.declared.outcome.TxName.{TxName}
 use Rattle.script_value.specs.declared.outcome.Refusal.{Refusal}
@@ -60,7 +60,7 @@ full_plain rules how v count = grind arith
 stopped_plain : (rules : Rules) (b : Book) (gone : List ℕ) (v : Visit) (s : Segment) (o : Outcome) → DecidesPlain (stopped rules b gone v s o)
 stopped_plain rules b gone v s (paged how bytes) =
     unless_plain (full rules how v.origin (length b.instances)) _ (full_plain rules how v (length b.instances))
-    (room_plain rules b (reply_by how bytes (url_for v)) s.entered (change_by (b.clock + rules.life) gone v s v.origin how) (page_plain how bytes (url_for v)))
+    (room_plain rules b (reply_by how bytes (url_for v)) s.entered (change_by rules b gone v s v.origin how) (page_plain how bytes (url_for v)))
 stopped_plain rules b gone v s (faulted f) = tt
 stopped_plain rules b gone v s (tape.out_of_fuel cost) = tt
 

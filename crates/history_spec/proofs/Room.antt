@@ -55,22 +55,22 @@ abbrev SparesFrom : (limit : ℕ) → List Instance → (gone : List ℕ) → Or
 SparesFrom limit is gone (starts k) = ⊤
 SparesFrom limit is gone (answers k page) = (i : Instance) → instance_at k is ≡ Some i → length gone ≤ (length i.used + 1) - limit
 
-change_spares : (limit deadline : ℕ) (is : List Instance) (gone : List ℕ) (v : Visit) (s : Segment) (origin : Origin) (how : How) → SparesFrom limit is gone origin
-    → SparesIn limit is (change_by deadline gone v s origin how)
-change_spares limit deadline is gone v s (starts k) (shows kind) h = tt
-change_spares limit deadline is gone v s (starts k) tape.finishes h = tt
-change_spares limit deadline is gone v s (starts k) tape.ends h = tt
-change_spares limit deadline is gone v s (answers k page) (shows kind) h = h
-change_spares limit deadline is gone v s (answers k page) tape.finishes h = tt
-change_spares limit deadline is gone v s (answers k page) tape.ends h = tt
+change_spares : (limit : ℕ) (rules : Rules) (b : Book) (is : List Instance) (gone : List ℕ) (v : Visit) (s : Segment) (origin : Origin) (how : How) → SparesFrom limit is gone origin
+    → SparesIn limit is (change_by rules b gone v s origin how)
+change_spares limit rules b is gone v s (starts k) (shows kind) h = tt
+change_spares limit rules b is gone v s (starts k) tape.finishes h = tt
+change_spares limit rules b is gone v s (starts k) tape.ends h = tt
+change_spares limit rules b is gone v s (answers k page) (shows kind) h = h
+change_spares limit rules b is gone v s (answers k page) tape.finishes h = tt
+change_spares limit rules b is gone v s (answers k page) tape.ends h = tt
 
 stopped_spares : (rules : Rules) (b : Book) (gone : List ℕ) (v : Visit) (s : Segment) (o : Outcome) → SparesFrom rules.pages b.instances gone v.origin
     → SparesBy rules.pages b.instances (stopped rules b gone v s o)
 stopped_spares rules b gone v s (paged how bytes) h =
-    let c = change_by (b.clock + rules.life) gone v s v.origin how in
+    let c = change_by rules b gone v s v.origin how in
     let r = reply_by how bytes (url_for v) in
     unless_spares rules.pages b.instances (full rules how v.origin (length b.instances)) (with_room rules b r s.entered c)
-    (room_spares rules b r s.entered c (change_spares rules.pages (b.clock + rules.life) b.instances gone v s v.origin how h))
+    (room_spares rules b r s.entered c (change_spares rules.pages rules b b.instances gone v s v.origin how h))
 stopped_spares rules b gone v s (tape.faulted f) h = tt
 stopped_spares rules b gone v s (tape.out_of_fuel cost) h = tt
 

@@ -41,13 +41,13 @@ unless_comes : (rules : Rules) (b : Book) (t : Ticket) (o : Option Reply) (d : D
 unless_comes rules b t None d h = h
 unless_comes rules b t (Some r) d h = tt
 
-told_by : (v : Visit) (s : Segment) (deadline : ℕ) (gone : List ℕ) (origin : Origin) (how : How) → TellsIf v.ticket deadline (change_by deadline gone v s origin how)
-told_by v s deadline gone (starts k) (shows kind) = (refl, refl, refl)
-told_by v s deadline gone (starts k) tape.ends = tt
-told_by v s deadline gone (starts k) tape.finishes = tt
-told_by v s deadline gone (answers i p) (shows kind) = (refl, refl)
-told_by v s deadline gone (answers i p) tape.ends = tt
-told_by v s deadline gone (answers i p) tape.finishes = tt
+told_by : (rules : Rules) (b : Book) (v : Visit) (s : Segment) (gone : List ℕ) (origin : Origin) (how : How) → TellsIf v.ticket (b.clock + rules.life) (change_by rules b gone v s origin how)
+told_by rules b v s gone (starts k) (shows kind) = (refl, refl, refl)
+told_by rules b v s gone (starts k) tape.ends = tt
+told_by rules b v s gone (starts k) tape.finishes = tt
+told_by rules b v s gone (answers i p) (shows kind) = (refl, refl)
+told_by rules b v s gone (answers i p) tape.ends = tt
+told_by rules b v s gone (answers i p) tape.finishes = tt
 
 measured : (rules : Rules) (b : Book) (t : Ticket) (r : Reply) (c : Change) (inside : List TxName) (o p : Option Reply) → too_long rules.journal b c ≡ o → Tells t (b.clock + rules.life) c
     → Comes rules b t (unless (or_else o p) (records r c inside))
@@ -62,7 +62,7 @@ room_comes rules b t r inside (Some c) h = measured rules b t r c inside (too_lo
 stopped_comes : (rules : Rules) (b : Book) (gone : List ℕ) (v : Visit) (s : Segment) (o : Outcome) → Comes rules b v.ticket (stopped rules b gone v s o)
 stopped_comes rules b gone v s (paged how bytes) =
     unless_comes rules b v.ticket (full rules how v.origin (length b.instances)) _
-    (room_comes rules b v.ticket (reply_by how bytes (url_for v)) s.entered (change_by (b.clock + rules.life) gone v s v.origin how) (told_by v s (b.clock + rules.life) gone v.origin how))
+    (room_comes rules b v.ticket (reply_by how bytes (url_for v)) s.entered (change_by rules b gone v s v.origin how) (told_by rules b v s gone v.origin how))
 stopped_comes rules b gone v s (faulted f) = tt
 stopped_comes rules b gone v s (tape.out_of_fuel cost) = tt
 

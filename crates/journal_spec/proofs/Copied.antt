@@ -5,8 +5,8 @@ use Rattle.std.proofs.lemmas.List.{append-nil}
 use Rattle.std.proofs.lemmas.List.Elements.{filter-append}
 use Rattle.script_value.specs.declared.outcome.TxName.{TxName}
 use Rattle.script_nodes.specs.Setup.{Named}
-use Rattle.replay_spec.specs.Book.{Instance, Change, opens, extends, ends, finishes, sweeps, Line, changed, renewed, instance_at, is_live}
-use Rattle.replay_spec.specs.Change.{mend, page_by, shown_by, ended_by, opened_by, instances_by, logged_by, clock_by}
+use Rattle.replay_spec.specs.Book.{Instance, Change, opens, extends, ends, finishes, sweeps, Line, changed, renewed, instance_at, is_live, page_by}
+use Rattle.replay_spec.specs.Change.{mend, shown_by, ended_by, opened_by, instances_by, logged_by, clock_by}
 use Rattle.replay_spec.specs.Compaction.{is_there, stays_in, stays}
 use Rattle.replay_spec.specs.Admission.{◌>>=◌, Place}
 use Rattle.replay_spec.specs.Recovery.{if_can_go, page_of_numbers, resettled}

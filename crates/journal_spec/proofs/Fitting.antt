@@ -7,9 +7,9 @@ use Rattle.script_value.specs.declared.outcome.TxName.{TxName}
 use Rattle.script_nodes.specs.Setup.{Named}
 use Rattle.page_journal.specs.Records.{framed, frames}
 use Rattle.page_journal.proofs.Frames.{length-framed, length-at_rest}
-use Rattle.replay_spec.specs.Book.{Instance, Opening, Change, opens, extends, ends, finishes, sweeps, Doubt, changed, renewed, File, Book, instance_at, is_live, reopened}
+use Rattle.replay_spec.specs.Book.{Instance, Opening, Change, opens, extends, ends, finishes, sweeps, Doubt, changed, renewed, File, Book, instance_at, is_live, reopened, root_by, page_by}
 use Rattle.replay_spec.specs.Rules.{Rules, first_file}
-use Rattle.replay_spec.specs.Change.{mend, root_by, page_by, shown_by, ended_by, fresh, opened_by, instances_by, logged_by, clock_by, longer_by}
+use Rattle.replay_spec.specs.Change.{mend, shown_by, ended_by, fresh, opened_by, instances_by, logged_by, clock_by, longer_by}
 use Rattle.replay_spec.specs.Recovery.{redone, of_length, taken_in, first_of, used_up}
 use Rattle.machine_states.specs.Machine.{inside_of}
 use Rattle.replay_spec.specs.Invariant.{Among, Apart}

@@ -3,8 +3,8 @@ use Rattle.std.proofs.Common.{◌≡◌, ℕ, zero, suc, List, [], slice_get, Op
 use Rattle.std.proofs.lemmas.Option.{same_Some}
 use Rattle.script_value.specs.declared.outcome.TxName.{TxName}
 use Rattle.script_nodes.specs.Setup.{Named}
-use Rattle.replay_spec.specs.Book.{Page, Instance, Change, opens, extends, ends, finishes, sweeps, instance_at, page_at}
-use Rattle.replay_spec.specs.Change.{root_by, page_by, shown_by, fresh, opened_by}
+use Rattle.replay_spec.specs.Book.{Page, Instance, Change, opens, extends, ends, finishes, sweeps, instance_at, page_at, root_by, page_by}
+use Rattle.replay_spec.specs.Change.{shown_by, fresh, opened_by}
 use Rattle.replay_spec.specs.Compaction.{is_there, stays_in}
 use Rattle.replay_spec.specs.Admission.{◌>>=◌, Place}
 use Rattle.replay_spec.specs.Recovery.{page_of_numbers}

@@ -8,9 +8,9 @@ use Rattle.script_value.specs.declared.outcome.TxName.{TxName}
 use Rattle.instance_cells.specs.Cells.{reads_of}
 use Rattle.script_nodes.specs.Setup.{Named}
 use Rattle.replay_spec.specs.Tape.{recorded, Answer}
-use Rattle.replay_spec.specs.Book.{Page, Instance, Opening, Extension, Change, opens, extends, ends, finishes, sweeps, renewed, File, Book, instance_at, page_at, parent_of, chain, is_live}
+use Rattle.replay_spec.specs.Book.{Page, Instance, Opening, Extension, Change, opens, extends, ends, finishes, sweeps, renewed, File, Book, instance_at, page_at, parent_of, chain, is_live, root_by, page_by}
 use Rattle.replay_spec.specs.Rules.{first_file}
-use Rattle.replay_spec.specs.Change.{mend, put_page, root_by, page_by, shown_by, ended_by, fresh, opened_by, instances_by}
+use Rattle.replay_spec.specs.Change.{mend, put_page, shown_by, ended_by, fresh, opened_by, instances_by}
 use Rattle.replay_spec.specs.Admission.{◌>>=◌, Place}
 use Rattle.replay_spec.specs.Next.{home, past, answered, newest, tape_of}
 use Rattle.replay_spec.specs.Recovery.{page_of_numbers, extension_visit, number_in, with_number, first_of}

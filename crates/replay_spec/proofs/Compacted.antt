@@ -4,9 +4,9 @@ use Rattle.std.specs.Prelude.{◌&&◌, nat_lt, ⊤}
 use Rattle.std.proofs.lemmas.Bool.Decides.{nat_tests}
 use Rattle.script_value.specs.declared.outcome.TxName.{TxName}
 use Rattle.script_nodes.specs.Setup.{Named}
-use Rattle.replay_spec.specs.Book.{Instance, Change, opens, extends, ends, finishes, sweeps, Line, changed, renewed, File, Book, reopened, instance_at, page_at, is_live}
+use Rattle.replay_spec.specs.Book.{Instance, Change, opens, extends, ends, finishes, sweeps, Line, changed, renewed, File, Book, reopened, instance_at, page_at, is_live, page_by}
 use Rattle.replay_spec.specs.Rules.{Rules}
-use Rattle.replay_spec.specs.Change.{mend, page_by, shown_by, ended_by, opened_by, instances_by, logged_by, clock_by, land}
+use Rattle.replay_spec.specs.Change.{mend, shown_by, ended_by, opened_by, instances_by, logged_by, clock_by, land}
 use Rattle.server_limits.specs.Limits.{most_fuel}
 use Rattle.replay_spec.specs.Tape.{present}
 use Rattle.replay_spec.specs.Next.{comes_to}

@@ -11,9 +11,9 @@ use Rattle.replay_spec.specs.Names.{Has}
 use Rattle.replay_spec.specs.Tape.{Reads, present, recorded, Answer, Tape, shows, finishes, ends, Outcome, paged}
 use Rattle.replay_spec.specs.Tape as tape
 use Rattle.replay_spec.specs.Eval.{Segment, run, unread}
-use Rattle.replay_spec.specs.Book.{Page, Change, Book, instance_at, page_at, chain}
+use Rattle.replay_spec.specs.Book as spec
+use Rattle.replay_spec.specs.Book.{Page, Change, Book, instance_at, page_at, chain, page_by}
 use Rattle.replay_spec.specs.Rules.{Rules}
-use Rattle.replay_spec.specs.Change.{page_by}
 use Rattle.replay_spec.specs.Admission.{or_else, Place, Admission, begins, resumes, refused, admit}
 use Rattle.replay_spec.specs.Next.{Ticket, starts, Home, answered, past, tape_of, page_tape, Visit, url_for, home_of, newest, end_over, comes_to, start_visit, page_visit}
 use Rattle.replay_spec.specs.Step.{Reply, Decision, replies, records, compacts, gone_for, unless, too_long, full_journal, with_room, opening, extension, ending, finish, reply_by, full, stopped, decide}
@@ -126,7 +126,7 @@ start_sound rules b t k s (paged (shows kind) bytes) at e =
     let now = (newest v source).segment in
     let o = comes_to v source in
     let within : IsWithin [] now o = (follow s.script).0 now in
-    let c = opening (b.clock + rules.life) v o k kind in
+    let c = spec.opens (opening rules b v o k kind) in
     let r = reply_by (shows kind) bytes (url_for v) in
     let replays = again v rules.fuel s.script.cells kind bytes e in
     unless_sound b (full rules (shows kind) (starts k) (length b.instances)) (with_room rules b r o.entered (Some c)) (recorded_sound rules b r o.entered c (record {
@@ -177,14 +177,17 @@ page_sound rules b t at (paged (shows kind) bytes) a e =
     out : Segment
     out = comes_to v source
 
+    x : spec.Extension
+    x = extension rules b (gone_for rules t at) v out at.instance.number at.page.number kind
+
     c : Change
-    c = extension (b.clock + rules.life) (gone_for rules t at) v out at.instance.number at.page.number kind
+    c = spec.extends x
 
     r : Reply
     r = reply_by (shows kind) bytes (url_for v)
 
     p : Page
-    p = page_by (record { number = t.number; nonce = t.nonce; instance = at.instance.number; page = at.page.number; answer = t.answer; effects = out.effects; left = out.left; kind = kind; deadline = b.clock + rules.life; evicted = gone_for rules t at }) out.entered
+    p = page_by x out.entered
 
     replays : (h : Lineage at.instance.pages at.page) → Replays at.instance.script b.shelf at.instance.number (at.page ∷ h.ancestors) p
     replays h =
@@ -201,12 +204,12 @@ page_sound rules b t at (paged finishes bytes) a e =
     let v = page_visit b t at in
     let o = comes_to v (present at.instance.cells rules.fuel) in
     let from = leaves rules b t at a in
-    recorded_sound rules b (Reply.finished bytes) o.entered (finish v o at.instance.number at.page.number)
+    recorded_sound rules b (Reply.finished bytes) o.entered (spec.finishes (finish v o at.instance.number at.page.number))
     (record { instance = from.instance; page = from.page; here = from.here; shown = from.shown; is_open = from.is_open; among = λ x none. absurd (has_none x none) })
 page_sound rules b t at (paged ends bytes) a e =
     let v = page_visit b t at in
     let o = comes_to v (present at.instance.cells rules.fuel) in
-    recorded_sound rules b (Reply.ended bytes) o.entered (ending v o at.instance.number at.page.number) (leaves rules b t at a)
+    recorded_sound rules b (Reply.ended bytes) o.entered (spec.ends (ending v o at.instance.number at.page.number)) (leaves rules b t at a)
 page_sound rules b t at (tape.faulted f) a e = tt
 page_sound rules b t at (tape.out_of_fuel cost) a e = tt
 

@@ -10,10 +10,10 @@ use Rattle.replay_spec.specs.Names.{Has}
 use Rattle.replay_spec.specs.Tape.{present, finishes, ends, Outcome, paged}
 use Rattle.replay_spec.specs.Tape as tape
 use Rattle.replay_spec.specs.Eval.{Segment}
-use Rattle.replay_spec.specs.Book.{Page, Instance, Opening, Change, opens, extends, sweeps, Doubt, Book, is_live, instance_at, page_at, spend, landing, compacting, Work}
+use Rattle.replay_spec.specs.Book.{Page, Instance, Opening, Change, opens, extends, sweeps, Doubt, Book, is_live, instance_at, page_at, spend, landing, compacting, Work, root_by, page_by}
 use Rattle.replay_spec.specs.Book as change
 use Rattle.replay_spec.specs.Rules.{Rules}
-use Rattle.replay_spec.specs.Change.{mend, put_in_order, put_page, root_by, page_by, shown_by, ended_by, fresh, opened_by, instances_by, land}
+use Rattle.replay_spec.specs.Change.{mend, put_in_order, put_page, shown_by, ended_by, fresh, opened_by, instances_by, land}
 use Rattle.replay_spec.specs.Compaction.{reopened_with}
 use Rattle.replay_spec.specs.Admission.{or_else, Place, Admission, begins, resumes, refused, admit}
 use Rattle.replay_spec.specs.Next.{Ticket, Visit, url_for, newest, comes_to, start_visit, page_visit}
@@ -97,8 +97,8 @@ room_differs rules b r inside (Some c) h = unless_differs (or_else (too_long rul
 
 stopped_differs : (rules : Rules) (b : Book) (gone : List ℕ) (v : Visit) (s : Segment) (o : Outcome) → (IsInFuel o → Distinct s.entered) → DiffersBy (stopped rules b gone v s o)
 stopped_differs rules b gone v s (paged how bytes) h =
-    unless_differs (full rules how v.origin (length b.instances)) (with_room rules b (reply_by how bytes (url_for v)) s.entered (change_by (b.clock + rules.life) gone v s v.origin how))
-    (room_differs rules b (reply_by how bytes (url_for v)) s.entered (change_by (b.clock + rules.life) gone v s v.origin how) (h tt))
+    unless_differs (full rules how v.origin (length b.instances)) (with_room rules b (reply_by how bytes (url_for v)) s.entered (change_by rules b gone v s v.origin how))
+    (room_differs rules b (reply_by how bytes (url_for v)) s.entered (change_by rules b gone v s v.origin how) (h tt))
 stopped_differs rules b gone v s (tape.faulted f) h = tt
 stopped_differs rules b gone v s (tape.out_of_fuel cost) h = tt
 

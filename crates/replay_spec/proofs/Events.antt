@@ -4,9 +4,9 @@ use Rattle.std.specs.Prelude.{nat_le, if◌then◌else◌}
 use Rattle.script_value.specs.declared.outcome.TxName.{TxName}
 use Rattle.script_nodes.specs.PageNames.Names.{Destination}
 use Rattle.script_nodes.specs.Setup.{Named}
-use Rattle.replay_spec.specs.Book.{Instance, Opening, Change, opens, extends, ends, finishes, sweeps, Book, is_live, instance_at, spend}
+use Rattle.replay_spec.specs.Book.{Instance, Opening, Change, opens, extends, ends, finishes, sweeps, Book, is_live, instance_at, spend, root_by, page_by}
 use Rattle.replay_spec.specs.Rules.{Rules}
-use Rattle.replay_spec.specs.Change.{mend, root_by, page_by, shown_by, ended_by, fresh, opened_by, instances_by}
+use Rattle.replay_spec.specs.Change.{mend, shown_by, ended_by, fresh, opened_by, instances_by}
 use Rattle.replay_spec.specs.Step.{Event, take, publish, sweep, compact, crash, Fate, swept, Decision, publish_comes, sweep_comes, compact_comes, fate_of, settle, recovered, take_by, step}
 use Rattle.replay_spec.specs.Runs.{lands}
 use Rattle.replay_spec.specs.Invariant.{Apart, IsOrderly}

@@ -9,8 +9,8 @@ use Rattle.script_nodes.specs.PageNames.Names.{page}
 use Rattle.script_nodes.specs.PageNames.declared.names.PageName.{PageName}
 use Rattle.script_nodes.specs.Setup.{Named}
 use Rattle.replay_spec.specs.Names.{first_closed}
-use Rattle.replay_spec.specs.Book.{Eviction, Instance, Opening, Extension, Change, opens, extends, ends, finishes, sweeps, Book, is_live, instance_at, evictor, is_expired}
-use Rattle.replay_spec.specs.Change.{mend, root_by, page_by, evict, shown_by, ended_by, fresh, opened_by, instances_by}
+use Rattle.replay_spec.specs.Book.{Eviction, Instance, Opening, Extension, Change, opens, extends, ends, finishes, sweeps, Book, is_live, instance_at, evictor, is_expired, root_by, page_by}
+use Rattle.replay_spec.specs.Change.{mend, evict, shown_by, ended_by, fresh, opened_by, instances_by}
 use Rattle.replay_spec.specs.Admission.{when, or_else, is_one, closed_by, evicted_by, Place, resumes, admit}
 use Rattle.replay_spec.specs.Runs.{lands}
 use Rattle.replay_spec.specs.Invariant.{Apart, CanGo, IsKept, IsOf, IsOrderlyChange, Unused, IsOrderly}

@@ -1,5 +1,5 @@
 -- What becomes of events on a shelf that follows another one's journal, and on one that does not.
-use Rattle.std.proofs.Common.{◌≡◌, ◌<◌, ◌+◌, ◌==◌, ◌^◌, ℕ, List, [], length, Option, Some, None, Bool, true, false, refl, sym, ap, subst, ◌∙◌, inl, inr, ◌⊎◌, arith}
+use Rattle.std.proofs.Common.{◌≡◌, ◌<◌, ◌==◌, ◌^◌, ℕ, List, [], length, Option, Some, None, Bool, true, false, refl, sym, ap, subst, ◌∙◌, inl, inr, arith}
 use Rattle.std.specs.Prelude.{nat_le, nat_lt, if◌then◌else◌, ⊤}
 use Rattle.std.proofs.lemmas.Bool.Decides.{nat_tests}
 use Rattle.script_value.specs.Val.{Val}
@@ -10,15 +10,15 @@ use Rattle.script_nodes.specs.Setup.{Named}
 use Rattle.replay_spec.specs.Tape.{present, How, Outcome, paged}
 use Rattle.replay_spec.specs.Tape as tape
 use Rattle.replay_spec.specs.Eval.{Segment}
-use Rattle.replay_spec.specs.Book.{Change, sweeps, Doubt, Book, spend, reopened}
+use Rattle.replay_spec.specs.Book.{Change, sweeps, Doubt, Book, spend}
 use Rattle.replay_spec.specs.Rules.{Journal, Rules}
 use Rattle.replay_spec.specs.Change.{record_length, longer_by}
 use Rattle.replay_spec.specs.Compaction.{compacted_length, reopened_with}
 use Rattle.replay_spec.specs.Admission.{when, or_else, Admission, begins, resumes, refused, refusal_of, admit}
 use Rattle.replay_spec.specs.Next.{Ticket, Visit, url_for, comes_to, start_visit, page_visit}
-use Rattle.replay_spec.specs.Step.{Event, take, publish, sweep, compact, crash, Fate, plain, no_memory, disk_fault, lost, kept, Reply, following, memory, worn, swept, compacted, journal_full, live, most_of_journal, Decision, replies, records, compacts, unless, down_by, barred, refused_by, no_take, full, full_journal, too_long, with_room, change_by, reply_by, stopped, gone_for, decide, decide_sweep, decide_compact, publish_comes, sweep_comes, compact_comes, fate_of, settle, recovered, take_unless, take_by, step}
+use Rattle.replay_spec.specs.Step.{Event, take, publish, sweep, compact, crash, Fate, plain, no_memory, disk_fault, lost, kept, Reply, following, worn, swept, compacted, journal_full, live, most_of_journal, Decision, replies, records, compacts, unless, down_by, barred, refused_by, no_take, full, full_journal, too_long, with_room, change_by, reply_by, stopped, gone_for, decide, decide_sweep, decide_compact, publish_comes, sweep_comes, compact_comes, fate_of, settle, recovered, take_unless, take_by, step}
 use Rattle.replay_spec.specs.Runs.{lands}
-use Rattle.replay_spec.specs.Laws.{IsLawful, Moment, then_book}
+use Rattle.replay_spec.specs.Laws.{then_book}
 use Rattle.replay_spec.specs.Promises.{follower_reply, IsPutOff, AFollowerAnswersNoVisit, NoOtherFollows}
 use Rattle.replay_spec.proofs.Barred.{barred_by, leader_barred, follower_barred}
 use Rattle.replay_spec.proofs.Going.{Goes, stays, draws, spends, publishes, fails, goes_to, fails_at, rewrites, fails_to_rewrite, keeps, keeps_rewritten, loses, goes}
@@ -134,7 +134,7 @@ room_leads rules b r inside (Some c) h = by_journal rules.journal
 
 stopped_leads : (rules : Rules) (b : Book) (gone : List ℕ) (v : Visit) (s : Segment) (o : Outcome) → Leads (stopped rules b gone v s o)
 stopped_leads rules b gone v s (paged how bytes) =
-    let c = change_by (b.clock + rules.life) gone v s v.origin how in
+    let c = change_by rules b gone v s v.origin how in
     let r = reply_by how bytes (url_for v) in
     full_leads rules how v (length b.instances) (with_room rules b r s.entered c) (room_leads rules b r s.entered c (reply_leads how bytes (url_for v)))
 stopped_leads rules b gone v s (tape.faulted f) = tt

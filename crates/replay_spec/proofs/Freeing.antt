@@ -6,8 +6,8 @@ use Rattle.std.proofs.lemmas.Bool.Decides.{nat_tests}
 use Rattle.script_value.specs.declared.outcome.TxName.{TxName}
 use Rattle.script_nodes.specs.Setup.{Named}
 use Rattle.replay_spec.specs.Names.{Has}
-use Rattle.replay_spec.specs.Book.{Instance, Opening, Finish, Change, opens, extends, ends, finishes, sweeps, Book, is_over, is_live, instance_at}
-use Rattle.replay_spec.specs.Change.{mend, root_by, page_by, shown_by, ended_by, fresh, opened_by, instances_by}
+use Rattle.replay_spec.specs.Book.{Instance, Opening, Finish, Change, opens, extends, ends, finishes, sweeps, Book, is_over, is_live, instance_at, root_by, page_by}
+use Rattle.replay_spec.specs.Change.{mend, shown_by, ended_by, fresh, opened_by, instances_by}
 use Rattle.replay_spec.specs.Runs.{lands}
 use Rattle.replay_spec.specs.Invariant.{Apart, ClosedIn, IsSoundChange}
 use Rattle.replay_spec.specs.Laws.{then_book, closes}

@@ -1,6 +1,6 @@
 -- What an event makes of a book.
 use Rattle.std.proofs.Common.{◌≡◌, ◌<◌, ℕ, List, [], Option, Some, None, Bool, true, false, refl, ap, subst, ◌∙◌, arith}
-use Rattle.std.specs.Prelude.{nat_le, nat_lt, if◌then◌else◌, ◌+◌, length, ⊤}
+use Rattle.std.specs.Prelude.{nat_le, nat_lt, if◌then◌else◌, length, ⊤}
 use Rattle.std.proofs.lemmas.Bool.Decides.{nat_tests}
 use Rattle.script_value.specs.declared.outcome.TxName.{TxName}
 use Rattle.script_nodes.specs.PageNames.Names.{Destination}
@@ -80,7 +80,7 @@ room_no_file rules b r inside (Some c) = unless_no_file (or_else (too_long rules
 
 stopped_no_file : (rules : Rules) (b : Book) (gone : List ℕ) (v : Visit) (s : Segment) (o : Outcome) → NoFile (stopped rules b gone v s o)
 stopped_no_file rules b gone v s (paged how bytes) =
-    let c = change_by (b.clock + rules.life) gone v s v.origin how in
+    let c = change_by rules b gone v s v.origin how in
     unless_no_file (full rules how v.origin (length b.instances)) (with_room rules b (reply_by how bytes (url_for v)) s.entered c) (room_no_file rules b (reply_by how bytes (url_for v)) s.entered c)
 stopped_no_file rules b gone v s (tape.faulted f) = tt
 stopped_no_file rules b gone v s (tape.out_of_fuel cost) = tt

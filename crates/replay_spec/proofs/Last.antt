@@ -1,5 +1,5 @@
 -- The journal is asked last.
-use Rattle.std.proofs.Common.{◌≡◌, ℕ, ◌+◌, List, [], length, Option, Some, None, refl}
+use Rattle.std.proofs.Common.{◌≡◌, ℕ, List, [], length, Option, Some, None, refl}
 use Rattle.script_value.specs.declared.outcome.TxName.{TxName}
 use Rattle.replay_spec.specs.Tape.{present, Outcome, paged}
 use Rattle.replay_spec.specs.Tape as tape
@@ -24,7 +24,7 @@ room_last rules b r inside (Some c) = refl
 
 stopped_last : (rules : Rules) (b : Book) (gone : List ℕ) (v : Visit) (s : Segment) (o : Outcome) → stopped rules b gone v s o ≡ through rules.journal b (stopped (without rules) b gone v s o)
 stopped_last rules b gone v s (paged how bytes) =
-    let c = change_by (b.clock + rules.life) gone v s v.origin how in
+    let c = change_by rules b gone v s v.origin how in
     let r = reply_by how bytes (url_for v) in
     unless_last rules.journal b (full rules how v.origin (length b.instances)) (with_room rules b r s.entered c) (with_room (without rules) b r s.entered c) (room_last rules b r s.entered c)
 stopped_last rules b gone v s (tape.faulted f) = refl

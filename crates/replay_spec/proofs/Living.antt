@@ -4,8 +4,8 @@ use Rattle.std.specs.List.{list_all}
 use Rattle.std.proofs.lemmas.Bool.Decides.{nat_tests}
 use Rattle.script_value.specs.declared.outcome.TxName.{TxName}
 use Rattle.script_nodes.specs.Setup.{Named}
-use Rattle.replay_spec.specs.Book.{Page, Eviction, Instance, Opening, instance_at, is_over, is_live}
-use Rattle.replay_spec.specs.Change.{mend, without, opened_by, root_by, shown_by, fresh}
+use Rattle.replay_spec.specs.Book.{Page, Eviction, Instance, Opening, instance_at, is_over, is_live, root_by}
+use Rattle.replay_spec.specs.Change.{mend, without, opened_by, shown_by, fresh}
 use Rattle.replay_spec.specs.Compaction.{is_there}
 use Rattle.replay_spec.specs.Invariant.{IsRising}
 use Rattle.replay_spec.proofs.Found.{KeepsNumber}

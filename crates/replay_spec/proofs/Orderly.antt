@@ -47,20 +47,20 @@ room_orderly : (rules : Rules) (b : Book) (n : ℕ) (r : Reply) (inside : List T
 room_orderly rules b n r inside None h = tt
 room_orderly rules b n r inside (Some c) h = unless_orderly b n (or_else (too_long rules.journal b c) (full_journal rules.journal b c)) (records r c inside) h
 
-change_orderly : (b : Book) (deadline : ℕ) (gone : List ℕ) (v : Visit) (s : Segment) (origin : Origin) (how : How) → IsThere b gone origin → IsOrderlyOption b v.ticket.number (change_by deadline gone v s origin how)
-change_orderly b deadline gone v s (starts k) (shows kind) h = (tt, refl)
-change_orderly b deadline gone v s (starts k) tape.finishes h = tt
-change_orderly b deadline gone v s (starts k) tape.ends h = tt
-change_orderly b deadline gone v s (answers k m) (shows kind) h = (h, refl)
-change_orderly b deadline gone v s (answers k m) tape.finishes h = (h.0, refl)
-change_orderly b deadline gone v s (answers k m) tape.ends h = (h.0, refl)
+change_orderly : (rules : Rules) (b : Book) (gone : List ℕ) (v : Visit) (s : Segment) (origin : Origin) (how : How) → IsThere b gone origin → IsOrderlyOption b v.ticket.number (change_by rules b gone v s origin how)
+change_orderly rules b gone v s (starts k) (shows kind) h = (tt, refl)
+change_orderly rules b gone v s (starts k) tape.finishes h = tt
+change_orderly rules b gone v s (starts k) tape.ends h = tt
+change_orderly rules b gone v s (answers k m) (shows kind) h = (h, refl)
+change_orderly rules b gone v s (answers k m) tape.finishes h = (h.0, refl)
+change_orderly rules b gone v s (answers k m) tape.ends h = (h.0, refl)
 
 stopped_orderly : (rules : Rules) (b : Book) (gone : List ℕ) (v : Visit) (s : Segment) (o : Outcome) → IsThere b gone v.origin → IsOrderlyDecision b v.ticket.number (stopped rules b gone v s o)
 stopped_orderly rules b gone v s (paged how bytes) h =
-    let c = change_by (b.clock + rules.life) gone v s v.origin how in
+    let c = change_by rules b gone v s v.origin how in
     let r = reply_by how bytes (url_for v) in
     unless_orderly b v.ticket.number (full rules how v.origin (length b.instances)) (with_room rules b r s.entered c)
-    (room_orderly rules b v.ticket.number r s.entered c (change_orderly b (b.clock + rules.life) gone v s v.origin how h))
+    (room_orderly rules b v.ticket.number r s.entered c (change_orderly rules b gone v s v.origin how h))
 stopped_orderly rules b gone v s (tape.faulted f) h = tt
 stopped_orderly rules b gone v s (tape.out_of_fuel cost) h = tt
 

@@ -1,5 +1,5 @@
 -- What a refusal leaves as it was.
-use Rattle.std.proofs.Common.{◌≡◌, ◌≤◌, ◌<◌, ◌==◌, ◌^◌, ◌+◌, ℕ, List, [], length, Option, Some, None, Bool, true, false, refl, arith}
+use Rattle.std.proofs.Common.{◌≡◌, ◌≤◌, ◌<◌, ◌==◌, ◌^◌, ℕ, List, [], length, Option, Some, None, Bool, true, false, refl, arith}
 use Rattle.std.specs.Prelude.{nat_le, nat_lt, if◌then◌else◌, ⊤}
 use Rattle.std.proofs.lemmas.Bool.Decides.{nat_tests}
 use Rattle.script_value.specs.Val.{Val}
@@ -10,6 +10,7 @@ use Rattle.script_nodes.specs.Setup.{Named}
 use Rattle.replay_spec.specs.Tape.{present, How, shows, finishes, ends, Outcome, paged}
 use Rattle.replay_spec.specs.Tape as tape
 use Rattle.replay_spec.specs.Eval.{Segment}
+use Rattle.replay_spec.specs.Book as spec
 use Rattle.replay_spec.specs.Book.{Change, sweeps, landing, compacting, Doubt, Book, spend}
 use Rattle.replay_spec.specs.Compaction.{compacted_length, rewritten}
 use Rattle.replay_spec.specs.Rules.{Journal, Rules}
@@ -111,13 +112,13 @@ full_tells rules finishes origin count d h = h
 full_tells rules ends origin count d h = h
 
 change_tells : (rules : Rules) (b : Book) (gone : List ℕ) (v : Visit) (s : Segment) (bytes : List ℕ) (origin : Origin) (how : How)
-    → Tells (with_room rules b (reply_by how bytes (url_for v)) s.entered (change_by (b.clock + rules.life) gone v s origin how))
-change_tells rules b gone v s bytes (starts k) (shows kind) = room_tells rules.journal b _ s.entered (opening (b.clock + rules.life) v s k kind) tt
+    → Tells (with_room rules b (reply_by how bytes (url_for v)) s.entered (change_by rules b gone v s origin how))
+change_tells rules b gone v s bytes (starts k) (shows kind) = room_tells rules.journal b _ s.entered (spec.opens (opening rules b v s k kind)) tt
 change_tells rules b gone v s bytes (starts k) finishes = tt
 change_tells rules b gone v s bytes (starts k) ends = tt
-change_tells rules b gone v s bytes (answers i p) (shows kind) = room_tells rules.journal b _ s.entered (extension (b.clock + rules.life) gone v s i p kind) tt
-change_tells rules b gone v s bytes (answers i p) finishes = room_tells rules.journal b _ s.entered (finish v s i p) tt
-change_tells rules b gone v s bytes (answers i p) ends = room_tells rules.journal b _ s.entered (ending v s i p) tt
+change_tells rules b gone v s bytes (answers i p) (shows kind) = room_tells rules.journal b _ s.entered (spec.extends (extension rules b gone v s i p kind)) tt
+change_tells rules b gone v s bytes (answers i p) finishes = room_tells rules.journal b _ s.entered (spec.finishes (finish v s i p)) tt
+change_tells rules b gone v s bytes (answers i p) ends = room_tells rules.journal b _ s.entered (spec.ends (ending v s i p)) tt
 
 stopped_tells : (rules : Rules) (b : Book) (gone : List ℕ) (v : Visit) (s : Segment) (o : Outcome) → Tells (stopped rules b gone v s o)
 stopped_tells rules b gone v s (paged how bytes) = full_tells rules how v.origin (length b.instances) _ (change_tells rules b gone v s bytes v.origin how)
@@ -184,7 +185,7 @@ start_opens : (rules : Rules) (b : Book) (t : Ticket) (k : ℕ) (s : Named) (o :
 start_opens rules b t k s o (paged (shows kind) bytes) =
     let v = start_visit b t k s in
     limit_opens (nat_le rules.instances (length b.instances)) (shelf_full (length b.instances)) _ tt
-    (room_opens rules.journal b (Reply.shown bytes (url_for v)) o.entered (opening (b.clock + rules.life) v o k kind) tt)
+    (room_opens rules.journal b (Reply.shown bytes (url_for v)) o.entered (spec.opens (opening rules b v o k kind)) tt)
 start_opens rules b t k s o (paged finishes bytes) = tt
 start_opens rules b t k s o (paged ends bytes) = tt
 start_opens rules b t k s o (tape.faulted f) = tt

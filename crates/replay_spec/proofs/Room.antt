@@ -9,9 +9,9 @@ use Rattle.script_nodes.specs.Setup.{Named}
 use Rattle.replay_spec.specs.Tape.{present, How, shows, Outcome, paged}
 use Rattle.replay_spec.specs.Tape as tape
 use Rattle.replay_spec.specs.Eval.{Segment}
-use Rattle.replay_spec.specs.Book.{Use, Instance, Opening, Change, opens, extends, ends, finishes, sweeps, Book, is_live, instance_at, is_evicted}
+use Rattle.replay_spec.specs.Book.{Use, Instance, Opening, Change, opens, extends, ends, finishes, sweeps, Book, is_live, instance_at, is_evicted, root_by, page_by}
 use Rattle.replay_spec.specs.Rules.{Rules}
-use Rattle.replay_spec.specs.Change.{put_use, mend, root_by, page_by, used_by, unless_gone, shown_by, ended_by, fresh, opened_by, instances_by}
+use Rattle.replay_spec.specs.Change.{put_use, mend, used_by, unless_gone, shown_by, ended_by, fresh, opened_by, instances_by}
 use Rattle.replay_spec.specs.Eviction.{least, but, least_used, too_many, goes_for}
 use Rattle.replay_spec.specs.Admission.{or_else, is_one, Admission, begins, resumes, refused, admit}
 use Rattle.replay_spec.specs.Next.{Ticket, Origin, starts, answers, Visit, url_for, comes_to, start_visit, page_visit}
@@ -139,21 +139,21 @@ abbrev GoneRoom : (most : ℕ) → List Instance → (gone : List ℕ) → Origi
 GoneRoom most is gone (starts k) = ⊤
 GoneRoom most is gone (answers k m) = (i : Instance) → instance_at k is ≡ Some i → length (unless_gone gone i.used) + 1 ≤ most
 
-change_room : (most deadline : ℕ) (is : List Instance) (gone : List ℕ) (v : Visit) (s : Segment) (origin : Origin) (how : How) → GoneRoom most is gone origin
-    → OptionRoom most is (change_by deadline gone v s origin how)
-change_room most deadline is gone v s (starts k) (shows kind) h = tt
-change_room most deadline is gone v s (starts k) tape.finishes h = tt
-change_room most deadline is gone v s (starts k) tape.ends h = tt
-change_room most deadline is gone v s (answers k m) (shows kind) h = h
-change_room most deadline is gone v s (answers k m) tape.finishes h = tt
-change_room most deadline is gone v s (answers k m) tape.ends h = tt
+change_room : (most : ℕ) (rules : Rules) (b : Book) (is : List Instance) (gone : List ℕ) (v : Visit) (s : Segment) (origin : Origin) (how : How) → GoneRoom most is gone origin
+    → OptionRoom most is (change_by rules b gone v s origin how)
+change_room most rules b is gone v s (starts k) (shows kind) h = tt
+change_room most rules b is gone v s (starts k) tape.finishes h = tt
+change_room most rules b is gone v s (starts k) tape.ends h = tt
+change_room most rules b is gone v s (answers k m) (shows kind) h = h
+change_room most rules b is gone v s (answers k m) tape.finishes h = tt
+change_room most rules b is gone v s (answers k m) tape.ends h = tt
 
 stopped_room : (most : ℕ) (rules : Rules) (b : Book) (gone : List ℕ) (v : Visit) (s : Segment) (o : Outcome) → GoneRoom most b.instances gone v.origin → HasRoomBy most b.instances (stopped rules b gone v s o)
 stopped_room most rules b gone v s (paged how bytes) h =
-    let c = change_by (b.clock + rules.life) gone v s v.origin how in
+    let c = change_by rules b gone v s v.origin how in
     let r = reply_by how bytes (url_for v) in
     unless_room most b.instances (full rules how v.origin (length b.instances)) (with_room rules b r s.entered c)
-    (with_room_room most rules b r s.entered c (change_room most (b.clock + rules.life) b.instances gone v s v.origin how h))
+    (with_room_room most rules b r s.entered c (change_room most rules b b.instances gone v s v.origin how h))
 stopped_room most rules b gone v s (tape.faulted f) h = tt
 stopped_room most rules b gone v s (tape.out_of_fuel cost) h = tt
 

@@ -13,9 +13,9 @@ use Rattle.replay_spec.specs.Names.{first_closed}
 use Rattle.replay_spec.specs.Tape.{present, shows, Outcome, paged, Now}
 use Rattle.replay_spec.specs.Tape as tape
 use Rattle.replay_spec.specs.Eval.{Segment}
-use Rattle.replay_spec.specs.Book.{Page, Instance, Opening, Extension, Change, opens, extends, Book, instance_at, page_at, is_expired, evictor, spend}
+use Rattle.replay_spec.specs.Book.{Page, Instance, Opening, Extension, Change, opens, extends, ends, finishes, Book, instance_at, page_at, is_expired, evictor, spend, root_by, page_by}
 use Rattle.replay_spec.specs.Rules.{Rules}
-use Rattle.replay_spec.specs.Change.{put_instance, root_by, page_by, evict, shown_by, fresh, opened_by, land}
+use Rattle.replay_spec.specs.Change.{put_instance, evict, shown_by, fresh, opened_by, land}
 use Rattle.replay_spec.specs.Admission.{or_else, is_one, Place, why_not, Admission, begins, resumes, refused, admit}
 use Rattle.replay_spec.specs.Next.{Ticket, starts, Visit, url_for, comes_to, start_visit, page_visit}
 use Rattle.replay_spec.specs.Step.{publish, Reply, shown, Decision, records, gone_for, unless, barred, too_long, full_journal, with_room, opening, extension, ending, finish, reply_by, full, stopped, decide, publish_comes, step}
@@ -42,11 +42,11 @@ abbrev ShowsBy : Rules → Book → Ticket → Admission → (url : List ℕ) �
 ShowsBy rules b t (begins k s) url c inside =
     let v = start_visit b t k s in
     let m = comes_to v (present s.script.cells rules.fuel) in
-    (kind : SendKind) × ((url ≡ url_for v) × ((c ≡ opening (b.clock + rules.life) v m k kind) × (inside ≡ m.entered)))
+    (kind : SendKind) × ((url ≡ url_for v) × ((c ≡ opens (opening rules b v m k kind)) × (inside ≡ m.entered)))
 ShowsBy rules b t (resumes at) url c inside =
     let v = page_visit b t at in
     let m = comes_to v (present at.instance.cells rules.fuel) in
-    (kind : SendKind) × ((url ≡ url_for v) × ((c ≡ extension (b.clock + rules.life) (gone_for rules t at) v m at.instance.number at.page.number kind) × (inside ≡ m.entered)))
+    (kind : SendKind) × ((url ≡ url_for v) × ((c ≡ extends (extension rules b (gone_for rules t at) v m at.instance.number at.page.number kind)) × (inside ≡ m.entered)))
 ShowsBy rules b t (refused r) url c inside = ⊥
 
 -- what a decision that shows a page says, where it is this
@@ -69,7 +69,7 @@ start_showing : (rules : Rules) (b : Book) (t : Ticket) (k : ℕ) (s : Named) (o
 start_showing rules b t k s (paged (shows kind) bytes) =
     let v = start_visit b t k s in
     let m = comes_to v (present s.script.cells rules.fuel) in
-    let c = opening (b.clock + rules.life) v m k kind in
+    let c = opens (opening rules b v m k kind) in
     let r = reply_by (shows kind) bytes (url_for v) in
     let P = ShowsBy rules b t (begins k s) in
     unless_showing P (full rules (shows kind) (starts k) (length b.instances)) (with_room rules b r m.entered (Some c))
@@ -86,7 +86,7 @@ page_showing : (rules : Rules) (b : Book) (t : Ticket) (at : Place) (o : Outcome
 page_showing rules b t at (paged (shows kind) bytes) =
     let v = page_visit b t at in
     let m = comes_to v (present at.instance.cells rules.fuel) in
-    let c = extension (b.clock + rules.life) (gone_for rules t at) v m at.instance.number at.page.number kind in
+    let c = extends (extension rules b (gone_for rules t at) v m at.instance.number at.page.number kind) in
     let r = reply_by (shows kind) bytes (url_for v) in
     let P = ShowsBy rules b t (resumes at) in
     unless_showing P (full rules (shows kind) v.origin (length b.instances)) (with_room rules b r m.entered (Some c))
@@ -94,11 +94,11 @@ page_showing rules b t at (paged (shows kind) bytes) =
 page_showing rules b t at (paged tape.finishes bytes) =
     let v = page_visit b t at in
     let m = comes_to v (present at.instance.cells rules.fuel) in
-    room_showing (ShowsBy rules b t (resumes at)) rules b (Reply.finished bytes) m.entered (finish v m at.instance.number at.page.number) tt
+    room_showing (ShowsBy rules b t (resumes at)) rules b (Reply.finished bytes) m.entered (finishes (finish v m at.instance.number at.page.number)) tt
 page_showing rules b t at (paged tape.ends bytes) =
     let v = page_visit b t at in
     let m = comes_to v (present at.instance.cells rules.fuel) in
-    room_showing (ShowsBy rules b t (resumes at)) rules b (Reply.ended bytes) m.entered (ending v m at.instance.number at.page.number) tt
+    room_showing (ShowsBy rules b t (resumes at)) rules b (Reply.ended bytes) m.entered (ends (ending v m at.instance.number at.page.number)) tt
 page_showing rules b t at (tape.faulted f) = tt
 page_showing rules b t at (tape.out_of_fuel cost) = tt
 
@@ -142,7 +142,7 @@ started : (rules : Rules) (b : Book) (t : Ticket) (k : ℕ) (s : Named) (url : L
     → url ≡ url_for (start_visit b t k s)
     → let v = start_visit b t k s in
     let m = comes_to v (present s.script.cells rules.fuel) in
-    IsAdmitted (land rules (opening (b.clock + rules.life) v m k kind) m.entered (spend t.number b)) url t
+    IsAdmitted (land rules (opens (opening rules b v m k kind)) m.entered (spend t.number b)) url t
 started rules b t k s url kind lives at spelt =
     admitted d t i p url (ap (λ (js : List Instance). instance_at t.number js) there ∙ put_found (λ (x : Instance). x.number) i b.instances) (put_found (λ (q : Page). q.number) p []) refl refl spelt
     (none_newly kind t.number [] [] refl refl)
@@ -158,7 +158,7 @@ started rules b t k s url kind lives at spelt =
     now = (newest v (present s.script.cells rules.fuel)).segment
 
     o : Opening
-    o = record { number = t.number; nonce = t.nonce; script = k; effects = m.effects; left = m.left; kind = kind; deadline = b.clock + rules.life; evicted = [] }
+    o = opening rules b v m k kind
 
     d : Book
     d = land rules (opens o) m.entered (spend t.number b)
@@ -178,7 +178,7 @@ extended : (rules : Rules) (b : Book) (t : Ticket) (at : Place) (url : List ℕ)
     → url ≡ url_for (page_visit b t at)
     → let v = page_visit b t at in
     let m = comes_to v (present at.instance.cells rules.fuel) in
-    IsAdmitted (land rules (extension (b.clock + rules.life) (gone_for rules t at) v m at.instance.number at.page.number kind) m.entered (spend t.number b)) url t
+    IsAdmitted (land rules (extends (extension rules b (gone_for rules t at) v m at.instance.number at.page.number kind)) m.entered (spend t.number b)) url t
 extended rules b t at url kind lives g h unused open_names spelt =
     admitted d t i p url (mend_found at.instance.number f b.instances at.instance (λ j. refl) here) (put_found (λ (q : Page). q.number) p at.instance.pages) refl refl spelt
     (none_newly kind t.number at.instance.pages at.instance.revoked (g.instances.no_page t.number unused at.instance.number at.instance here) (g.instances.none_revoked t.number unused at.instance.number at.instance here))
@@ -191,7 +191,7 @@ extended rules b t at url kind lives g h unused open_names spelt =
     m = comes_to v (present at.instance.cells rules.fuel)
 
     x : Extension
-    x = record { number = t.number; nonce = t.nonce; instance = at.instance.number; page = at.page.number; answer = t.answer; effects = m.effects; left = m.left; kind = kind; deadline = b.clock + rules.life; evicted = gone_for rules t at }
+    x = extension rules b (gone_for rules t at) v m at.instance.number at.page.number kind
 
     d : Book
     d = land rules (extends x) m.entered (spend t.number b)
@@ -219,13 +219,13 @@ by_admission : (rules : Rules) (b : Book) (t : Ticket) (a : Admission) (url : Li
 by_admission rules b t (begins k s) url c inside lives g differ out e says (kind, (spelt, (is, names))) =
     let m = comes_to (start_visit b t k s) (present s.script.cells rules.fuel) in
     subst (λ (x : Change). IsAdmitted (land rules x inside (spend t.number b)) url t) (sym is)
-    (subst (λ (x : List TxName). IsAdmitted (land rules (opening (b.clock + rules.life) (start_visit b t k s) m k kind) x (spend t.number b)) url t) (sym names)
+    (subst (λ (x : List TxName). IsAdmitted (land rules (opens (opening rules b (start_visit b t k s) m k kind)) x (spend t.number b)) url t) (sym names)
     (started rules b t k s url kind lives says spelt))
 by_admission rules b t (resumes at) url c inside lives g differ out e says (kind, (spelt, (is, names))) =
     let v = page_visit b t at in
     let m = comes_to v (present at.instance.cells rules.fuel) in
     subst (λ (x : Change). IsAdmitted (land rules x inside (spend t.number b)) url t) (sym is)
-    (subst (λ (x : List TxName). IsAdmitted (land rules (extension (b.clock + rules.life) (gone_for rules t at) v m at.instance.number at.page.number kind) x (spend t.number b)) url t) (sym names)
+    (subst (λ (x : List TxName). IsAdmitted (land rules (extends (extension rules b (gone_for rules t at) v m at.instance.number at.page.number kind)) x (spend t.number b)) url t) (sym names)
     (extended rules b t at url kind lives g.orderly says (inl (among_of b.out t.number out)) (shown_open rules b t at g differ out e) spelt))
 by_admission rules b t (refused r) url c inside lives g differ out e says h = absurd h
 

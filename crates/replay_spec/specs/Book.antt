@@ -2,9 +2,9 @@
 use Rattle.std.specs.Prelude.{ℕ, Bool, true, false, zero, suc, ◌+◌, ◌==◌, ◌&&◌, not, List, [], ◌∷◌, ◌++◌, length, filter, Option, Some, None, nat_le, if◌then◌else◌}
 use Rattle.std.specs.List.{list_all}
 use Rattle.std.specs.Str.{bytes_eq}
-use Rattle.script_value.specs.Val.{Val}
+use Rattle.script_value.specs.Val.{Val, list, no_vals}
 use Rattle.script_value.specs.declared.outcome.TxName.{TxName}
-use Rattle.instance_cells.specs.Cells.{Effect}
+use Rattle.instance_cells.specs.Cells.{Effect, reads_of}
 use Rattle.script_nodes.specs.declared.script.SendKind.{SendKind}
 use Rattle.script_nodes.specs.Setup.{Named}
 
@@ -64,6 +64,30 @@ pub record Extension : Type 0 where
   pub kind : SendKind
   pub deadline : ℕ
   pub evicted : List ℕ
+
+-- the page that a start showed inside these transactions
+abbrev pub root_by : Opening → List TxName → Page
+root_by o inside = record {
+  number = o.number;
+  nonce = o.nonce;
+  parent = None;
+  answer = list no_vals;
+  reads = reads_of o.effects;
+  inside = inside;
+  deadline = o.deadline;
+}
+
+-- the page that an answer showed inside these transactions
+abbrev pub page_by : Extension → List TxName → Page
+page_by x inside = record {
+  number = x.number;
+  nonce = x.nonce;
+  parent = Some x.page;
+  answer = x.answer;
+  reads = reads_of x.effects;
+  inside = inside;
+  deadline = x.deadline;
+}
 
 -- a page of the instance was answered, with a last page
 pub record Ending : Type 0 where

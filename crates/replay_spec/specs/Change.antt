@@ -1,12 +1,11 @@
 -- What a change makes of the book.
 use Rattle.std.specs.Prelude.{ℕ, max, ◌+◌, ◌==◌, not, List, map, [], ◌∷◌, ◌++◌, filter, Option, Some, None, nat_lt, slice_get, if◌then◌else◌}
-use Rattle.script_value.specs.Val.{list, no_vals}
 use Rattle.script_value.specs.declared.outcome.TxName.{TxName}
-use Rattle.instance_cells.specs.Cells.{Effect, commit, reads_of}
+use Rattle.instance_cells.specs.Cells.{Effect, commit}
 use Rattle.script_nodes.specs.Setup.{Named}
 use Rattle.script_nodes.specs.declared.script.SendKind.{SendKind}
 use Rattle.script_nodes.specs.declared.script.SendKind.TheVariants.{Suspend, Forward}
-use Rattle.replay_spec.specs.Book.{Page, Use, Eviction, Instance, Opening, Extension, Ending, Change, opens, extends, ends, finishes, sweeps, Line, changed, File, Book, is_live, reopened}
+use Rattle.replay_spec.specs.Book.{Page, Use, Eviction, Instance, Opening, Extension, root_by, page_by, Ending, Change, opens, extends, ends, finishes, sweeps, Line, changed, File, Book, is_live, reopened}
 use Rattle.replay_spec.specs.Rules.{Journal, Rules}
 use Rattle.replay_spec.specs.Admission.{is_one}
 
@@ -28,30 +27,6 @@ put_page p ps = put_in_order (λ q. q.number) p ps
 -- these instances with one more, or with one for another of its number
 abbrev pub put_instance : Instance → List Instance → List Instance
 put_instance i is = put_in_order (λ j. j.number) i is
-
--- the page that a start showed inside these transactions
-abbrev pub root_by : Opening → List TxName → Page
-root_by o inside = record {
-  number = o.number;
-  nonce = o.nonce;
-  parent = None;
-  answer = list no_vals;
-  reads = reads_of o.effects;
-  inside = inside;
-  deadline = o.deadline;
-}
-
--- the page that an answer showed inside these transactions
-abbrev pub page_by : Extension → List TxName → Page
-page_by x inside = record {
-  number = x.number;
-  nonce = x.nonce;
-  parent = Some x.page;
-  answer = x.answer;
-  reads = reads_of x.effects;
-  inside = inside;
-  deadline = x.deadline;
-}
 
 -- the numbers of revoked pages after a page is shown: one that forwards revokes all that are there
 abbrev pub revoked_by : SendKind → List Page → List ℕ → List ℕ
@@ -95,6 +70,10 @@ shown_by effects left kind gone p i = record (done effects left i) {
   pages = put_page p i.pages;
 }
 
+-- an instance after an answer that showed a page inside these transactions
+abbrev pub extended_by : Extension → (inside : List TxName) → Instance → Instance
+extended_by x inside i = shown_by x.effects x.left x.kind x.evicted (page_by x inside) i
+
 -- an instance after a segment that ended
 abbrev pub ended_by : Ending → Instance → Instance
 ended_by e i = record (done e.effects e.left i) { used = used_by e.page e.number i.used }
@@ -116,7 +95,7 @@ without n is = filter (λ i. not (i.number == n)) is
 -- pages are all expired or evicted
 abbrev pub instances_by : List Named → Change → List TxName → List Instance → List Instance
 instances_by scripts (opens o) inside is = opened_by (slice_get scripts o.script) o inside is
-instances_by scripts (extends x) inside is = mend x.instance (shown_by x.effects x.left x.kind x.evicted (page_by x inside)) is
+instances_by scripts (extends x) inside is = mend x.instance (extended_by x inside) is
 instances_by scripts (ends e) inside is = mend e.instance (ended_by e) is
 instances_by scripts (finishes f) inside is = without f.instance is
 instances_by scripts (sweeps tick) inside is = filter (is_live tick) is

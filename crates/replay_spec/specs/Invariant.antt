@@ -7,8 +7,7 @@ use Rattle.script_nodes.specs.declared.script.SendKind.{SendKind}
 use Rattle.replay_spec.specs.Names.{Has}
 use Rattle.replay_spec.specs.Tape.{shows, paged}
 use Rattle.replay_spec.specs.Eval.{end_of, run, unread}
-use Rattle.replay_spec.specs.Book.{Page, Instance, Change, opens, extends, ends, finishes, sweeps, Work, landing, compacting, Doubt, Book, instance_at, page_at, parent_of, is_evicted}
-use Rattle.replay_spec.specs.Change.{root_by, page_by}
+use Rattle.replay_spec.specs.Book.{Page, Instance, Change, opens, extends, ends, finishes, sweeps, Work, landing, compacting, Doubt, Book, instance_at, page_at, parent_of, is_evicted, root_by, page_by}
 use Rattle.replay_spec.specs.Admission.{is_one}
 use Rattle.replay_spec.specs.Next.{home, page_tape}
 

@@ -10,7 +10,7 @@ use Rattle.script_nodes.specs.Setup.{Named}
 use Rattle.replay_spec.specs.Tape.{present, How, shows, Outcome, paged, faulted}
 use Rattle.replay_spec.specs.Tape as tape
 use Rattle.replay_spec.specs.Eval.{Segment}
-use Rattle.replay_spec.specs.Book.{Change, opens, extends, ends, finishes, sweeps, Work, landing, compacting, Doubt, Book, is_live, draw, spend}
+use Rattle.replay_spec.specs.Book.{Opening, Extension, Ending, Finish, Change, opens, extends, ends, finishes, sweeps, Work, landing, compacting, Doubt, Book, is_live, draw, spend}
 use Rattle.replay_spec.specs.Rules.{Journal, Rules}
 use Rattle.replay_spec.specs.Change.{record_length, longer_by, land}
 use Rattle.replay_spec.specs.Eviction.{goes_for}
@@ -84,22 +84,22 @@ abbrev pub take_unless : Option Reply → Book → (nonce : ℕ) → Reply × Bo
 take_unless (Some r) b nonce = (r, b)
 take_unless None b nonce = (taken b.drawn nonce, draw b)
 
--- the change of a start that showed a page
-abbrev pub opening : (deadline : ℕ) → Visit → Segment → (script : ℕ) → SendKind → Change
-opening deadline v s script kind = opens (record {
+-- the opening by a start that showed a page, which can be answered for a life from now on
+abbrev pub opening : Rules → Book → Visit → Segment → (script : ℕ) → SendKind → Opening
+opening rules b v s script kind = record {
   number = v.ticket.number;
   nonce = v.ticket.nonce;
   script = script;
   effects = s.effects;
   left = s.left;
   kind = kind;
-  deadline = deadline;
+  deadline = b.clock + rules.life;
   evicted = [];
-})
+}
 
--- the change of an answer that showed a page, for which these pages went
-abbrev pub extension : (deadline : ℕ) → (gone : List ℕ) → Visit → Segment → (instance page : ℕ) → SendKind → Change
-extension deadline gone v s instance page kind = extends (record {
+-- the extension by an answer that showed a page, for which these pages went, and which can be answered for a life from now on
+abbrev pub extension : Rules → Book → (gone : List ℕ) → Visit → Segment → (instance page : ℕ) → SendKind → Extension
+extension rules b gone v s instance page kind = record {
   number = v.ticket.number;
   nonce = v.ticket.nonce;
   instance = instance;
@@ -108,38 +108,38 @@ extension deadline gone v s instance page kind = extends (record {
   effects = s.effects;
   left = s.left;
   kind = kind;
-  deadline = deadline;
+  deadline = b.clock + rules.life;
   evicted = gone;
-})
+}
 
--- the change of an answer that ended with a last page
-abbrev pub ending : Visit → Segment → (instance page : ℕ) → Change
-ending v s instance page = ends (record {
+-- the ending by an answer that ended with a last page
+abbrev pub ending : Visit → Segment → (instance page : ℕ) → Ending
+ending v s instance page = record {
   number = v.ticket.number;
   instance = instance;
   page = page;
   answer = v.ticket.answer;
   effects = s.effects;
   left = s.left;
-})
+}
 
--- the change of an answer that freed the instance
-abbrev pub finish : Visit → Segment → (instance page : ℕ) → Change
-finish v s instance page = finishes (record {
+-- the finish by an answer that freed the instance
+abbrev pub finish : Visit → Segment → (instance page : ℕ) → Finish
+finish v s instance page = record {
   number = v.ticket.number;
   instance = instance;
   page = page;
   answer = v.ticket.answer;
   effects = s.effects;
-})
+}
 
 -- what a visit changes that stopped with a page, for which these pages went; a start changes nothing unless it shows one
-abbrev pub change_by : (deadline : ℕ) → (gone : List ℕ) → Visit → Segment → Origin → How → Option Change
-change_by deadline gone v s (starts k) (shows kind) = Some (opening deadline v s k kind)
-change_by deadline gone v s (starts k) _ = None
-change_by deadline gone v s (answers i p) (shows kind) = Some (extension deadline gone v s i p kind)
-change_by deadline gone v s (answers i p) tape.ends = Some (ending v s i p)
-change_by deadline gone v s (answers i p) tape.finishes = Some (finish v s i p)
+abbrev pub change_by : Rules → Book → (gone : List ℕ) → Visit → Segment → Origin → How → Option Change
+change_by rules b gone v s (starts k) (shows kind) = Some (opens (opening rules b v s k kind))
+change_by rules b gone v s (starts k) _ = None
+change_by rules b gone v s (answers i p) (shows kind) = Some (extends (extension rules b gone v s i p kind))
+change_by rules b gone v s (answers i p) tape.ends = Some (ends (ending v s i p))
+change_by rules b gone v s (answers i p) tape.finishes = Some (finishes (finish v s i p))
 
 -- what a visit is answered that stopped with this page
 abbrev pub reply_by : How → (page url : List ℕ) → Reply
@@ -179,7 +179,7 @@ with_room rules b r inside (Some c) = unless (or_else (too_long rules.journal b 
 abbrev pub stopped : Rules → Book → (gone : List ℕ) → Visit → Segment → Outcome → Decision
 stopped rules b gone v s (paged how bytes) =
     unless (full rules how v.origin (length b.instances))
-    (with_room rules b (reply_by how bytes (url_for v)) s.entered (change_by (b.clock + rules.life) gone v s v.origin how))
+    (with_room rules b (reply_by how bytes (url_for v)) s.entered (change_by rules b gone v s v.origin how))
 stopped rules b gone v s (faulted f) = replies (fault f)
 stopped rules b gone v s (tape.out_of_fuel cost) = replies (out_of_fuel cost)
 

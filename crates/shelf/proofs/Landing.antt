@@ -118,7 +118,7 @@ has_page b name n ok =
 orderly_there : (all : List Named) (b : spec.Book) (book : Book) → b.instances ≡ instances_of all book.instances → (t : Ticket) (d : Destination) (r : Segment) (c : Change) → refusal_of (admit b d) ≡ None → KeepsStateOf t r d (Some c)
     → IsChangeBy t (segment_of r) d (change_of c) → HasRoomFor (Some c) book → IsOrderlyChange b.clock b.instances (change_of c)
 orderly_there all b book at t (start name) r (Opens o) ok keeps is rooms =
-    subst (IsOrderlyChange b.clock b.instances) (sym (start_shows t (segment_of r) o.record is).1.1) tt
+    subst (IsOrderlyChange b.clock b.instances) (sym (start_shows t (segment_of r) o.record is).1) tt
 orderly_there all b book at t (start name) r (Extends x) ok (inl none) is rooms = absurd none
 orderly_there all b book at t (start name) r (Extends x) ok (inr from) is rooms = absurd from.1.1
 orderly_there all b book at t (start name) r (Ends e) ok keeps is rooms = absurd is
@@ -128,13 +128,13 @@ orderly_there all b book at t (page name n) r (Opens o) ok (inr from) is rooms =
 orderly_there all b book at t (page name n) r (Extends x) ok (inl none) is rooms = absurd none
 orderly_there all b book at t (page name n) r (Extends x) ok (inr from) is rooms =
     let so = answer_shows t (segment_of r) n.instance n.page x.record is in
-    let went : gone_in x ≡ so.1.1.0 = sym (evicted_is x.record) ∙ ap evicted_in so.1.1.1 in
-    let goes : CanGo b.instances n.instance so.1.1.0 =
+    let went : gone_in x ≡ so.0.evicted = sym (evicted_is x.record) ∙ ap evicted_in so.1 in
+    let goes : CanGo b.instances n.instance so.0.evicted =
     λ i found k gone.
     let here = subst (λ (is : List spec.Instance). instance_at n.instance is ≡ Some i) at found in
     let can = goes_there all book.instances x n.instance i from.1.1.instance here rooms in
-    go_used so.1.1.0 i.used k (subst (λ (ns : List ℕ). can_go ns i.used ≡ true) went can) gone in
-    subst (IsOrderlyChange b.clock b.instances) (sym so.1.1.1) (has_page b name n ok, goes)
+    go_used so.0.evicted i.used k (subst (λ (ns : List ℕ). can_go ns i.used ≡ true) went can) gone in
+    subst (IsOrderlyChange b.clock b.instances) (sym so.1) (has_page b name n ok, goes)
 orderly_there all b book at t (page name n) r (Ends e) ok keeps is rooms = subst (λ (y : spec.Ending). HasPage b.instances y.instance y.page) (sym is) (has_page b name n ok)
 orderly_there all b book at t (page name n) r (Finishes f) ok keeps is rooms = subst (λ (y : spec.Finish). HasPage b.instances y.instance y.page) (sym is) (has_page b name n ok)
 
@@ -160,12 +160,12 @@ page_in_range t d s p nonce is low = by_origin (origin_in p.origin) refl
     its o = change_with o p
 
     start_nonce : (d : Destination) (o : spec.Opening) → IsChangeBy t s d (spec.opens o) → (o.nonce < 2 ^ 64) × (o.evicted ≡ [])
-    start_nonce (start name) o h = subst (λ (x : spec.Opening). (x.nonce < 2 ^ 64) × (x.evicted ≡ [])) (sym h.1.1) (nonce, refl)
+    start_nonce (start name) o h = subst (λ (x : spec.Opening). (x.nonce < 2 ^ 64) × (x.evicted ≡ [])) (sym h) (nonce, refl)
     start_nonce (page name n) o h = absurd h
 
     answer_nonce : (d : Destination) (x : spec.Extension) → IsChangeBy t s d (spec.extends x) → x.nonce < 2 ^ 64
     answer_nonce (start name) x h = absurd h
-    answer_nonce (page name n) x h = subst (λ (y : spec.Extension). y.nonce < 2 ^ 64) (sym h.1.1.1) nonce
+    answer_nonce (page name n) x h = subst (λ (y : spec.Extension). y.nonce < 2 ^ 64) (sym h) nonce
 
     by_origin : (o : spec_records.Origin) → origin_in p.origin ≡ o → TellsInRange (page_change p)
     by_origin (spec_records.start script) e =

@@ -132,12 +132,12 @@ module _ (b : Book) (t : Ticket) (r : Segment) (earlier : Earlier) where
   IsBehindTold c = (before_told earlier b (change_of c) ≡ behind_in t c) × RisesBefore (behind_in t c)
 
   opening_told : (o : Opening) → IsStartBy t (segment_of r) (change_of (Opens o)) → IsBehindTold (Opens o)
-  opening_told o is = (ap (before_told earlier b) (start_shows t (segment_of r) o.record is).1.1, tt)
+  opening_told o is = (ap (before_told earlier b) (start_shows t (segment_of r) o.record is).1, tt)
 
   answer_told : (n : PageName) (x : Extension) → IsAnswerBy t (segment_of r) n.instance n.page (change_of (Extends x)) → GoesHere b (λ n. state_at n earlier.states) t (Extends x) → IsBehindTold (Extends x)
   answer_told n x is goes =
       let so = answer_shows t (segment_of r) n.instance n.page x.record is in
-      let change : change_of (Extends x) ≡ spec.extends (extension_by t n.instance n.page (segment_of r).effects (segment_of r).left so.0 so.1.0 so.1.1.0) = so.1.1.1 in
+      let change : change_of (Extends x) ≡ spec.extends (extension_by t n.instance n.page (segment_of r).effects (segment_of r).left so.0) = so.1 in
       let state : Place → Option Suspended = λ y. state_at y.page.number earlier.states in
       let on_there : GoesFrom b (λ k. state_at k earlier.states) t (n.instance, n.page) =
       subst (λ (c : spec.Change). IfSome (answered_in c) (GoesFrom b (λ k. state_at k earlier.states) t)) change goes in
@@ -187,7 +187,7 @@ module _ (l : Library) (beside : Beside) (book : kept.Book) (orderly : IsOrderly
         let d = suspended_of x.state in
         let made : ExtendsAs t n.instance n.page s.effects r.entered.items d x = subst (λ (y : Suspended). ExtendsAs t n.instance n.page s.effects r.entered.items y x) (sym from.1.1.told) from.1.1 in
         let so = answer_shows t s n.instance n.page x.record is in
-        let given_there : GoesFrom b f t (n.instance, n.page) = subst (λ (c : spec.Change). IfSome (answered_in c) (GoesFrom b f t)) so.1.1.1 goes in
+        let given_there : GoesFrom b f t (n.instance, n.page) = subst (λ (c : spec.Change). IfSome (answered_in c) (GoesFrom b f t)) so.1 goes in
         let same : given_there.0 ≡ at = let both : Some given_there.0 ≡ Some at = sym given_there.1.0 ∙ place_found b name n at stands in cc both in
         let script : script_at l.all x.instance book ≡ Some at.instance.script = ap (λ (k : ℕ). script_at l.all k book) made.instance ∙ ap (option_map (λ (i : Instance). i.script)) stands.here in
         let here : IsWhole (arena_of at.instance.script.script) d x.show.page.item.inside.items = of_some (script_at l.all x.instance book) at.instance.script _ script whole in

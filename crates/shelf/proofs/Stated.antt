@@ -4,10 +4,10 @@ use Rattle.std.proofs.lemmas.List.{map-append}
 use Rattle.script_nodes.specs.Setup.{Named, Library}
 use Rattle.page_names.specs.Names.{Destination, start, page}
 use Rattle.page_names.specs.declared.names.PageName.{PageName}
-use Rattle.script_nodes.specs.declared.script.SendKind.{SendKind}
 use Rattle.instance_cells.specs.Cells.{reads_of}
 use Rattle.journal_records.specs.Fields as spec_records
-use Rattle.journal_records.specs.Views.{origin_of as origin_in, change_with, page_change}
+use Rattle.journal_records.specs.Reading.{opening_from, extension_from}
+use Rattle.journal_records.specs.Views.{origin_of as origin_in, page_of as told_page, change_with, page_change}
 use Rattle.journal_records.specs.declared.records.PageRecord.{PageRecord}
 use Rattle.replay_spec.specs.Tape.{recorded, Answer, Tape, shows, finishes, ends, Outcome, paged, faulted, out_of_fuel}
 use Rattle.replay_spec.specs.Eval as eval
@@ -72,20 +72,19 @@ module _ (t : Ticket) (s : eval.Segment) (p : PageRecord) where
   abbrev its : spec_records.Origin → spec.Change
   its o = change_with o p
 
-  opens_so : (o : spec_records.Origin) → IsStartBy t s (its o) → (k : SendKind) × ((until : ℕ) × (its o ≡ spec.opens (opening_by t s.effects s.left k until)))
-  opens_so (spec_records.start script) is = (is.0, (is.1.0, ap spec.opens is.1.1))
+  opens_so : (o : spec_records.Origin) → IsStartBy t s (its o) → (x : spec.Opening) × (its o ≡ spec.opens (opening_by t s.effects s.left x))
+  opens_so (spec_records.start script) is = (opening_from script (told_page p []), ap spec.opens is)
   opens_so (spec_records.answered instance shown answer) is = absurd is
 
-  extends_so : (n m : ℕ) (o : spec_records.Origin) → IsAnswerBy t s n m (its o)
-      → (k : SendKind) × ((until : ℕ) × ((went : List ℕ) × (its o ≡ spec.extends (extension_by t n m s.effects s.left k until went))))
+  extends_so : (n m : ℕ) (o : spec_records.Origin) → IsAnswerBy t s n m (its o) → (x : spec.Extension) × (its o ≡ spec.extends (extension_by t n m s.effects s.left x))
   extends_so n m (spec_records.start script) is = absurd is
-  extends_so n m (spec_records.answered instance shown answer) is = (is.0, (is.1.0, (is.1.1.0, ap spec.extends is.1.1.1)))
+  extends_so n m (spec_records.answered instance shown answer) is = (extension_from instance shown answer (told_page p []), ap spec.extends is)
 
-pub start_shows : (t : Ticket) (s : eval.Segment) (p : PageRecord) → IsStartBy t s (page_change p) → (k : SendKind) × ((until : ℕ) × (page_change p ≡ spec.opens (opening_by t s.effects s.left k until)))
+pub start_shows : (t : Ticket) (s : eval.Segment) (p : PageRecord) → IsStartBy t s (page_change p) → (x : spec.Opening) × (page_change p ≡ spec.opens (opening_by t s.effects s.left x))
 start_shows t s p is = opens_so t s p (origin_in p.origin) is
 
 pub answer_shows : (t : Ticket) (s : eval.Segment) (n m : ℕ) (p : PageRecord) → IsAnswerBy t s n m (page_change p)
-    → (k : SendKind) × ((until : ℕ) × ((went : List ℕ) × (page_change p ≡ spec.extends (extension_by t n m s.effects s.left k until went))))
+    → (x : spec.Extension) × (page_change p ≡ spec.extends (extension_by t n m s.effects s.left x))
 answer_shows t s n m p is = extends_so t s p n m (origin_in p.origin) is
 
 keeps_it : (o : StoredOutcome) (P : Suspended → Type 0) (d : Suspended) → Keeps o P → state_of o ≡ Some d → P d
@@ -108,7 +107,7 @@ module _ (all : List Named) (b : Book) (whole : HasWholeScripts b) (t : Ticket) 
       let there : slice_get b.scripts t.start ≡ Some s = ap (slice_get b.scripts) fits.start ∙ fits.present in
       let tape : Named → Tape = λ x. tape_for (start_visit b (ticket_of t) k x) (recorded (reads_of (segment_of r).effects)) in
       let left = left_over s (tape s) from.0 (whole.setup t.start s there) (keeps_it r.outcome _ from.0 over from.1.0) in
-      ap (state_by b) (start_shows t (segment_of r) o.record is).1.1
+      ap (state_by b) (start_shows t (segment_of r) o.record is).1
       ∙ (ap (λ (x : Option Named). x >>= (λ y. state_over y.script (tape y))) there ∙ (left ∙ ap (λ (x : Suspended). Some x) (sym from.1.1.told)))
 
   extension_left : (name : List ℕ) (n : PageName) (at : Place) (x : Extension) → StandsAt b name n at → KeepsStateAs b t (resumes at) r → ExtendsFrom t r n.instance n.page (Some (Extends x))
@@ -116,7 +115,7 @@ module _ (all : List Named) (b : Book) (whole : HasWholeScripts b) (t : Ticket) 
   extension_left name n at x stands over from is =
       let tape : Place → Tape = λ y. tape_for (page_visit b (ticket_of t) y) (recorded (reads_of (segment_of r).effects)) in
       let left = left_over at.instance.script (tape at) from.0 (whole.instances n.instance at.instance stands.here) (keeps_it r.outcome _ from.0 over from.1.0) in
-      ap (state_by b) (answer_shows t (segment_of r) n.instance n.page x.record is).1.1.1
+      ap (state_by b) (answer_shows t (segment_of r) n.instance n.page x.record is).1
       ∙ (ap (λ (y : Option Place). y >>= (λ z. state_over z.instance.script.script (tape z))) (place_found b name n at stands) ∙ (left ∙ ap (λ (y : Suspended). Some y) (sym from.1.1.told)))
 
   start_left : (name : List ℕ) (a : Admission) → admit b (start name) ≡ a → refusal_of a ≡ None → FitsAs all b t a → KeepsStateAs b t a r
@@ -174,7 +173,7 @@ module _ (all : List Named) (b : Book) (whole : HasWholeScripts b) (t : Ticket) 
   IsBehind c = own_before b (change_of c) ≡ behind_in t c
 
   opening_behind : (o : Opening) → IsStartBy t (segment_of r) (change_of (Opens o)) → IsBehind (Opens o)
-  opening_behind o is = ap (own_before b) (start_shows t (segment_of r) o.record is).1.1
+  opening_behind o is = ap (own_before b) (start_shows t (segment_of r) o.record is).1
 
   answer_behind : (name : List ℕ) (n : PageName) (a : Admission) → admit b (page name n) ≡ a → refusal_of a ≡ None → FitsAs all b t a → (x : Extension)
       → IsAnswerBy t (segment_of r) n.instance n.page (change_of (Extends x)) → IsBehind (Extends x)
@@ -182,7 +181,7 @@ module _ (all : List Named) (b : Book) (whole : HasWholeScripts b) (t : Ticket) 
   answer_behind name n (refused why) adm ok fits x is = absurd (cc)
   answer_behind name n (resumes at) adm ok fits x is =
       let stands = page_stands b name n at adm in
-      ap (own_before b) (answer_shows t (segment_of r) n.instance n.page x.record is).1.1.1
+      ap (own_before b) (answer_shows t (segment_of r) n.instance n.page x.record is).1
       ∙ (ap (λ (o : Option Place). o >>= (λ z. behind_at (links_behind z) (own_state b.shelf z))) (place_found b name n at stands)
       ∙ (goes_behind b t at (whole.instances n.instance at.instance stands.here) (origin_of t.from) fits.from ∙ ap (λ (l : ℕ). behind_at l (origin_of t.from)) (sym fits.links)))
 

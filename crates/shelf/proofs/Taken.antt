@@ -136,7 +136,7 @@ module _ (l : Library) (beside : Beside) (book : kept.Book) (t : Ticket) (r : Se
   IsTakenSo c = IsTakenAs b (change_of c) (inside_of c) (told_own (state_in c)) × IsRead c
 
   -- so it is by what the change is
-  opens_taken : (o : Opening) (named : Named) (x : spec.Opening) → x ≡ opening_by t x.effects x.left x.kind x.deadline → x.effects ≡ s.effects → change_of (Opens o) ≡ spec.opens x → slice_get l.setup t.start ≡ Some named
+  opens_taken : (o : Opening) (named : Named) (x : spec.Opening) → x ≡ opening_by t x.effects x.left x → x.effects ≡ s.effects → change_of (Opens o) ≡ spec.opens x → slice_get l.setup t.start ≡ Some named
       → AreHeld s.effects named.script.cells → IsWhole (arena_of named.script) (suspended_of o.state) (inside_of (Opens o)) → StateHasBytes (suspended_of o.state) → IsTakenSo (Opens o)
   opens_taken o named x by effects is found holds here bytes =
       let d = suspended_of o.state in
@@ -162,7 +162,7 @@ module _ (l : Library) (beside : Beside) (book : kept.Book) (t : Ticket) (r : Se
       let there : slice_get l.all o.instance.script ≡ Some has.named = ap (slice_get l.all) place ∙ has.told in
       let here : IsWhole (arena_of has.named.script) d (inside_of (Opens o)) = of_some (slice_get l.all o.instance.script) has.named _ there whole in
       let so = start_shows t s o.record is in
-      opens_taken o has.named (opening_by t s.effects s.left so.0 so.1.0) refl refl so.1.1 has.present (subst (AreHeld s.effects) has.cells holds) here bytes
+      opens_taken o has.named (opening_by t s.effects s.left so.0) refl refl so.1 has.present (subst (AreHeld s.effects) has.cells holds) here bytes
 
   -- of an answer to the page of this place
   module _ (name : List ℕ) (n : PageName) (at : Place) (stands : StandsAt b name n at) (holds : AreHeldBy book t (page name n) s.effects) where
@@ -191,9 +191,9 @@ module _ (l : Library) (beside : Beside) (book : kept.Book) (t : Ticket) (r : Se
         let d = suspended_of x.state in
         let inside = inside_of (Extends x) in
         let so = answer_shows t s n.instance n.page x.record is in
-        let e = extension_by t n.instance n.page s.effects s.left so.0 so.1.0 so.1.1.0 in
-        let change : change_of (Extends x) ≡ spec.extends e = so.1.1.1 in
-        let went : gone_in x ≡ so.1.1.0 = sym (evicted_is x.record) ∙ ap evicted_in change in
+        let e = extension_by t n.instance n.page s.effects s.left so.0 in
+        let change : change_of (Extends x) ≡ spec.extends e = so.1 in
+        let went : gone_in x ≡ so.0.evicted = sym (evicted_is x.record) ∙ ap evicted_in change in
         let number : x.instance ≡ n.instance = from.1.1.instance in
         let script : script_at l.all x.instance book ≡ Some at.instance.script = ap (λ (k : ℕ). script_at l.all k book) number ∙ ap (option_map (λ (i : Instance). i.script)) stands.here in
         let here : IsWhole (arena_of at.instance.script.script) d inside = of_some (script_at l.all x.instance book) at.instance.script _ script whole in
@@ -202,7 +202,7 @@ module _ (l : Library) (beside : Beside) (book : kept.Book) (t : Ticket) (r : Se
         λ earlier same rises binds.
         ap (λ (o : Option Suspended). told_by o (script_for b (spec.extends e)) (told_bytes before d)) same
         ∙ (ap (λ (o : Option Place). told_by before (o >>= (λ z. Some z.instance.script)) (told_bytes before d)) found ∙ read_back before at.instance.script d inside here bytes rises binds) in (
-          subst (λ (c : spec.Change). IsTakenAs b c inside (told d)) (sym change) (can_show so.1.1.0 inside (subst (λ (ns : List ℕ). can_go ns at.instance.used ≡ true) went goes), here.inside_is),
+          subst (λ (c : spec.Change). IsTakenAs b c inside (told d)) (sym change) (can_show so.0.evicted inside (subst (λ (ns : List ℕ). can_go ns at.instance.used ≡ true) went goes), here.inside_is),
           subst (λ (c : spec.Change). (earlier : Earlier) → before_told earlier b c ≡ before → RisesBefore before → BindsIn t (Extends x) → books.told_in earlier b c (told_bytes before d) ≡ told d) (sym change) read,
         )
 

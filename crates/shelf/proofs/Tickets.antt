@@ -92,13 +92,13 @@ module _ (l : Library) (b : kept.Book) (t : Ticket) (r : Segment) where
       → GoesOnAsGiven l b t c
   as_given (start name) (Opens o) ok (inl none) is goes = absurd none
   as_given (start name) (Opens o) ok (inr from) is goes =
-      subst (λ (c : spec.Change). IfSome (answered_in c) (GoesOnFromBook l b t)) (sym (start_shows t (segment_of r) o.record is).1.1) tt
+      subst (λ (c : spec.Change). IfSome (answered_in c) (GoesOnFromBook l b t)) (sym (start_shows t (segment_of r) o.record is).1) tt
   as_given (start name) (Extends x) ok (inl none) is goes = absurd none
   as_given (start name) (Extends x) ok (inr from) is goes = absurd from.1.1
   as_given (page name n) (Opens o) ok (inl none) is goes = absurd none
   as_given (page name n) (Opens o) ok (inr from) is goes = absurd from.1.1
   as_given (page name n) (Extends x) ok keeps is goes =
-      subst (λ (c : spec.Change). IfSome (answered_in c) (GoesOnFromBook l b t)) (sym (answer_shows t (segment_of r) n.instance n.page x.record is).1.1.1) (from_book name n ok goes)
+      subst (λ (c : spec.Change). IfSome (answered_in c) (GoesOnFromBook l b t)) (sym (answer_shows t (segment_of r) n.instance n.page x.record is).1) (from_book name n ok goes)
   as_given (start name) (Ends e) ok keeps is goes = tt
   as_given (start name) (Finishes f) ok keeps is goes = tt
   as_given (page name n) (Ends e) ok keeps is goes = tt

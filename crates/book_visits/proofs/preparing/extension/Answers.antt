@@ -8,7 +8,8 @@ use Rattle.instance_cells.specs.Views.{effect_of}
 use Rattle.machine_states.specs.Views.{origin_of, suspended_of}
 use Rattle.instance_book.specs.KeptStates.Kept.{Kept, IsKeptFrom}
 use Rattle.replay_spec.specs.Book as spec
-use Rattle.replay_spec.specs.Change.{shown_by}
+use Rattle.replay_spec.specs.Book.{page_by}
+use Rattle.replay_spec.specs.Change.{extended_by}
 use Rattle.replay_spec.specs.Recovery.{can_go}
 use Rattle.replay_spec.specs.Step as step
 use Rattle.replay_spec.specs.Step.{records}
@@ -19,8 +20,8 @@ use Rattle.journal_records.specs.declared.records.PageRecord.{PageRecord}
 use Rattle.book_visits.specs.Views.{reply_of}
 use Rattle.instance_book.specs.Views.{pages_of, used_of, instance_with}
 use Rattle.instance_book.specs.Changes.{gone_in}
-use Rattle.book_visits.specs.Prepares.{next_page, extension_by}
-use Rattle.book_visits.specs.Segments.{goers}
+use Rattle.book_visits.specs.Prepares.{next_page}
+use Rattle.book_visits.specs.Segments.{extension_of, goers}
 use Rattle.book_visits.proofs.preparing.extension.Goals as goal
 
 pub returns-clause-shows : goal.returns-clause-shows
@@ -29,10 +30,9 @@ returns-clause-shows c scripts =
     let p = c.args.page in
     let x = c.in_ok-extension.extension in
     let number = c.args.instance.now.number in
-    let effects = map effect_of p.effects.items in
     let gone = goers c.args.limit t c.args.answered c.args.instance.now in
     let made = c.in_ok-extension.ensures in
-    let next : Val → List ℕ → spec.Extension = λ v ns. record (extension_by t number c.args.answered effects p.left.items p.kind p.deadline ns) { answer = v } in
+    let next : Val → List ℕ → spec.Extension = λ v ns. record (extension_of t number c.args.answered p ns) { answer = v } in
     let told : page_change x.record ≡ spec.extends (next (meaning t.answer) gone) =
     ap (λ (r : PageRecord). page_change r) made.told
     ∙ (ap (λ (v : Value). spec.extends (next (meaning v) c.in_ok-evicted.evicted.items)) c.in_ok-try_clone.ensures
@@ -50,8 +50,8 @@ returns-clause-shows c scripts =
       change = (
         made.instance,
         made.goes scripts number
-            ∙ (ap (λ (v : Val). shown_by effects p.left.items p.kind c.in_ok-evicted.evicted.items (record (next_page t c.args.answered effects p.inside.items p.deadline) { answer = v }) i) c.in_ok-answer.ensures
-            ∙ ap (λ (ns : List ℕ). shown_by effects p.left.items p.kind ns (next_page t c.args.answered effects p.inside.items p.deadline) i) c.in_ok-evicted.ensures),
+            ∙ (ap (λ (v : Val). extended_by (next v c.in_ok-evicted.evicted.items) p.inside.items i) c.in_ok-answer.ensures
+            ∙ ap (λ (ns : List ℕ). extended_by (next (meaning t.answer) ns) p.inside.items i) c.in_ok-evicted.ensures),
       );
     }
 
@@ -59,14 +59,13 @@ pub returns-clause-state : goal.returns-clause-state
 returns-clause-state c =
     let t = c.args.ticket.now in
     let p = c.args.page in
-    let effects = map effect_of p.effects.items in
     let made = c.in_ok-extension.ensures in
-    let with : Val → ℕ → spec.Page = λ v d. record (next_page t c.args.answered effects p.inside.items d) { answer = v } in
+    let its : spec.Page → spec.Page = next_page t c.args.answered (map effect_of p.effects.items) p.inside.items in
+    let told : Val → spec.Page = λ v. page_by (record (extension_of t c.args.instance.now.number c.args.answered p []) { answer = v }) p.inside.items in
     record {
       instance = made.instance;
       page = made.page.page
-          ∙ (ap (λ (v : Val). with v p.deadline) c.in_ok-answer.ensures
-          ∙ ap (λ (d : ℕ). with (meaning t.answer) d) (sym (ap (λ (q : spec.Page). q.deadline) made.page.page)));
+          ∙ (ap told c.in_ok-answer.ensures ∙ ap its (sym made.page.page));
       state = subst (λ (k : Kept). IsKeptFrom (origin_of t.from) t.links (suspended_of p.state) k) (sym made.page.kept) c.in_ok-kept.ensures;
       told = made.state;
     }

@@ -10,7 +10,8 @@ use Rattle.replay_spec.specs.Step.{records}
 use Rattle.journal_records.specs.Views.{page_change}
 use Rattle.journal_records.specs.declared.records.PageRecord.{PageRecord}
 use Rattle.book_visits.specs.Views.{reply_of}
-use Rattle.book_visits.specs.Prepares.{first_page, opening_by}
+use Rattle.book_visits.specs.Prepares.{first_page}
+use Rattle.book_visits.specs.Segments.{opening_of}
 use Rattle.book_visits.proofs.preparing.opening.Goals as goal
 
 pub returns-clause-opens : goal.returns-clause-opens
@@ -19,7 +20,7 @@ returns-clause-opens c =
     let p = c.args.page in
     let o = c.in_ok-opening.opening in
     let opens = c.in_ok-opening.ensures.opens in
-    let first : spec.Opening = opening_by t (map effect_of p.effects.items) p.left.items p.kind p.deadline in
+    let first : spec.Opening = opening_of t p in
     let told : page_change o.record ≡ spec.opens first = ap (λ (r : PageRecord). page_change r) opens.told ∙ ap (λ (ns : List ℕ). spec.opens (record first { evicted = ns })) c.new.ensures.items in
     let inside : o.page.item.inside.items ≡ p.inside.items = ap (λ (q : spec.Page). q.inside) opens.page.page in
     record {
@@ -42,7 +43,7 @@ returns-clause-state c =
       script = opens.script;
       pages = opens.pages;
       shown = opens.shown;
-      page = opens.page.page ∙ ap (first_page t (map effect_of p.effects.items) p.inside.items) (sym (ap (λ (q : spec.Page). q.deadline) opens.page.page));
+      page = opens.page.page ∙ ap (first_page t (map effect_of p.effects.items) p.inside.items) (sym opens.page.page);
       state = subst (λ (k : Kept). IsKeptFrom None 0 (suspended_of p.state) k) (sym opens.page.kept) c.in_ok-kept.ensures;
       told = opens.state;
     }

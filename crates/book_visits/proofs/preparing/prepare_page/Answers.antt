@@ -3,12 +3,15 @@ use Rattle.std.specs.Option.{option_copied}
 use Rattle.machine_states.specs.Views.{outcome_of, segment_of, state_of, suspended_of}
 use Rattle.replay_spec.specs.Book as spec
 use Rattle.replay_spec.specs.Book.{Instance, instance_at}
-use Rattle.replay_spec.specs.Change.{shown_by, ended_by}
+use Rattle.replay_spec.specs.Change.{ended_by}
+use Rattle.replay_spec.specs.Next.{page_visit}
+use Rattle.replay_spec.specs.Step.{extension}
 use Rattle.replay_spec.specs.Eviction.{goes_for}
 use Rattle.book_visits.specs.declared.prepared.Prepared.{Prepared}
 use Rattle.instance_book.specs.Views.{no_journal, book_of, instance_of, instances_of}
-use Rattle.book_visits.specs.Prepares.{next_page, ending_by, IsExtension, IsEnding, IsFinish}
-use Rattle.book_visits.specs.Segments.{goers}
+use Rattle.instance_book.specs.Makes.{rules_with}
+use Rattle.book_visits.specs.Views.{ticket_of}
+use Rattle.book_visits.specs.Prepares.{ending_by, IsExtension, IsEnding, IsFinish}
 use Rattle.replay_spec.proofs.Numbered.{number_of}
 use Rattle.instance_book.proofs.Seen.{instance_some, instance_none}
 use Rattle.book_visits.proofs.Lands.{extended, ending_lands, finish_lands, ending_room, ending_shows_none, finish_shows_none, page_shown, room_made, under}
@@ -27,18 +30,11 @@ returns-in-Shown-clause-room c =
     let n = c.args.page.now.instance in
     let some = instance_some [] n c.args.book.now.instances.things.items x (sym c.in-Some.ensures.thing) in
     let number : x.number ≡ n = number_of (λ (i : Instance). i.number) n (instances_of [] c.args.book.now.instances) (instance_of [] x) some in
-    let s = segment_of c.args.segment in
-    let t = c.args.ticket.now in
-    let answered = c.args.page.now.page in
-    let deadline = c.deadline-deadline.result in
-    let gone = goers c.args.pages t answered x in
-    let f : Instance → Instance = shown_by s.effects s.left c.in-Shown.kind gone (next_page t answered s.effects s.entered deadline) in
     let same : instances_of [] c.with_room.new.book.instances ≡ instances_of [] c.args.book.now.instances =
     ap (λ (b : spec.Book). b.instances) (c.with_room.ensures.book (record { all = []; setup = [] }) no_journal) in
     let there : instance_at n (instances_of [] c.with_room.new.book.instances) ≡ Some (instance_of [] x) =
     subst (λ (is : List Instance). instance_at n is ≡ Some (instance_of [] x)) (sym same) some in
-    room_made t x answered c.in-Shown.bytes s.effects s.entered s.left c.in-Shown.kind deadline gone f n c.with_room.new.book c.extension-made.result c.with_room.result number there
-    (under (λ ss p. IsExtension p t (instance_of ss x) answered c.in-Shown.bytes s.effects s.entered s.left c.in-Shown.kind deadline gone f) c.extension-made.result [] c.extension-made.ensures.shows)
+    room_made _ x _ n c.with_room.new.book c.extension-made.result c.with_room.result number there c.extension-made.ensures.shows (λ p h. (h []).change)
     c.extension-made.ensures.shown c.with_room.ensures.made c.with_room.ensures.room
 
 pub returns-in-Shown-clause-decided : goal.returns-in-Shown-clause-decided
@@ -52,9 +48,10 @@ returns-in-Shown-clause-decided c library beside fuel instances at found number 
     let there : instance_at at.instance.number b.instances ≡ Some at.instance =
     subst (λ (n : ℕ). instance_at n b.instances ≡ Some at.instance) (sym (number_of (λ (j : Instance). j.number) c.args.page.now.instance b.instances at.instance found)) found in
     let goes : ℕ → Instance → List ℕ = λ answered i. goes_for c.args.pages answered t.number i.used in
+    let rules = rules_with fuel c.args.life instances c.args.pages in
+    let its : Instance → ℕ → spec.Extension = λ i answered. extension rules b (goes answered i) (page_visit b (ticket_of t) at) s i.number answered c.in-Shown.kind in
     let P : Instance → ℕ → ℕ → Prepared → Type 0 = λ i answered deadline p.
-    IsExtension p t i answered c.in-Shown.bytes s.effects s.entered s.left c.in-Shown.kind deadline (goes answered i)
-    (shown_by s.effects s.left c.in-Shown.kind (goes answered i) (next_page t answered s.effects s.entered deadline)) in
+    IsExtension p t i c.in-Shown.bytes (record (its i answered) { deadline = deadline }) s.entered in
     let made : IfOk c.extension-made.result (P (instance_of library.all x) c.args.page.now.page c.deadline-deadline.result) = under (λ ss. P (instance_of ss x) c.args.page.now.page c.deadline-deadline.result) c.extension-made.result library.all c.extension-made.ensures.shows in
     let made2 : IfOk c.extension-made.result (P at.instance c.args.page.now.page c.deadline-deadline.result) = subst (λ (i : Instance). IfOk c.extension-made.result (P i c.args.page.now.page c.deadline-deadline.result)) same made in
     let made3 : IfOk c.extension-made.result (P at.instance at.page.number c.deadline-deadline.result) = subst (λ (n : ℕ). IfOk c.extension-made.result (P at.instance n c.deadline-deadline.result)) (sym number) made2 in
@@ -108,7 +105,7 @@ returns-in-Shown-clause-itself c name =
     let x = c.in-Some.instance.now in
     extended_itself c.args.book.now c.args.ticket.now (segment_of c.args.segment) name n (λ scripts. instance_of scripts x)
     (λ scripts. instance_some scripts n.instance c.args.book.now.instances.things.items x (sym c.in-Some.ensures.thing))
-    c.in-Shown.bytes c.in-Shown.kind c.deadline-deadline.result (goers c.args.pages c.args.ticket.now n.page x) c.extension-made.result c.with_room.result c.extension-made.ensures.shows c.with_room.ensures.made
+    c.in-Shown.bytes _ c.extension-made.result c.with_room.result c.extension-made.ensures.shows c.with_room.ensures.made (λ scripts. refl)
 
 pub returns-in-Ok-clause-itself : goal.returns-in-Ok-clause-itself
 returns-in-Ok-clause-itself c name =
