@@ -1,10 +1,11 @@
 //! Each byte of a journal changed in turn.
 
-use crate::audits::{RULES, VISITS, audited_with, visited};
+use crate::audits::{audited_with, visited};
 use page_audit::{AuditFault, Audited};
 use std::alloc::Global;
 use std::test::Fail;
 use test_compactions::files::Files;
+use test_compactions::sums::{RULES, VISITS};
 
 // The header, and the gates of the records of a setup, of a start, of an answer that shows a page and of one that ends; and the last gate.
 const GATES: &[usize] = &[0, 8, 301, 405, 558, 618];

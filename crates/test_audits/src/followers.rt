@@ -1,12 +1,13 @@
 //! Audits of the journals of shelves that follow another one's, and of such that were promoted.
 
-use crate::audits::{RULES, VISITS, audited, changed, visited};
+use crate::audits::{audited, changed, visited};
 use audit_spec::Word;
 use page_audit::{AuditFault, Audited};
 use std::alloc::Global;
 use std::test::Fail;
 use test_compactions::files::Files;
 use test_compactions::old::files_with;
+use test_compactions::sums::{RULES, VISITS};
 
 // The header of a file.
 const HEADER: &[u8] = b"KSWEB\0\0\x06";

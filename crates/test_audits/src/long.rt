@@ -1,11 +1,8 @@
 //! Journals that were compacted, of an older format, and of several setups.
-ghost use Rattle.std.specs.Prelude.{true};
 ghost use Rattle.script_nodes.specs.Views.{scripts_of};
 ghost use Rattle.setup_reader.specs.Texts.{IsReadSetup};
-ghost use Rattle.disk_trio.specs.Trio.{trio_view};
-ghost use Rattle.shelf.specs.Views.{IsInOrder};
 
-use crate::audits::{RULES, audited, nothing, opened};
+use crate::audits::audited;
 use page_audit::Audited;
 use script_nodes::Setup;
 use std::alloc::Global;
@@ -13,7 +10,8 @@ use std::test::Fail;
 use test_compactions::files::{Files, files_of};
 use test_compactions::old::{SCRIPTS, file_of, files_with};
 use test_compactions::records::FORMAT_3;
-use test_compactions::visits::{Told, Visit, compacted, expect_visits};
+use test_compactions::sums::{RULES, nothing, opened, visited_with};
+use test_compactions::visits::{Told, Visit, compacted};
 use test_shelves::setup;
 
 // Refuses files that do not pass.
@@ -25,21 +23,7 @@ fn expect_pass(alloc: Global, files: &Files) -> Result<(), Fail> {
     }
 }
 
-// What stands on the disks of the shelf of these files after visits.
-fn visited_files(
-    alloc: Global,
-    files: &Files,
-    setup: &Setup,
-    visits: &[Visit],
-) -> Result<Files, Fail>
-    requires { IsReadSetup (scripts_of setup.now) }
-{
-    let mut shelf = opened(alloc, files, setup, RULES)?;
-    expect_visits(alloc, &mut shelf, visits)?;
-    files_of(alloc, shelf)
-}
-
-// What stands there after a compaction.
+// What stands on the disks of the shelf of these files after a compaction.
 fn short_files(alloc: Global, files: &Files, setup: &Setup) -> Result<Files, Fail>
     requires { IsReadSetup (scripts_of setup.now) }
 {
@@ -57,7 +41,7 @@ fn compacted_files(
 ) -> Result<Files, Fail>
     requires { IsReadSetup (scripts_of setup.now) }
 {
-    let long = visited_files(alloc, files, setup, visits)?;
+    let long = visited_with(alloc, files, setup, visits, RULES)?;
     expect_pass(alloc, &long)?;
     short_files(alloc, &long, setup)
 }

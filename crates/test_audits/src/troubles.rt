@@ -1,11 +1,12 @@
 //! Audits of disks whose calls fail.
 
-use crate::audits::{RULES, VISITS, visited};
+use crate::audits::visited;
 use disk_trio::Disks;
 use page_audit::{AuditFault, Audited, audit};
 use std::alloc::Global;
 use std::test::Fail;
 use test_compactions::files::{Files, Place, Trouble, Wrong, disks_of};
+use test_compactions::sums::{RULES, VISITS};
 use web_disk::{Disk, MemoryDisk};
 
 // After so many calls of each of its disks an audit has come to its end.

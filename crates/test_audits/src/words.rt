@@ -5,9 +5,7 @@ ghost use Rattle.script_nodes.specs.Views.{scripts_of};
 ghost use Rattle.setup_reader.specs.Texts.{IsReadSetup};
 ghost use Rattle.shelf.specs.Views.{IsInOrder};
 
-use crate::audits::{
-    RULES, VISITS, audited, audited_with, changed, nothing, opened, sums_setup, visited,
-};
+use crate::audits::{audited, audited_with, changed, visited};
 use audit_spec::Word;
 use page_audit::{AuditFault, Audited};
 use script_nodes::Setup;
@@ -15,6 +13,7 @@ use shelf::Rules;
 use std::alloc::Global;
 use std::test::Fail;
 use test_compactions::files::{Files, files_of};
+use test_compactions::sums::{RULES, VISITS, nothing, opened, sums_setup};
 use test_compactions::visits::swept;
 use test_shelves::MemoryShelf;
 

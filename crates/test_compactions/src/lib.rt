@@ -12,6 +12,7 @@ mod older;
 pub mod records;
 #[cfg(test)]
 mod stops;
+pub mod sums;
 #[cfg(test)]
 mod versions;
 pub mod visits;

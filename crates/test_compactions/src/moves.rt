@@ -4,8 +4,9 @@ ghost use Rattle.script_nodes.specs.Views.{scripts_of};
 ghost use Rattle.setup_reader.specs.Texts.{IsReadSetup};
 
 use crate::files::{Files, Trouble, Wrong, disks_of, left_by};
-use crate::older::{RULES, expect_sum, first_setup, sums};
+use crate::older::{expect_sum, first_setup, sums};
 use crate::stops::{PLACES, WRECKS};
+use crate::sums::RULES;
 use disk_trio::Disks;
 use script_nodes::Setup;
 use shelf::BeginFault;

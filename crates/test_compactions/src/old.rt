@@ -1,5 +1,6 @@
 //! Files of the formats 1 to 5, as earlier versions of this program wrote them.
 use crate::files::Files;
+use crate::visits::{Told, Visit};
 use std::alloc::Global;
 use std::test::Fail;
 
@@ -25,6 +26,45 @@ pub const SCRIPTS: &[(&str, &str)] = &[
         "fin",
         "(begin\n  (send/suspend (lambda (u) `(a ((href ,u)) \"1\")))\n  (send/finish '(p \"bye\")))",
     ),
+];
+
+/// What the pages of the journals of the formats 1 to 5 go on with that their visits showed.
+pub const ANSWERS: &[Visit] = &[
+    Visit {
+        path: "/servlets/sum;0*0*1*0000000000000001",
+        answer: "((n \"4\"))",
+        told: Told::Last("<p>7</p>"),
+    },
+    Visit {
+        path: "/servlets/hotel;0*3*4*0000000000000004",
+        answer: "()",
+        told: Told::Last("<p>A</p>"),
+    },
+    Visit {
+        path: "/servlets/hotel;0*3*5*0000000000000005",
+        answer: "()",
+        told: Told::Last("<p>B</p>"),
+    },
+    Visit {
+        path: "/servlets/shop;0*6*6*0000000000000006",
+        answer: "()",
+        told: Told::Last("<p>sold out</p>"),
+    },
+    Visit {
+        path: "/servlets/fin;0*8*8*0000000000000008",
+        answer: "()",
+        told: Told::Unknown,
+    },
+    Visit {
+        path: "/servlets/pay;0*10*12*000000000000000c",
+        answer: "()",
+        told: Told::Closed,
+    },
+    Visit {
+        path: "/servlets/pay;0*10*13*000000000000000d",
+        answer: "()",
+        told: Told::Last("<p>end</p>"),
+    },
 ];
 
 // A length as files tell it.

@@ -1,69 +1,19 @@
 //! Journals of the formats 1 to 5, which earlier versions of this program wrote, or may have written: they are opened, visited and
 //! compacted. Those of the formats 1, 2 and 3 are the same visits as the commits 25f9cc87, 697cd3b8 and 0660d5ea wrote them down.
-ghost use Rattle.std.specs.Prelude.{true, IfOk};
+ghost use Rattle.std.specs.Prelude.{IfOk};
 ghost use Rattle.script_nodes.specs.Views.{scripts_of};
 ghost use Rattle.setup_reader.specs.Texts.{IsReadSetup};
-ghost use Rattle.disk_trio.specs.Trio.{trio_view};
-ghost use Rattle.shelf.specs.Views.{IsInOrder};
 
 use crate::files::{Files, disks_of, files_of};
-use crate::old::{SCRIPTS, file_of, files_with};
+use crate::old::{ANSWERS, SCRIPTS, file_of, files_with};
 use crate::records::{DRAWN, FORMAT_1, FORMAT_2, FORMAT_3, RENEWED};
-use crate::visits::{Told, Visit, compacted, expect_visit, expect_visits};
+use crate::sums::{RULES, opened, visited_with};
+use crate::visits::{Told, Visit, compacted, expect_visit};
 use script_nodes::Setup;
-use shelf::{BeginFault, Rules};
+use shelf::BeginFault;
 use std::alloc::Global;
 use std::test::Fail;
-use test_shelves::{MemoryShelf, put_away, setup, tried_under};
-
-/// The shelf 0.
-pub const RULES: Rules = Rules {
-    number: 0,
-    shelves: 1,
-    fuel: 10_000_000,
-    life: 3_600,
-    instances: 256,
-    pages: 64,
-};
-
-// What the pages go on with that their visits showed.
-const ANSWERS: &[Visit] = &[
-    Visit {
-        path: "/servlets/sum;0*0*1*0000000000000001",
-        answer: "((n \"4\"))",
-        told: Told::Last("<p>7</p>"),
-    },
-    Visit {
-        path: "/servlets/hotel;0*3*4*0000000000000004",
-        answer: "()",
-        told: Told::Last("<p>A</p>"),
-    },
-    Visit {
-        path: "/servlets/hotel;0*3*5*0000000000000005",
-        answer: "()",
-        told: Told::Last("<p>B</p>"),
-    },
-    Visit {
-        path: "/servlets/shop;0*6*6*0000000000000006",
-        answer: "()",
-        told: Told::Last("<p>sold out</p>"),
-    },
-    Visit {
-        path: "/servlets/fin;0*8*8*0000000000000008",
-        answer: "()",
-        told: Told::Unknown,
-    },
-    Visit {
-        path: "/servlets/pay;0*10*12*000000000000000c",
-        answer: "()",
-        told: Told::Closed,
-    },
-    Visit {
-        path: "/servlets/pay;0*10*13*000000000000000d",
-        answer: "()",
-        told: Told::Last("<p>end</p>"),
-    },
-];
+use test_shelves::{put_away, setup, tried_under};
 
 // What the page goes on with that the last start of the formats 4 and 5 showed.
 const NEWEST: Visit = Visit {
@@ -72,22 +22,11 @@ const NEWEST: Visit = Visit {
     told: Told::Finished("<p>bye</p>"),
 };
 
-// The shelf of these files, which has to be opened.
-fn opened(alloc: Global, files: &Files, setup: &Setup) -> Result<MemoryShelf, Fail>
-    requires { IsReadSetup (scripts_of setup.now) }
-    ensures { IfOk result (IsInOrder trio_view true) }
-{
-    match tried_under(alloc, disks_of(alloc, files, None)?, setup, RULES)? {
-        Ok(shelf) => Ok(shelf),
-        Err(_) => Err(Fail::from("no shelf")),
-    }
-}
-
 // The number that is drawn next on the shelf of these files.
 fn drawn(alloc: Global, files: &Files, setup: &Setup) -> Result<u64, Fail>
     requires { IsReadSetup (scripts_of setup.now) }
 {
-    let shelf = opened(alloc, files, setup)?;
+    let shelf = opened(alloc, files, setup, RULES)?;
     let drawn = shelf.book().drawn();
     put_away(shelf);
     Ok(drawn)
@@ -97,16 +36,14 @@ fn drawn(alloc: Global, files: &Files, setup: &Setup) -> Result<u64, Fail>
 fn visited(alloc: Global, files: &Files, setup: &Setup) -> Result<Files, Fail>
     requires { IsReadSetup (scripts_of setup.now) }
 {
-    let mut shelf = opened(alloc, files, setup)?;
-    expect_visits(alloc, &mut shelf, ANSWERS)?;
-    files_of(alloc, shelf)
+    visited_with(alloc, files, setup, ANSWERS, RULES)
 }
 
 // What stands on the disks of the shelf of these files, after visits of their pages and a compaction.
 fn compacted_files(alloc: Global, files: &Files, setup: &Setup) -> Result<Files, Fail>
     requires { IsReadSetup (scripts_of setup.now) }
 {
-    let mut shelf = opened(alloc, files, setup)?;
+    let mut shelf = opened(alloc, files, setup, RULES)?;
     let _length = compacted(alloc, &mut shelf)?;
     files_of(alloc, shelf)
 }
@@ -128,7 +65,7 @@ pub fn sums(alloc: Global) -> Result<Files, Fail> {
 pub fn expect_sum(alloc: Global, files: &Files, setup: &Setup) -> Result<(), Fail>
     requires { IsReadSetup (scripts_of setup.now) }
 {
-    let mut shelf = opened(alloc, files, setup)?;
+    let mut shelf = opened(alloc, files, setup, RULES)?;
     let told = expect_visit(alloc, &mut shelf, ANSWERS[0]);
     put_away(shelf);
     told
@@ -165,7 +102,7 @@ fn expect_opened(alloc: Global, format: u8, parts: &[&[&[u8]]], next: u64) -> Re
 // Refuses files on which the last start does not go on.
 fn expect_newest(alloc: Global, files: &Files) -> Result<(), Fail> {
     let setup = setup(alloc, SCRIPTS)?;
-    let mut shelf = opened(alloc, files, &setup)?;
+    let mut shelf = opened(alloc, files, &setup, RULES)?;
     let told = expect_visit(alloc, &mut shelf, NEWEST);
     put_away(shelf);
     told

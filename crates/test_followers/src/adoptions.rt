@@ -6,13 +6,14 @@ ghost use Rattle.shelf.specs.Following.{IsInOrderIfFed};
 use crate::feeds::{bodies_in, feed_of, feed_with, first_of};
 use crate::followed::{follower, held, waiting};
 use crate::openings::{Opening, RULES, opened_bare, tried_bare};
-use crate::sums::{bare, leader, nothing, sums_feed};
+use crate::sums::{bare, leader, sums_feed};
 use disk_trio::Disks;
 use script_value::Reply;
 use shelf::{AdoptFault, BeginFault};
 use std::alloc::Global;
 use std::test::Fail;
 use test_compactions::files::{Files, Place, Trouble, Wrong, disks_of, left_by};
+use test_compactions::sums::nothing;
 use test_shelves::{MemoryShelf, put_away};
 use web_disk::{MemoryDisk, Wreck};
 

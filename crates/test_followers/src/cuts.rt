@@ -2,10 +2,11 @@
 
 use crate::feeds::{feed_of, front};
 use crate::followed::{Outcome, Pipes, followed_through, held};
-use crate::sums::{PLACES, nothing, sums_feed};
+use crate::sums::{PLACES, sums_feed};
 use page_follower::{FeedFault, FollowEnd};
 use std::alloc::Global;
 use std::test::Fail;
+use test_compactions::sums::nothing;
 
 // How following the first of so many bytes of the feed ends, and how many records are acknowledged.
 fn wanted(length: usize) -> (FollowEnd, u64) {

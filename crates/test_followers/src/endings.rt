@@ -4,11 +4,12 @@ use crate::feeds::{HEAD, ROLES, bodies_in, feed_of, front, with_record};
 use crate::followed::{
     Outcome, Pipes, followed, followed_through, follower, held, promoted, waiting,
 };
-use crate::sums::{PLACES, bare, leader, nothing, sums_feed};
+use crate::sums::{PLACES, bare, leader, sums_feed};
 use page_follower::{FeedFault, FollowEnd};
 use std::alloc::Global;
 use std::test::Fail;
 use test_compactions::files::Files;
+use test_compactions::sums::nothing;
 
 // How following this feed ends, and how many records are acknowledged, which has to leave the disks as they are.
 fn refused(alloc: Global, files: &Files, feed: &[u8]) -> Result<(FollowEnd, u64), Fail> {

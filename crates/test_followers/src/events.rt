@@ -8,12 +8,13 @@ ghost use Rattle.shelf.specs.Views.{IsInOrder};
 use crate::feeds::feed_in;
 use crate::followed::{follower, held, waiting};
 use crate::openings::RULES;
-use crate::sums::{nothing, opened, sums_feed, sums_setup};
+use crate::sums::sums_feed;
 use script_nodes::Setup;
 use script_value::Reply;
 use std::alloc::Global;
 use std::test::Fail;
 use test_compactions::files::{Files, files_of};
+use test_compactions::sums::{nothing, opened, sums_setup};
 use test_compactions::visits::swept;
 use test_shelves::{MemoryShelf, answered, datum, setup};
 

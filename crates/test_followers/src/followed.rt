@@ -6,11 +6,11 @@ ghost use Rattle.shelf.specs.Views.{follows_in};
 
 use crate::feeds::HEAD;
 use crate::openings::{Opening, opened_bare};
-use crate::sums::nothing;
 use page_follower::{FollowEnd, follow};
 use std::alloc::Global;
 use std::test::Fail;
 use test_compactions::files::{Files, files_of};
+use test_compactions::sums::nothing;
 use test_shelves::MemoryShelf;
 use web_outside::{TextSink, TextSource};
 

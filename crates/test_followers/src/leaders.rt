@@ -8,14 +8,15 @@ ghost use Rattle.shelf.specs.Views.{IsInOrder};
 use crate::feeds::{bodies_in, feed_of, feed_with};
 use crate::followed::{followed, follower, held, promoted};
 use crate::openings::{Opening, RULES, opened_bare};
-use crate::sums::{SEVEN, VISITS, nothing, opened, sums_feed, sums_setup, visited, visited_with};
+use crate::sums::{SEVEN, sums_feed, visited};
 use page_follower::FollowEnd;
 use script_nodes::Setup;
 use std::alloc::Global;
 use std::test::Fail;
 use test_compactions::files::{Files, files_of};
-use test_compactions::old::{SCRIPTS, file_of, files_with};
+use test_compactions::old::{ANSWERS, SCRIPTS, file_of, files_with};
 use test_compactions::records::{DRAWN, FORMAT_1, FORMAT_2, FORMAT_3, RENEWED};
+use test_compactions::sums::{VISITS, nothing, opened, sums_setup, visited_with};
 use test_compactions::visits::{Told, Visit, compacted, expect_visits};
 use test_shelves::{MemoryShelf, setup};
 
@@ -45,45 +46,6 @@ fn expect_goes_on(
     let _visited = visited_with(alloc, &files, setup, visits, RULES)?;
     Ok(())
 }
-
-// What pages of the older journals go on with.
-const ANSWERS: &[Visit] = &[
-    Visit {
-        path: "/servlets/sum;0*0*1*0000000000000001",
-        answer: "((n \"4\"))",
-        told: Told::Last("<p>7</p>"),
-    },
-    Visit {
-        path: "/servlets/hotel;0*3*4*0000000000000004",
-        answer: "()",
-        told: Told::Last("<p>A</p>"),
-    },
-    Visit {
-        path: "/servlets/hotel;0*3*5*0000000000000005",
-        answer: "()",
-        told: Told::Last("<p>B</p>"),
-    },
-    Visit {
-        path: "/servlets/shop;0*6*6*0000000000000006",
-        answer: "()",
-        told: Told::Last("<p>sold out</p>"),
-    },
-    Visit {
-        path: "/servlets/fin;0*8*8*0000000000000008",
-        answer: "()",
-        told: Told::Unknown,
-    },
-    Visit {
-        path: "/servlets/pay;0*10*12*000000000000000c",
-        answer: "()",
-        told: Told::Closed,
-    },
-    Visit {
-        path: "/servlets/pay;0*10*13*000000000000000d",
-        answer: "()",
-        told: Told::Last("<p>end</p>"),
-    },
-];
 
 // A journal of this format with these records after the first one, and how many records it has once it is of the newest format.
 const OLDER: &[(u8, &[&[&[u8]]])] = &[

@@ -6,13 +6,14 @@ ghost use Rattle.shelf.specs.Ranges.{AreInRange};
 use crate::feeds::{HEAD, feed_of, front};
 use crate::followed::{follower, promoted, waiting};
 use crate::openings::{OTHER_RULES, Opening, RULES, tried_bare};
-use crate::sums::{SEVEN, VISITS, leader, nothing, sums_feed, sums_setup, visited, visited_with};
+use crate::sums::{SEVEN, leader, sums_feed, visited};
 use script_nodes::Setup;
 use shelf::{BeginFault, Rules};
 use std::alloc::Global;
 use std::test::Fail;
 use test_compactions::files::{Files, disks_of};
 use test_compactions::old::files_with;
+use test_compactions::sums::{VISITS, nothing, sums_setup, visited_with};
 use test_shelves::{setup, tried_under};
 
 // The header of a file.
