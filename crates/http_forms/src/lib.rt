@@ -22,7 +22,7 @@ pub use laws::{
     streams_are_one, streams_stand_alone,
 };
 pub use progress::RequestScanner;
-pub use reader::{Incoming, ReadStop, RequestReader};
+pub use reader::{Incoming, ReadStop, RequestReader, incoming_of};
 pub use refused::{Refused, RequestFault};
 pub use reply::{Answer, write_reply};
 pub use request::{Request, request_of};

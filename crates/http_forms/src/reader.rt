@@ -95,8 +95,8 @@ fn fill<S: Source>(
     Ok(false)
 }
 
-// What the bytes of a link are.
-fn judge(
+/// What the bytes of a link are, which ended after them or not.
+pub fn incoming_of(
     alloc: Global,
     scanner: &RequestScanner,
     bytes: &[u8],
@@ -152,7 +152,7 @@ impl RequestReader {
     {
         let mut scanner = RequestScanner::new();
         let ended = fill(source, &mut scanner, &mut self.bytes)?;
-        match judge(alloc, &scanner, &self.bytes, ended)? {
+        match incoming_of(alloc, &scanner, &self.bytes, ended)? {
             Incoming::Visit(request) => {
                 remove_front(&mut self.bytes, request.length);
                 Ok(Incoming::Visit(request))
