@@ -5,7 +5,6 @@ pub mod Held
 pub mod Anew
 pub mod Before
 pub mod Comes
-pub mod Fits
 pub mod Left
 pub mod Over
 pub mod Quiet

@@ -1,7 +1,6 @@
 -- What is kept of a script at a page binds web cells of the script, the cells rising.
-use Rattle.std.proofs.Common.{◌≡◌, ℕ, zero, suc, ◌+◌, ◌-◌, ◌<◌, ◌==◌, ◌^◌, min, nat_lt, Bool, true, false, cond, ℤ, List, [], ◌∷◌, ◌++◌, length, Result, Ok, Err, Option, Some, None, refl, subst}
+use Rattle.std.proofs.Common.{◌≡◌, ℕ, zero, suc, ◌+◌, ◌-◌, ◌<◌, ◌^◌, min, Bool, true, false, ℤ, List, [], ◌∷◌, ◌++◌, length, Result, Ok, Err, Option, Some, None, refl, subst}
 use Rattle.std.specs.Prelude.{pos, negsuc, slice_get, unwrap_or}
-use Rattle.std.specs.List.{AllByRecursion}
 use Rattle.script_value.specs.Val.{Val, truth, size_of}
 use Rattle.script_value.specs.Views.{meaning}
 use Rattle.script_value.specs.declared.value.Value.TheVariants.{Truth}
@@ -11,7 +10,7 @@ use Rattle.script_value.specs.declared.outcome.TxName.{TxName}
 use Rattle.script_nodes.specs.PrimSpec.Table.{is_false}
 use Rattle.machine_states.specs.InstanceCells.Cells.{commit, cell_at}
 use Rattle.web_cells.specs.Shadows.{bound_to}
-use Rattle.web_cells.proofs.Shadowed.{rise}
+use Rattle.web_cells.proofs.Shadowed.{rise, bound_named}
 use Rattle.script_nodes.specs.declared.script.Node.{Node}
 use Rattle.script_nodes.specs.declared.script.Node.TheVariants as node
 use Rattle.script_nodes.specs.declared.script.SendKind.{SendKind}
@@ -26,15 +25,6 @@ use Rattle.frame_codec.specs.Stored.{ShadowsFit}
 use Rattle.frame_codec.specs.Laws.{EachKeptIsStored}
 
 -- ---- one binding more
-
-by_cond : (n : ℕ) (b : Bool) (x y : List (ℕ × Val)) → AllByRecursion (λ s. s.0 < n) x → AllByRecursion (λ s. s.0 < n) y → AllByRecursion (λ s. s.0 < n) (cond b x y)
-by_cond n true x y p q = p
-by_cond n false x y p q = q
-
-bound_named : (n c : ℕ) (v : Val) (ss : List (ℕ × Val)) → c < n → AllByRecursion (λ s. s.0 < n) ss → AllByRecursion (λ s. s.0 < n) (bound_to c v ss)
-bound_named n c v [] k h = (k, tt)
-bound_named n c v (s ∷ ss) k h =
-    by_cond n (nat_lt c s.0) _ _ (k, h) (by_cond n (c == s.0) _ _ (k, h.1) (h.0, bound_named n c v ss k h.1))
 
 bound_fits : (a : Arena) (c : ℕ) (v : Val) (ss : List (ℕ × Val)) → c < length a.web → ShadowsFit a ss → ShadowsFit a (bound_to c v ss)
 bound_fits a c v ss k h = record { rise = rise c v ss h.rise; named = bound_named (length a.web) c v ss k h.named }

@@ -18,6 +18,7 @@ use Rattle.http_forms.proofs.Decisions.{outcomes_are_one, requests_stand_alone, 
 use Rattle.http_forms.proofs.Fronts.{requests_are_fronts}
 use Rattle.http_forms.proofs.Bounds.{unfinished_bound}
 
+-- nothing is consumed where all stays
 pub consumes_none : (known : Option (List ℕ)) → Consumes known known []
 consumes_none None = tt
 consumes_none (Some xs) = refl
@@ -26,7 +27,8 @@ keeps_itself : (known : Option (List ℕ)) → Keeps known known
 keeps_itself None = tt
 keeps_itself (Some xs) = refl
 
-consumes_kept : (old mid new : Option (List ℕ)) (bytes : List ℕ) → Consumes old mid bytes → Keeps mid new → Consumes old new bytes
+-- what stays after bytes were consumed changes nothing
+pub consumes_kept : (old mid new : Option (List ℕ)) (bytes : List ℕ) → Consumes old mid bytes → Keeps mid new → Consumes old new bytes
 consumes_kept None mid new bytes p q = tt
 consumes_kept (Some xs) None new bytes p q = absurd p
 consumes_kept (Some xs) (Some ys) None bytes p q = absurd q
@@ -69,7 +71,7 @@ pub enough : (bytes : List ℕ) → IsDecided bytes → IsEnough bytes false
 enough bytes decided more = absurd (decided.finished (outcomes_are_one bytes false decided.outcome unfinished decided.decides more))
 
 -- nor do those after which the link ended, if there are any
-enough_ended : (bytes : List ℕ) → IsEnough bytes true
+pub enough_ended : (bytes : List ℕ) → IsEnough bytes true
 enough_ended bytes more = by_size (nat_lt 0 (length bytes)) refl
   where
     by_size : (b : Bool) → nat_lt 0 (length bytes) ≡ b → (bytes ≡ []) × (true ≡ true)

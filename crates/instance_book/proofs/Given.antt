@@ -1,12 +1,12 @@
 -- States that are given to more pages.
-use Rattle.std.proofs.Common.{◌≡◌, ◌∙◌, sym, subst, ℕ, List, [], ◌∷◌, map, ◌==◌, Bool, true, false, if◌then◌else◌, Option, Some, None, refl, arith}
+use Rattle.std.proofs.Common.{◌≡◌, ◌∙◌, sym, subst, ℕ, List, [], ◌∷◌, map, Option, Some, None, arith}
 use Rattle.std.proofs.lemmas.Bool.Decides.{nat_tests}
 use Rattle.std.proofs.lemmas.Option.{none-some}
 use Rattle.std.specs.List.{AllByRecursion}
 use Rattle.script_nodes.specs.Setup.{Named}
 use Rattle.journal_records.specs.ReplaySpec.Book.{Page, Instance, instance_at, page_at, parent_of}
 use Rattle.journal_records.specs.ReplaySpec.Invariant.{Apart, AreAncestors}
-use Rattle.journal_records.proofs.ReplaySpec.Numbered.{number_of}
+use Rattle.journal_records.proofs.ReplaySpec.Numbered.{number_of, first_there, later_there}
 use Rattle.kept_states.specs.MachineStates.Machine.{Suspended}
 use Rattle.kept_states.specs.Kept.{Kept}
 use Rattle.instance_book.specs.declared.numbered.Numbered.{Numbered}
@@ -60,17 +60,6 @@ module _ (k : ℕ) where
   not_later : (p : Page) (ps : List Page) → page_at k (p ∷ ps) ≡ None → page_at k ps ≡ None
   not_later p ps absent = grind (arith, nat_tests, absent, not_first p ps absent)
 
-  first_there : (i : Instance) (is : List Instance) → instance_at i.number (i ∷ is) ≡ Some i
-  first_there i is = grind (arith, nat_tests)
-
-  later_there : (n : ℕ) (i j : Instance) (is : List Instance) → instance_at i.number is ≡ None → instance_at n is ≡ Some j → instance_at n (i ∷ is) ≡ Some j
-  later_there n i j is apart found = by_test (i.number == n) refl
-    where
-      by_test : (t : Bool) → (i.number == n) ≡ t → (if t then Some i else instance_at n is) ≡ Some j
-      by_test true same =
-          let here : i.number ≡ n = grind (arith, nat_tests, same) in absurd (none-some j (sym apart ∙ subst (λ (m : ℕ). instance_at m is ≡ Some j) (sym here) found))
-      by_test false other = found
-
   module _ (f g : ℕ → Option Suspended) (other : (n : ℕ) (d : Suspended) → (n ≡ k → ⊥) → f n ≡ Some d → g n ≡ Some d) where
     other_behind : (s : Named) (ps : List Page) → page_at k ps ≡ None → (p : Page) (older : List Page) → AreAncestors ps p older → (d : Suspended) (x : Kept) → IsKeptBehind s (given f) older d x
         → IsKeptBehind s (given g) older d x
@@ -99,9 +88,9 @@ module _ (k : ℕ) where
     other_instances scripts (x ∷ xs) apart absent all =
         let i = instance_of scripts x in
         let rest = map (instance_of scripts) xs in
-        let none : page_at k i.pages ≡ None = absent i.number i (first_there i rest) in (
+        let none : page_at k i.pages ≡ None = absent i.number i (first_there (λ (j : Instance). j.number) i rest) in (
           record { placed = all.0.placed; states = other_pages (script_in scripts x.item.script) (pages_of x.item.pages) none x.item.pages.things.items none all.0.states },
-          other_instances scripts xs apart.1 (λ n j found. absent n j (later_there n i j rest apart.0 found)) all.1,
+          other_instances scripts xs apart.1 (λ n j found. absent n j (later_there (λ (y : Instance). y.number) n i j rest apart.0 found)) all.1,
         )
 
     pub other_given : (scripts : List Named) (b : Book) → Apart (instances_of scripts b.instances)

@@ -2,6 +2,7 @@ pub mod Codec
 pub mod Chains
 pub mod Exact
 pub mod Older
+pub mod OtherStates
 pub mod Roles
 pub mod Counts
 pub mod Levels

@@ -17,6 +17,7 @@ use Rattle.kept_states.specs.FrameCodec.Reading.{read_state}
 use Rattle.kept_states.specs.FrameCodec.Forms.{form_bytes, RisesBefore, BindsBefore}
 use Rattle.kept_states.proofs.FrameCodec.Formed.{forms_are_exact}
 use Rattle.journal_records.specs.Records.{changes, ChangeFits, opening_page, extension_page, body_of}
+use Rattle.journal_records.proofs.OtherStates.{change_with}
 use Rattle.journal_spec.specs.Retaking.{arena_of, unread, told, told_as, told_by, script_for}
 use Rattle.journal_spec.specs.Old.{binds_before, read_alone, told_alone}
 use Rattle.journal_spec.proofs.Grammar.{page_long}
@@ -114,30 +115,10 @@ pub bytes_fit : (b : Book) (c : Change) (s : Named) (state : Option (List ℕ)) 
     → ChangeFits c (Some bytes)
 bytes_fit b (opens o) s None bytes is fits short = absurd fits
 bytes_fit b (opens o) s (Some old) bytes is fits short =
-    let long = (page_long (opening_page o bytes)).state in
-    record {
-      ticket = fits.ticket;
-      nonce = fits.nonce;
-      origin = fits.origin;
-      effects = fits.effects;
-      left = fits.left;
-      deadline = fits.deadline;
-      evicted = fits.evicted;
-      state = omega (arith, long, short);
-    }
+    let long = (page_long (opening_page o bytes)).state in change_with (opens o) old bytes fits (omega (arith, long, short))
 bytes_fit b (extends x) s None bytes is fits short = absurd fits
 bytes_fit b (extends x) s (Some old) bytes is fits short =
-    let long = (page_long (extension_page x bytes)).state in
-    record {
-      ticket = fits.ticket;
-      nonce = fits.nonce;
-      origin = fits.origin;
-      effects = fits.effects;
-      left = fits.left;
-      deadline = fits.deadline;
-      evicted = fits.evicted;
-      state = omega (arith, long, short);
-    }
+    let long = (page_long (extension_page x bytes)).state in change_with (extends x) old bytes fits (omega (arith, long, short))
 bytes_fit b (ends e) s state bytes is fits short = absurd (let no : ⊥ = cc in no)
 bytes_fit b (finishes f) s state bytes is fits short = absurd (let no : ⊥ = cc in no)
 bytes_fit b (sweeps tick) s state bytes is fits short = absurd (let no : ⊥ = cc in no)

@@ -1,5 +1,5 @@
 -- Bytes that are read towards a request.
-use Rattle.std.proofs.Common.{◌≡◌, ◌≤◌, ◌<◌, ◌+◌, ◌-◌, ◌++◌, ℕ, List, [], Bool, true, false, length, take, drop, nat_lt, Option, Some, None, Ok, Err, arith, refl, sym, ap, ◌∙◌, subst, length-append, length-drop, append-nil}
+use Rattle.std.proofs.Common.{◌≡◌, ◌≤◌, ◌<◌, ◌+◌, ◌-◌, ◌++◌, ℕ, List, [], Bool, true, false, length, take, drop, nat_lt, Option, Ok, Err, arith, refl, sym, ap, ◌∙◌, subst, length-append, length-drop}
 use Rattle.std.proofs.lemmas.Bool.Decides.{nat_tests}
 use Rattle.std.proofs.Math.Seq.{take-append_seam}
 use Rattle.std.proofs.lemmas.List.{take-append-drop, take-append-le}
@@ -8,10 +8,9 @@ use Rattle.web_outside.proofs.Consumed.{consumes_then}
 use Rattle.http_forms.specs.Request.{unfinished, Decides}
 use Rattle.http_forms.specs.Progress.{IsDecided, Follows, Knows}
 use Rattle.http_forms.specs.declared.progress.RequestScanner.{RequestScanner}
-use Rattle.http_forms.proofs.Decisions.{outcomes_are_one}
 use Rattle.http_forms.proofs.Bounds.{unfinished_bound}
-use Rattle.http_forms.proofs.Pieces.{consumes_none}
-use Rattle.request_workers.specs.Bytes.{NeedsAll, Takes, IsEnough, ReadsPiece, ReadsAll}
+use Rattle.http_forms.proofs.Pieces.{consumes_none, consumes_kept, still_open, Says}
+use Rattle.request_workers.specs.Bytes.{NeedsAll, Takes, ReadsPiece, ReadsAll}
 use Rattle.http_forms.specs.declared.reader.ReadStop.{ReadStop}
 use Rattle.http_forms.specs.declared.reader.ReadStop.TheVariants.{Failed, Memory}
 
@@ -69,28 +68,6 @@ takes_more old mid new bytes piece scanner wanted before now came more within = 
 -- nothing more was read
 pub takes_same : (old mid new : Option (List ℕ)) (bytes : List ℕ) → Takes old mid bytes → Keeps mid new → Takes old new bytes
 takes_same old mid new bytes taken kept = record { consumed = consumes_kept old mid new bytes taken.consumed kept; needed = taken.needed }
-  where
-    consumes_kept : (old mid new : Option (List ℕ)) (bytes : List ℕ) → Consumes old mid bytes → Keeps mid new → Consumes old new bytes
-    consumes_kept None mid new bytes p q = tt
-    consumes_kept (Some xs) None new bytes p q = absurd p
-    consumes_kept (Some xs) (Some ys) None bytes p q = absurd q
-    consumes_kept (Some xs) (Some ys) (Some zs) bytes p q = p ∙ ap (λ w. bytes ++ w) (sym q)
-
--- more is wanted only where the bytes are unfinished
-pub still_open : (bytes : List ℕ) (wanted : ℕ) → ((more : List ℕ) → length more < wanted → Decides (bytes ++ more) false unfinished)
-    → 0 < wanted → Decides bytes false unfinished
-still_open bytes wanted short some = subst (λ w. Decides w false unfinished) (append-nil bytes) (short [] some)
-
--- decided bytes ask for no more
-pub enough : (bytes : List ℕ) → IsDecided bytes → IsEnough bytes false
-enough bytes decided more = absurd (decided.finished (outcomes_are_one bytes false decided.outcome unfinished decided.decides more))
-
--- what the scanner says of the bytes that it was shown
-pub record Says (scanner : RequestScanner) (wanted : ℕ) (shown : List ℕ) : Type 0 where
-  pub goes_on : (more : List ℕ) → Follows scanner (shown ++ more)
-  pub knows : Knows scanner shown
-  pub decided : wanted ≡ 0 → IsDecided shown
-  pub short : (more : List ℕ) → length more < wanted → Decides (shown ++ more) false unfinished
 
 -- bytes were taken, and shown to the scanner
 pub came : (old new : Option (List ℕ)) (bytes shown : List ℕ) (scanner : RequestScanner) (wanted before now : ℕ)

@@ -1,8 +1,9 @@
 -- The bytes of a request, as they are read.
-use Rattle.std.specs.Prelude.{◌≡◌, ◌≤◌, ◌<◌, ◌++◌, ℕ, Bool, true, false, List, [], length, Option, Result, Ok, Err}
+use Rattle.std.specs.Prelude.{◌≡◌, ◌≤◌, ◌<◌, ◌++◌, ℕ, Bool, true, false, List, length, Option, Result, Ok, Err}
 use Rattle.std.specs.Global.{Vec}
 use Rattle.std.specs.Io.KnownBytes.{Consumes, Keeps, IsAtEnd}
 use Rattle.web_outside.specs.View.{SourceView}
+use Rattle.http_forms.specs.Reader.{IsEnough}
 use Rattle.http_forms.specs.Request.{unfinished, Decides}
 use Rattle.http_forms.specs.declared.reader.ReadStop.{ReadStop}
 use Rattle.http_forms.specs.declared.reader.ReadStop.TheVariants.{Failed, Memory}
@@ -27,10 +28,6 @@ ReadsPiece old new before after wanted (Err Memory) = (piece : List ℕ) × Cons
 -- What came of reading a piece of at most so many bytes from a source to the end of these bytes.
 abbrev pub ReadsPieceFrom : {S : Type 0} → (S → SourceView) → (old new : S) → (before after : Vec ℕ) → (wanted : ℕ) → Result ℕ ReadStop → Type 0
 ReadsPieceFrom view old new before after wanted result = ReadsPiece (view old).left (view new).left before.items after.items wanted result
-
--- the bytes are decided, unless there are none and the link has ended
-abbrev pub IsEnough : List ℕ → (ended : Bool) → Type 0
-IsEnough bytes ended = Decides bytes ended unfinished → (bytes ≡ []) × (ended ≡ true)
 
 -- the bytes of a request were read, or a part of them, by how the reading ended
 abbrev pub ReadsAll : (old new : Option (List ℕ)) (bytes : List ℕ) → Result Bool ReadStop → Type 0

@@ -1,6 +1,5 @@
 -- What a machine came to is what its script comes to.
-use Rattle.std.proofs.Common.{◌≡◌, ◌∙◌, ℕ, zero, suc, ◌+◌, ◌*◌, ◌^◌, ◌<◌, ◌≤◌, ◌==◌, nat_lt, Bool, true, false, cond, List, [], ◌∷◌, length, map, refl, sym, ap, subst, arith}
-use Rattle.std.specs.List.{AllByRecursion}
+use Rattle.std.proofs.Common.{◌≡◌, ◌∙◌, ℕ, zero, suc, ◌+◌, ◌*◌, ◌^◌, ◌<◌, ◌≤◌, List, length, map, refl, sym, ap, subst, arith}
 use Rattle.std.proofs.lemmas.List.{length-reverse, length-map}
 use Rattle.script_value.specs.Val.{Val}
 use Rattle.script_value.specs.declared.outcome.TxName.{TxName}
@@ -8,7 +7,7 @@ use Rattle.instance_cells.specs.Cells.{Effect, reads_of, AreOn, Holds}
 use Rattle.instance_cells.specs.Views.{effect_of}
 use Rattle.web_cells.specs.Shadows.{bound_to}
 use Rattle.web_cells.specs.Own.{BindsAllOf}
-use Rattle.web_cells.proofs.Shadowed.{rise}
+use Rattle.web_cells.proofs.Shadowed.{rise, bound_named}
 use Rattle.script_nodes.specs.Arena.{Arena, IsScript, script_of}
 use Rattle.segments.specs.ReplaySpec.Tape.{Answer, Reads, recorded, present, State, Tape}
 use Rattle.segments.specs.ReplaySpec.Tape as spec
@@ -115,15 +114,6 @@ last_over a fuel m tape now c r is =
     )
 
 -- ---- one binding more
-
-by_cond : (n : ℕ) (b : Bool) (x y : List (ℕ × Val)) → AllByRecursion (λ s. s.0 < n) x → AllByRecursion (λ s. s.0 < n) y → AllByRecursion (λ s. s.0 < n) (cond b x y)
-by_cond n true x y p q = p
-by_cond n false x y p q = q
-
-bound_named : (n c : ℕ) (v : Val) (ss : List (ℕ × Val)) → c < n → AllByRecursion (λ s. s.0 < n) ss → AllByRecursion (λ s. s.0 < n) (bound_to c v ss)
-bound_named n c v [] k h = (k, tt)
-bound_named n c v (s ∷ ss) k h =
-    by_cond n (nat_lt c s.0) _ _ (k, h) (by_cond n (c == s.0) _ _ (k, h.1) (h.0, bound_named n c v ss k h.1))
 
 bound_more : (a : Arena) (c : ℕ) (v : Val) (ss : List (ℕ × Val)) → c < length a.web → AreBindings a ss → AreBindings a (bound_to c v ss)
 bound_more a c v ss k h = record { rise = rise c v ss h.rise; named = bound_named (length a.web) c v ss k h.named }

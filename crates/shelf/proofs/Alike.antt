@@ -1,12 +1,12 @@
 -- States that are given alike to the pages of a book.
-use Rattle.std.proofs.Common.{◌≡◌, ◌∙◌, sym, subst, ℕ, List, [], ◌∷◌, map, ◌==◌, Bool, true, false, if◌then◌else◌, Option, Some, None, refl, arith}
+use Rattle.std.proofs.Common.{◌≡◌, ◌∙◌, sym, subst, ℕ, List, [], ◌∷◌, map, ◌==◌, Bool, true, false, Option, Some, None, refl, arith}
 use Rattle.std.proofs.lemmas.Bool.Decides.{nat_tests}
 use Rattle.std.proofs.lemmas.Option.{none-some}
 use Rattle.std.specs.List.{AllByRecursion}
 use Rattle.script_nodes.specs.Setup.{Named}
 use Rattle.replay_spec.specs.Book.{Page, Instance, instance_at, page_at, parent_of}
 use Rattle.replay_spec.specs.Invariant.{Apart, AreAncestors}
-use Rattle.replay_spec.proofs.Numbered.{number_of}
+use Rattle.replay_spec.proofs.Numbered.{number_of, first_there, later_there}
 use Rattle.machine_states.specs.Machine.{Suspended}
 use Rattle.book_recovery.specs.InstanceBook.KeptStates.Kept.{Kept}
 use Rattle.book_recovery.specs.InstanceBook.declared.numbered.Numbered.{Numbered}
@@ -30,15 +30,12 @@ module _ (f g : ℕ → Option Suspended) where
   alike_behind s ps alike p [] are d x kept = kept
   alike_behind s ps alike p (q ∷ older) are d x kept = (kept.0, ((parent_alike ps alike p.parent q are.0 ∙ kept.1.0.0, kept.1.0.1), kept.1.1))
 
-  first_page : (p : Page) (ps : List Page) → page_at p.number (p ∷ ps) ≡ Some p
-  first_page p ps = grind (arith, nat_tests)
-
   later_alike : (p : Page) (ps : List Page) → AreAlike (p ∷ ps) → AreAlike ps
   later_alike p ps alike n q shown = by_test (p.number == n) refl
     where
       by_test : (t : Bool) → (p.number == n) ≡ t → g n ≡ f n
       by_test true same =
-          let here : p.number ≡ n = grind (arith, nat_tests, same) in subst (λ (m : ℕ). g m ≡ f m) here (alike p.number p (first_page p ps))
+          let here : p.number ≡ n = grind (arith, nat_tests, same) in subst (λ (m : ℕ). g m ≡ f m) here (alike p.number p (first_there (λ (q : Page). q.number) p ps))
       by_test false other = alike n q (grind (arith, nat_tests, other, shown))
 
   alike_pages : (s : Named) (ps : List Page) → AreAlike ps → (xs : List (Numbered KeptPage)) → AreAlike (map page_of xs) → HaveStates s (given f) ps (map shown_of xs) → HaveStates s (given g) ps (map shown_of xs)
@@ -48,23 +45,12 @@ module _ (f g : ℕ → Option Suspended) where
         record {
           lineage = has.lineage;
           state = has.state;
-          its = (there x.number (page_of x) (first_page (page_of x) (map page_of xs)) ∙ has.its.0, has.its.1);
+          its = (there x.number (page_of x) (first_there (λ (q : Page). q.number) (page_of x) (map page_of xs)) ∙ has.its.0, has.its.1);
           bytes = has.bytes;
           kept = alike_behind s ps alike (page_of x) has.lineage.ancestors has.lineage.are has.state _ has.kept;
         },
         alike_pages s ps alike xs (later_alike (page_of x) (map page_of xs) there) all.1,
       )
-
-  first_there : (i : Instance) (is : List Instance) → instance_at i.number (i ∷ is) ≡ Some i
-  first_there i is = grind (arith, nat_tests)
-
-  later_there : (n : ℕ) (i j : Instance) (is : List Instance) → instance_at i.number is ≡ None → instance_at n is ≡ Some j → instance_at n (i ∷ is) ≡ Some j
-  later_there n i j is apart found = by_test (i.number == n) refl
-    where
-      by_test : (t : Bool) → (i.number == n) ≡ t → (if t then Some i else instance_at n is) ≡ Some j
-      by_test true same =
-          let here : i.number ≡ n = grind (arith, nat_tests, same) in absurd (none-some j (sym apart ∙ subst (λ (m : ℕ). instance_at m is ≡ Some j) (sym here) found))
-      by_test false other = found
 
   alike_instances : (scripts : List Named) (xs : List (Numbered KeptInstance)) → Apart (map (instance_of scripts) xs)
       → ((k : ℕ) (i : Instance) → instance_at k (map (instance_of scripts) xs) ≡ Some i → AreAlike i.pages)
@@ -73,9 +59,9 @@ module _ (f g : ℕ → Option Suspended) where
   alike_instances scripts (x ∷ xs) apart alike all =
       let i = instance_of scripts x in
       let rest = map (instance_of scripts) xs in
-      let same : AreAlike i.pages = alike i.number i (first_there i rest) in (
+      let same : AreAlike i.pages = alike i.number i (first_there (λ (j : Instance). j.number) i rest) in (
         record { placed = all.0.placed; states = alike_pages (script_in scripts x.item.script) (pages_of x.item.pages) same x.item.pages.things.items same all.0.states },
-        alike_instances scripts xs apart.1 (λ n j found. alike n j (later_there n i j rest apart.0 found)) all.1,
+        alike_instances scripts xs apart.1 (λ n j found. alike n j (later_there (λ (y : Instance). y.number) n i j rest apart.0 found)) all.1,
       )
 
   pub alike_given : (scripts : List Named) (b : Book) → Apart (instances_of scripts b.instances)

@@ -1,6 +1,7 @@
 -- A shadow binds its cell alone.
-use Rattle.std.proofs.Common.{◌≡◌, ◌==◌, ℕ, ◌<◌, subst, List, [], ◌∷◌, Some, Bool, true, false, refl, arith, nat_lt}
+use Rattle.std.proofs.Common.{◌≡◌, ◌==◌, ℕ, ◌<◌, subst, List, [], ◌∷◌, Some, Bool, true, false, cond, refl, arith, nat_lt}
 use Rattle.std.specs.Prelude.{if◌then◌else◌}
+use Rattle.std.specs.List.{AllByRecursion}
 use Rattle.std.proofs.lemmas.Bool.Decides.{nat_tests}
 use Rattle.script_value.specs.Val.{Val}
 use Rattle.web_cells.specs.Shadows.{bound_to, binding, AreAbove, Rise}
@@ -64,3 +65,14 @@ rise c v (s ∷ ss) h = by_less (nat_lt c s.0) refl (rise c v ss h.1)
         → Rise (if t then (c, v) ∷ s ∷ ss else (if c == s.0 then (c, v) ∷ ss else s ∷ bound_to c v ss))
     by_less true e later = let l : c < s.0 = grind (arith, nat_tests) in ((l, above_lower c s.0 ss l h.0), h)
     by_less false e later = by_equal (c == s.0) refl e later
+
+-- ---- the cells stay below a number
+
+by_cond : (n : ℕ) (b : Bool) (x y : List (ℕ × Val)) → AllByRecursion (λ s. s.0 < n) x → AllByRecursion (λ s. s.0 < n) y → AllByRecursion (λ s. s.0 < n) (cond b x y)
+by_cond n true x y p q = p
+by_cond n false x y p q = q
+
+pub bound_named : (n c : ℕ) (v : Val) (ss : List (ℕ × Val)) → c < n → AllByRecursion (λ s. s.0 < n) ss → AllByRecursion (λ s. s.0 < n) (bound_to c v ss)
+bound_named n c v [] k h = (k, tt)
+bound_named n c v (s ∷ ss) k h =
+    by_cond n (nat_lt c s.0) _ _ (k, h) (by_cond n (c == s.0) _ _ (k, h.1) (h.0, bound_named n c v ss k h.1))

@@ -1,4 +1,4 @@
-use Rattle.std.proofs.Common.{◌≡◌, ◌∙◌, ap, sym, subst, List, ℕ, Option, Some, option_map, refl}
+use Rattle.std.proofs.Common.{◌≡◌, ◌∙◌, ap, sym, subst, List, [], ℕ, Option, Some, option_map, refl, arith}
 use Rattle.script_nodes.specs.Arena.{Arena}
 use Rattle.script_nodes.specs.Views.{library_of}
 use Rattle.journal_records.specs.Views.{page_change}
@@ -10,7 +10,7 @@ use Rattle.frame_codec.specs.Views.{FindsSpelled}
 use Rattle.instance_book.proofs.Behind.{arena_again}
 use Rattle.book_redo.specs.declared.behind.Behind.{Behind}
 use Rattle.book_redo.specs.Behind.{TellsBehind, IsSpelledBehind}
-use Rattle.book_redo.proofs.Fits.{fits_without}
+use Rattle.journal_records.proofs.OtherStates.{change_with}
 use Rattle.book_redo.proofs.Quiet.{told_if}
 use Rattle.book_redo.proofs.Anew.{unread_is}
 use Rattle.book_redo.proofs.Respelled.{unread_outside, untold_outside, told_anew}
@@ -65,4 +65,4 @@ returns-in-None-clause-renewed c =
     untold_outside l b r x c.args.state c.root-root.ensures.script tells d (sym (read ∙ ap (read_state a) c.as_slice.ensures)) spells.stored never
 
 pub told-requires : goal.told-requires
-told-requires c = record { fits = fits_without (page_change c.args.page) c.args.state c.requires.fits }
+told-requires c = record { fits = change_with (page_change c.args.page) c.args.state [] c.requires.fits (omega arith) }

@@ -1,6 +1,7 @@
 use Rattle.std.proofs.Common.{rules, ◌≡◌, arith, subst, sym, Err}
 use Rattle.request_workers.specs.Bytes.{ReadsAll}
-use Rattle.request_workers.proofs.Reading.{came_first, came_more, stopped, still_open, nearer, enough}
+use Rattle.http_forms.proofs.Pieces.{still_open, enough}
+use Rattle.request_workers.proofs.Reading.{came_first, came_more, stopped, nearer}
 use Rattle.request_workers.proofs.read.read_bytes.Goals as goal
 
 pub loop-wanted-init : goal.loop-wanted-init
