@@ -12,6 +12,7 @@ use Rattle.replay_spec.specs.Invariant.{Among}
 use Rattle.replay_spec.specs.Remade.{IsOrderlyMade}
 use Rattle.replay_spec.proofs.Stand.{orderly_less}
 use Rattle.replay_spec.proofs.Recovered.{among_is}
+use Rattle.replay_spec.proofs.Compacted.{one_among}
 use Rattle.book_redo.specs.MachineStates.Machine.{Suspended, inside_of}
 use Rattle.book_redo.specs.InstanceBook.declared.numbered.Numbered.{Numbered}
 use Rattle.book_redo.specs.InstanceBook.declared.in_order.InOrder.{InOrder}

@@ -187,6 +187,7 @@ in_order law format shelf bodies bytes n fed alone found.Memory seen way is = tt
 
 -- ---- where each record is an own one
 
+-- a frame after others makes them longer by its body and five bytes
 pub frames_behind : (front : List (List ℕ)) (body : List ℕ) → length (frames (front ++ body ∷ [])) ≡ length (frames front) + (length body + 5)
 frames_behind [] body = omega (arith, length-append (framed body) [], length-framed body)
 frames_behind (first ∷ front) body =

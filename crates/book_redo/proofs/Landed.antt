@@ -39,6 +39,7 @@ use Rattle.journal_spec.specs.Retaking.{Told, unread, told, told_as, told_by, sc
 use Rattle.journal_spec.specs.Lengths.{state_over}
 use Rattle.journal_spec.specs.Owning.{IsOwnState}
 use Rattle.journal_spec.proofs.Owned.{is_state_over}
+use Rattle.journal_spec.proofs.Telling.{at_number_again}
 use Rattle.instance_book.specs.declared.numbered.Numbered.{Numbered}
 use Rattle.instance_book.specs.declared.page.KeptPage.{KeptPage}
 use Rattle.instance_book.specs.declared.instance.KeptInstance.{KeptInstance}

@@ -1,9 +1,10 @@
 -- What the table of forms gives is closed.
-use Rattle.std.proofs.Common.{◌≡◌, ℕ, zero, suc, ◌==◌, ◌+◌, ◌<◌, ◌≤◌, Bool, true, false, List, [], ◌∷◌, ◌++◌, map, length, Option, Some, None, Result, Ok, Err, refl, sym, ap, ◌∙◌, arith, length-append}
+use Rattle.std.proofs.Common.{◌≡◌, ℕ, zero, suc, ◌==◌, ◌+◌, ◌<◌, ◌≤◌, Bool, true, false, List, [], ◌∷◌, ◌++◌, length, Option, Some, None, Result, Ok, Err, refl, sym, ap, ◌∙◌, arith, length-append}
 use Rattle.std.specs.Prelude.{codes, not, if◌then◌else◌, position, slice_get, unwrap_or, ⊤}
 use Rattle.std.proofs.lemmas.Bool.Decides.{nat_tests}
 use Rattle.std.specs.Str.{bytes_eq}
 use Rattle.std.proofs.lemmas.List.Quantifiers.{position-Some}
+use Rattle.std.proofs.lemmas.List.{length-map}
 use Rattle.script_value.specs.Val.{Val, Vals, number, truth, text, symbol, list, no_vals, val}
 use Rattle.script_value.specs.declared.outcome.Op.{Op}
 use Rattle.script_value.specs.declared.outcome.Op.TheVariants as op
@@ -149,10 +150,6 @@ get_there [] k h = absurd (omega arith)
 get_there (x ∷ ks) zero h = refl
 get_there (x ∷ ks) (suc k) h = get_there ks k (omega arith)
 
-as_many : {A B : Type 0} (f : A → B) (xs : List A) → length (map f xs) ≡ length xs
-as_many f [] = refl
-as_many f (x ∷ xs) = omega (arith, as_many f xs)
-
 abbrev Takes : CellNames → ℕ → ℕ → Type 0
 Takes cells n k = slice_get (parameters_in cells) k ≡ Some n
 
@@ -161,8 +158,8 @@ called_by : (cells : CellNames) (f : List ℕ) (n : ℕ) (o : Option ℕ) → po
 called_by cells f n None e = tt
 called_by cells f n (Some k) e =
     let within : k < length (names_of_tasks cells) = (position-Some (bytes_eq f) (names_of_tasks cells) k [] e).0 in
-    let one : length (names_of_tasks cells) ≡ length cells.tasks = as_many (λ (t : Task). t.name) cells.tasks in
-    let two : length (parameters_in cells) ≡ length cells.tasks = as_many (λ (t : Task). t.parameters) cells.tasks in
+    let one : length (names_of_tasks cells) ≡ length cells.tasks = length-map cells.tasks (λ (t : Task). t.name) in
+    let two : length (parameters_in cells) ≡ length cells.tasks = length-map cells.tasks (λ (t : Task). t.parameters) in
     let there = get_there (parameters_in cells) k (omega arith) in
     only_if (Takes cells n) (n == unwrap_or (slice_get (parameters_in cells) k) 0) Arity (Ok k)
     (λ t. there ∙ ap Some (sym (let same : n ≡ unwrap_or (slice_get (parameters_in cells) k) 0 = grind (arith, nat_tests, t) in same)))

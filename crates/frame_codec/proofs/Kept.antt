@@ -1,9 +1,8 @@
 -- What is kept of a script at a page binds web cells of the script, the cells rising.
-use Rattle.std.proofs.Common.{◌≡◌, ℕ, zero, suc, ◌+◌, ◌-◌, ◌<◌, ◌^◌, min, Bool, true, false, ℤ, List, [], ◌∷◌, ◌++◌, length, Result, Ok, Err, Option, Some, None, refl, subst}
-use Rattle.std.specs.Prelude.{pos, negsuc, slice_get, unwrap_or}
+use Rattle.std.proofs.Common.{ℕ, zero, suc, ◌+◌, ◌-◌, ◌<◌, ◌^◌, min, Bool, true, false, ℤ, List, [], ◌∷◌, ◌++◌, length, Result, Ok, Err, subst}
+use Rattle.std.specs.Prelude.{pos, negsuc}
 use Rattle.script_value.specs.Val.{Val, truth, size_of}
 use Rattle.script_value.specs.Views.{meaning}
-use Rattle.script_value.specs.declared.value.Value.TheVariants.{Truth}
 use Rattle.script_value.specs.declared.outcome.Op.{Op}
 use Rattle.script_value.specs.declared.outcome.Fault.{Fault}
 use Rattle.script_value.specs.declared.outcome.TxName.{TxName}
@@ -15,12 +14,12 @@ use Rattle.script_nodes.specs.declared.script.Node.{Node}
 use Rattle.script_nodes.specs.declared.script.Node.TheVariants as node
 use Rattle.script_nodes.specs.declared.script.SendKind.{SendKind}
 use Rattle.script_nodes.specs.Arena.{Arena, IsScript, IsOnCells}
-use Rattle.script_nodes.proofs.Scripts.{node_on_cells}
 use Rattle.machine_states.specs.ReplaySpec.Tape.{Reads, recorded, present, Answer, Tape, State, End, got, stop, Run, after, ◌>>=◌, give, answer, choose, bound, is_over, charged, charge, url, sent, send_page, named, enter, lookup, read_from, read_cell, set_in, added, add_to, add_in, as_number}
 use Rattle.machine_states.specs.ReplaySpec.Eval.{value_at, copied, is_not_false}
 use Rattle.machine_states.specs.Machine.{Control, visit, value, Frame, in_binding, in_operand, in_body, in_seq, in_and, in_or, in_if, in_count, in_store, in_turn, in_isolate, in_call, in_task, in_page, in_finish, in_back, Point, inside_of, visits, gives, given, cut, node_at, part_at, parts_from, bindings_from, body_at, store_by, next_binding, next_part, next_operand, next_argument, next_turn, first_turn, visited, taken, next, Suspended, Machine, Step, goes, stopped, stepped, step, then, steps}
 use Rattle.machine_states.specs.Laws.{started, IsStateOf}
 use Rattle.machine_states.proofs.Fitting.{each_fits}
+use Rattle.machine_states.proofs.NodesOnCells.{on_cells}
 use Rattle.frame_codec.specs.Stored.{ShadowsFit}
 use Rattle.frame_codec.specs.Laws.{EachKeptIsStored}
 
@@ -167,14 +166,6 @@ visits_keep a n (node.InstRef c) env fs =
     (λ s h. goes_on a (read_cell c s) (copied (inside_of fs)) (reads a c s.segment.reads s h) (copies a (inside_of fs)))
 visits_keep a n (node.InstSet c e) env fs = paid a (inside_of fs) (visits e env (in_store n ∷ fs)) (λ s h. h)
 visits_keep a n (node.InstAdd c e) env fs = paid a (inside_of fs) (visits e env (in_store n ∷ fs)) (λ s h. h)
-
--- the cell that a node names is there
-on_cells : (a : Arena) → IsScript a → (n : ℕ) → IsOnCells (length a.web) (length a.cells) (node_at a n)
-on_cells a i n = by_option (slice_get a.nodes n) refl
-  where
-    by_option : (o : Option Node) → slice_get a.nodes n ≡ o → IsOnCells (length a.web) (length a.cells) (unwrap_or o (node.Lit (Truth false)))
-    by_option None e = tt
-    by_option (Some x) e = node_on_cells a i n x e
 
 takes_keep : (a : Arena) → IsScript a → (f : Frame) (v : Val) (env : List Val) (fs : List Frame) → Keeps a (taken a f v env fs)
 takes_keep a i (in_binding n done) v env fs = binding a n (bindings_from a n (suc (length done))) (body_at a n) (done ++ v ∷ []) env fs

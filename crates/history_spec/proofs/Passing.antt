@@ -13,9 +13,11 @@ use Rattle.history_spec.specs.Passes.{publish_of, TwoCallsVisit, IsSeenBy, Goes,
 use Rattle.history_spec.proofs.Going.{push}
 use Rattle.history_spec.proofs.Owing.{left_push, left_by}
 
+-- the entries of a caller among two lists, one after the other
 pub own_append : (c : ℕ) (es more : List Entry) → own_of c (es ++ more) ≡ own_of c es ++ own_of c more
 own_append c es more = filter-append (λ (e : Entry). e.caller == c) es more
 
+-- an entry of a caller is the one of it
 pub own_one : (e : Entry) (c : ℕ) → e.caller ≡ c → own_of c (e ∷ []) ≡ e ∷ []
 own_one e c is = let yes : (e.caller == c) ≡ true = grind (arith, nat_tests) in ap (λ (b : Bool). cond b (e ∷ []) []) yes
 

@@ -13,4 +13,5 @@ pub mod Visiting
 pub mod Stepping
 pub mod Unbound
 pub mod Stacks
+pub mod NodesOnCells
 pub use Rattle.replay_spec.proofs as ReplaySpec

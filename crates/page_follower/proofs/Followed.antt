@@ -7,7 +7,7 @@ use Rattle.page_follower.specs.Computed.{AdmitsEach, does}
 use Rattle.page_follower.specs.Feed.{Feed, FeedEnd, ends_so, by_head, fed, feed_head, feed_in, feed_within, headless, cut, most_of_feed, overlong}
 use Rattle.page_follower.specs.Following.{Outcome, acked, adopts, differs_at, followed, follows, is_same, is_spent, outcome_of, refused_at, stops}
 use Rattle.page_follower.proofs.Feeds.{length_framed}
-use Rattle.page_follower.proofs.Heads.{behind_is}
+use Rattle.shelf.proofs.PageJournal.Scans.{behind_is}
 use Rattle.page_follower.proofs.Parsed.{in_front}
 
 -- ---- bodies

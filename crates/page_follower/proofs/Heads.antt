@@ -1,28 +1,13 @@
 -- The first bytes of a feed.
-use Rattle.std.proofs.Common.{◌≡◌, ◌≤◌, ◌<◌, ◌==◌, ◌++◌, ◌∙◌, inl, inr, ℕ, List, [], ◌∷◌, Option, Some, None, length, take, drop, arith, sym, ap, refl, subst, length-append, append-nil, if◌then◌else◌, Bool, true, false, IsTrue, ◌↔◌}
+use Rattle.std.proofs.Common.{◌≡◌, ◌≤◌, ◌<◌, ◌++◌, ◌∙◌, ℕ, List, [], ◌∷◌, Option, Some, None, length, take, drop, arith, sym, ap, refl, subst, length-append, append-nil, Bool, true, false, IsTrue, ◌↔◌}
 use Rattle.std.proofs.Math.Seq.{take-append_seam}
 use Rattle.std.proofs.lemmas.List.{take-append-drop, length-drop, length-take-le, take_all}
-use Rattle.std.proofs.lemmas.Bool.{cases_eq}
-use Rattle.std.proofs.lemmas.Bool.Decides.{nat_tests}
 use Rattle.std.specs.Io.KnownBytes.{Consumes, IsAtEnd}
 use Rattle.shelf.specs.WebOutside.View.{SourceView}
 use Rattle.shelf.specs.PageJournal.Records.{behind}
+use Rattle.shelf.proofs.PageJournal.Scans.{behind_is}
 use Rattle.page_follower.specs.Feed.{feed_head}
 use Rattle.page_follower.specs.Reading.{Got, IsHeadCut, IsNoHead, Gives}
-
--- bytes that begin with a front are that front and what stands after it
-pub behind_is : (front bytes rest : List ℕ) → behind front bytes ≡ Some rest → bytes ≡ front ++ rest
-behind_is [] bytes rest is = cc
-behind_is (b ∷ front) [] rest is = absurd (cc is)
-behind_is (b ∷ front) (x ∷ bytes) rest is = elim (cases_eq b x) [
-  | inl same ↦ (
-      let more : (if b == x then behind front bytes else None) ≡ behind front bytes = grind (arith, nat_tests, same) in
-      let tail = behind_is front bytes rest (sym more ∙ is) in
-      λ i. sym same i ∷ tail i)
-  | inr other ↦ (
-      let none : (if b == x then behind front bytes else None) ≡ None = grind (arith, nat_tests, other) in
-      absurd (cc (sym none ∙ is)))
-]
 
 -- a list of no bytes
 nothing_in : (rest : List ℕ) → length rest ≡ 0 → rest ≡ []

@@ -36,6 +36,7 @@ not_repeated (ends e) seen h = not_one e.number seen (h e.number refl)
 not_repeated (finishes f) seen h = not_one f.number seen (h f.number refl)
 not_repeated (sweeps tick) seen h = refl
 
+-- a number that the test finds is one of these
 pub one_among : (n : ℕ) (ns : List ℕ) → is_one n ns ≡ true → Among n ns
 one_among n [] h = absurd (let no : ⊥ = cc in no)
 one_among n (m ∷ ns) h = by_test (m == n) refl h (one_among n ns)

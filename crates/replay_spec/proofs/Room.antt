@@ -1,9 +1,10 @@
 -- No more pages are used than the limit allows.
-use Rattle.std.proofs.Common.{◌≡◌, ◌≤◌, ◌==◌, ◌+◌, ◌-◌, ◌⊎◌, ℕ, zero, suc, List, [], ◌∷◌, length, map, Option, Some, None, Bool, true, false, not, filter, refl, sym, ap, subst, ◌∙◌, ⊎_elim, slice_get, arith}
+use Rattle.std.proofs.Common.{◌≡◌, ◌≤◌, ◌==◌, ◌+◌, ◌-◌, ◌⊎◌, ℕ, zero, suc, List, [], ◌∷◌, length, Option, Some, None, Bool, true, false, not, filter, refl, sym, ap, subst, ◌∙◌, ⊎_elim, slice_get, arith}
 use Rattle.std.specs.Prelude.{⊤}
 use Rattle.std.proofs.lemmas.Bool.{cases_eq}
 use Rattle.std.proofs.lemmas.Bool.Decides.{nat_tests}
 use Rattle.std.proofs.lemmas.Option.{same_Some}
+use Rattle.std.proofs.lemmas.List.{length-map}
 use Rattle.script_value.specs.declared.outcome.TxName.{TxName}
 use Rattle.script_nodes.specs.Setup.{Named}
 use Rattle.replay_spec.specs.Tape.{present, How, shows, Outcome, paged}
@@ -26,10 +27,6 @@ use Rattle.replay_spec.proofs.Going.{Records, Goes, stays, draws, spends, publis
 use Rattle.replay_spec.proofs.Orderly.{stands_there}
 use Rattle.replay_spec.proofs.Differ.{put_from, mend_from}
 use Rattle.replay_spec.proofs.Goers.{pages_of, used_pages, gone_pages, least_there}
-
-map_length : {A B : Type 0} (f : A → B) (xs : List A) → length (map f xs) ≡ length xs
-map_length f [] = refl
-map_length f (x ∷ xs) = ap suc (map_length f xs)
 
 pub gone_more : (n : ℕ) (ns : List ℕ) (us : List Use) → unless_gone (n ∷ ns) us ≡ unless_gone ns (but n us)
 gone_more n ns [] = refl
@@ -65,9 +62,9 @@ fewer_left (suc k) (u ∷ us) =
 -- how many are left depends on the pages alone
 left_alike : (gone : List ℕ) (us vs : List Use) → pages_of us ≡ pages_of vs → length (unless_gone gone us) ≡ length (unless_gone gone vs)
 left_alike gone us vs same =
-    sym (map_length (λ (u : Use). u.page) (unless_gone gone us))
+    sym (length-map (unless_gone gone us) (λ (u : Use). u.page))
     ∙ (ap (λ (ns : List ℕ). length ns) (gone_pages gone us ∙ (ap (λ (ns : List ℕ). filter (λ m. not (is_one m gone)) ns) same ∙ sym (gone_pages gone vs)))
-    ∙ map_length (λ (u : Use). u.page) (unless_gone gone vs))
+    ∙ length-map (unless_gone gone vs) (λ (u : Use). u.page))
 
 room_for : (limit most p n : ℕ) (us : List Use) → 1 ≤ most → limit ≤ most → length (unless_gone (goes_for limit p n us) us) + 1 ≤ most
 room_for limit most p n us one less =
@@ -84,8 +81,9 @@ put_most w (u ∷ us) = grind (arith, nat_tests, put_most w us)
 abbrev AreRoomy : (most : ℕ) → List Instance → Type 0
 AreRoomy most is = (k : ℕ) (i : Instance) → instance_at k is ≡ Some i → length i.used ≤ most
 
+-- a use more is no page more
 pub used_many : (p n : ℕ) (us : List Use) → length (used_by p n us) ≡ length us
-used_many p n us = sym (map_length (λ (u : Use). u.page) (used_by p n us)) ∙ (ap (λ (ns : List ℕ). length ns) (used_pages p n us) ∙ map_length (λ (u : Use). u.page) us)
+used_many p n us = sym (length-map (used_by p n us) (λ (u : Use). u.page)) ∙ (ap (λ (ns : List ℕ). length ns) (used_pages p n us) ∙ length-map us (λ (u : Use). u.page))
 
 mended : (most n : ℕ) (f : Instance → Instance) (is : List Instance) → KeepsNumber f → AreRoomy most is
     → ((i : Instance) → instance_at n is ≡ Some i → length (f i).used ≤ most) → AreRoomy most (mend n f is)
@@ -201,7 +199,7 @@ at_most most one = (
   λ (b : Book) (g : IsOrderly b) (h : IsRoomy most b) (k : ℕ) (i : Instance) (found : instance_at k b.instances ≡ Some i).
       let kept = g.instances.kept k i found in
       let same : length i.used ≡ length (filter (λ p. not (is_evicted p.number i.evicted)) i.pages) =
-      sym (map_length (λ (u : Use). u.page) i.used) ∙ (ap (λ (ns : List ℕ). length ns) kept.used ∙ map_length number_of (filter (λ p. not (is_evicted p.number i.evicted)) i.pages)) in
+      sym (length-map i.used (λ (u : Use). u.page)) ∙ (ap (λ (ns : List ℕ). length ns) kept.used ∙ length-map (filter (λ p. not (is_evicted p.number i.evicted)) i.pages) number_of) in
       let less = h.instances k i found in
       omega (arith, same, less),
 )

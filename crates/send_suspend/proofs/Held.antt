@@ -1,39 +1,23 @@
 -- The effects of a segment over present cells are on the cells of its script and hold over them, whatever state it goes on from.
-use Rattle.std.proofs.Common.{◌≡◌, ℕ, zero, suc, ◌+◌, ◌-◌, ◌<◌, ◌^◌, min, Bool, true, false, ℤ, List, [], ◌∷◌, ◌++◌, length, Result, Ok, Err, Option, Some, None, refl, sym, subst}
-use Rattle.std.specs.Prelude.{pos, negsuc, slice_get, unwrap_or, IsOk}
+use Rattle.std.proofs.Common.{◌≡◌, ℕ, zero, suc, ◌+◌, ◌-◌, ◌<◌, ◌^◌, min, Bool, true, false, ℤ, List, [], ◌∷◌, ◌++◌, length, Result, Ok, Err, refl, sym, subst}
+use Rattle.std.specs.Prelude.{pos, negsuc, IsOk}
 use Rattle.script_value.specs.Val.{Val, truth, size_of}
 use Rattle.script_value.specs.Views.{meaning}
-use Rattle.script_value.specs.declared.value.Value.TheVariants.{Truth}
 use Rattle.script_value.specs.declared.outcome.Fault.{Fault}
 use Rattle.script_value.specs.declared.outcome.Op.{Op}
 use Rattle.script_value.specs.declared.outcome.TxName.{TxName}
 use Rattle.prim_spec.specs.Table.{is_false}
 use Rattle.web_cells.specs.Shadows.{bound_to}
-use Rattle.instance_cells.specs.Cells.{Effect, read, set, add, cell_of, cell_at, sum, landed, commit, Stands, Holds, AreOn}
+use Rattle.instance_cells.specs.Cells.{Effect, read, set, add, cell_of, cell_at, sum, commit, Stands, Holds, AreOn}
+use Rattle.instance_cells.proofs.Pushed.{holds_push, on_push}
 use Rattle.script_nodes.specs.declared.script.Node.{Node}
 use Rattle.script_nodes.specs.declared.script.Node.TheVariants as node
 use Rattle.script_nodes.specs.declared.script.SendKind.{SendKind}
 use Rattle.script_nodes.specs.Arena.{Arena, IsScript, IsOnCells}
-use Rattle.script_nodes.proofs.Scripts.{node_on_cells}
 use Rattle.segments.specs.ReplaySpec.Tape.{Reads, present, Answer, State, Outcome, End, got, stop, Run, after, ◌>>=◌, give, answer, choose, bound, is_over, charged, charge, url, sent, send_page, named, enter, lookup, read_from, read_cell, set_in, note, added, add_to, add_in, as_number}
 use Rattle.segments.specs.ReplaySpec.Eval.{value_at, copied, is_not_false}
 use Rattle.machine_states.specs.Machine.{Control, visit, value, Frame, in_binding, in_operand, in_body, in_seq, in_and, in_or, in_if, in_count, in_store, in_turn, in_isolate, in_call, in_task, in_page, in_finish, in_back, Point, inside_of, visits, gives, given, cut, node_at, part_at, parts_from, bindings_from, body_at, store_by, next_binding, next_part, next_operand, next_argument, next_turn, first_turn, visited, taken, next, Suspended, Machine, Step, goes, stopped, stepped, step, then, steps}
-
-holds_push : (es : List Effect) (e : Effect) (cells : List Val) → Holds es cells → Stands e (cell_at (commit es cells) (cell_of e)) → Holds (es ++ e ∷ []) cells
-holds_push [] e cells h s = (s, tt)
-holds_push (d ∷ es) e cells h s = (h.0, holds_push es e (landed d cells) h.1 s)
-
-on_push : (n : ℕ) (es : List Effect) (e : Effect) → AreOn n es → cell_of e < n → AreOn n (es ++ e ∷ [])
-on_push n [] e on h = (h, tt)
-on_push n (d ∷ es) e on h = (on.0, on_push n es e on.1 h)
-
--- the cell that a node names is there
-on_cells : (a : Arena) → IsScript a → (n : ℕ) → IsOnCells (length a.web) (length a.cells) (node_at a n)
-on_cells a i n = by_option (slice_get a.nodes n) refl
-  where
-    by_option : (o : Option Node) → slice_get a.nodes n ≡ o → IsOnCells (length a.web) (length a.cells) (unwrap_or o (node.Lit (Truth false)))
-    by_option None e = tt
-    by_option (Some x) e = node_on_cells a i n x e
+use Rattle.machine_states.proofs.NodesOnCells.{on_cells}
 
 module _ (a : Arena) (i : IsScript a) (cells : List Val) (fuel : ℕ) (B : List (ℕ × Val) → Type 0) (binds : (c : ℕ) (v : Val) (ss : List (ℕ × Val)) → c < length a.web → B ss → B (bound_to c v ss)) where
   -- a segment over present cells, in which this holds of the bindings: its effects are on the script's cells and hold over these

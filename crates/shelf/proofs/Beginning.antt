@@ -11,6 +11,7 @@ use Rattle.page_journal.proofs.Frames.{length-at_rest}
 use Rattle.page_journal.specs.Holding.{MayHold}
 use Rattle.page_journal.specs.Settled.{IsSettled, view_of, bodies_in, length_of, length_with}
 use Rattle.page_journal.specs.declared.journal.Journal.{Journal}
+use Rattle.page_journal.proofs.Scans.{quiet_none}
 use Rattle.replay_spec.specs.Book.{Book, File, reopened}
 use Rattle.replay_spec.specs.Rules.{Rules, first_file, empty_book}
 use Rattle.replay_spec.specs.Invariant.{IsOrderly}

@@ -10,6 +10,7 @@ use Rattle.page_journal.specs.Holding.{IsEither}
 use Rattle.page_journal.specs.Settled as journal
 use Rattle.page_journal.specs.Settled.{view_of, bodies_in, length_of}
 use Rattle.page_journal.specs.declared.journal.Journal.{Journal}
+use Rattle.page_journal.proofs.Mending.{leaves_map}
 use Rattle.replay_spec.specs.Book as spec
 use Rattle.replay_spec.specs.Book.{File, Book, compacting, reopened}
 use Rattle.replay_spec.specs.Compaction.{compaction, file_length}

@@ -94,9 +94,6 @@ bytes_more (b ∷ bodies) body all one = (all.0, bytes_more bodies body all.1 on
 
 -- ---- what is known, by the calls of the journal
 
-pub told_still : (notes : FileNotes) → StaysAsTold notes notes
-told_still notes = record { file = refl; notes = refl; head = refl; drawn = refl }
-
 -- what a crash leaves of a settled journal of the newest format
 pub settled_newest : {D : Type 0} (view : D → View) (j : Journal D) → IsSettled view j → j.format ≡ newest → LeavesNewest (view j.disk)
 settled_newest view j settled now image left = closed_format newest (bodies_in view j) image (newest_images view j settled now image left)

@@ -9,6 +9,7 @@ use Rattle.page_journal.specs.Holding.{IsEither}
 use Rattle.page_journal.specs.Scanned.{IsQuiet}
 use Rattle.page_journal.specs.Settled.{HasFailed, IsSettled, view_of, bodies_in, length_of}
 use Rattle.page_journal.specs.declared.journal.Journal.{Journal}
+use Rattle.page_journal.proofs.Mending.{leaves_map}
 use Rattle.replay_spec.specs.Book.{Book}
 use Rattle.replay_spec.specs.Rules.{first_file}
 use Rattle.journal_records.specs.Records.{draws, body_of}

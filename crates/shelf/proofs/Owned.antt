@@ -8,6 +8,7 @@ use Rattle.page_journal.specs.Holding.{IsClosed, MayHold, Holdable, MayHoldNowAn
 use Rattle.page_journal.specs.Settled.{IsSettled, view_of, bodies_in}
 use Rattle.page_journal.specs.declared.journal.Journal.{Journal}
 use Rattle.page_journal.proofs.Holds.{settled_images, just_these, before_or_after}
+use Rattle.page_journal.proofs.Mending.{leaves_map}
 use Rattle.book_recovery.specs.JournalSpec.Before.{Made}
 use Rattle.book_recovery.specs.JournalSpec.Making.{made_in, book_of}
 use Rattle.book_recovery.specs.JournalSpec.Owning.{AreOwn, AreOwnIn}

@@ -10,6 +10,7 @@ use Rattle.page_journal.specs.Scanned.{IsQuiet}
 use Rattle.page_journal.specs.Settled.{HasFailed, IsSettled, view_of, bodies_in, length_of}
 use Rattle.page_journal.specs.declared.journal.Journal.{Journal}
 use Rattle.page_journal.proofs.Mending.{leaves_then}
+use Rattle.page_journal.proofs.Scans.{quiet_then}
 use Rattle.book_recovery.specs.JournalSpec.Before.{Made}
 use Rattle.book_recovery.specs.JournalSpec.Reading.{AreAllBytes}
 use Rattle.book_recovery.specs.JournalSpec.Old.{book_of_format, format_of_now}

@@ -12,6 +12,8 @@ use Rattle.page_journal.specs.Records.{newest, frames}
 use Rattle.page_journal.specs.Holding.{MayHold, Holdable}
 use Rattle.page_journal.specs.Settled.{IsSettled, view_of, bodies_in, length_of, length_with}
 use Rattle.page_journal.specs.declared.journal.Journal.{Journal}
+use Rattle.page_journal.proofs.Mending.{leaves_map}
+use Rattle.page_journal.proofs.Scans.{quiet_none}
 use Rattle.replay_spec.specs.Book.{Book, File, Instance, reopened, are_same}
 use Rattle.replay_spec.specs.Book.{renewed as setup_line}
 use Rattle.replay_spec.specs.Change.{with_line}

@@ -22,6 +22,7 @@ use Rattle.history_spec.specs.Laws.{take_of}
 use Rattle.history_spec.specs.Passes.{IsSeenBy, publish_of}
 use Rattle.history_spec.proofs.Behind.{never_back}
 use Rattle.history_spec.proofs.Going.{go_on}
+use Rattle.history_spec.proofs.Passing.{own_append, own_one}
 use Rattle.site.specs.declared.entry.KeptEntry.{KeptEntry}
 use Rattle.site.specs.declared.opening.Opening.{Opening}
 use Rattle.site.specs.declared.site.Site.{Site}
