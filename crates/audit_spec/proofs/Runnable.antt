@@ -1,9 +1,9 @@
 -- The setups that names and texts are read as can be run, and no name stands twice in them.
 use Rattle.std.proofs.Common.{◌≡◌, ℕ, zero, suc, ◌+◌, Bool, true, false, not, List, [], ◌∷◌, ◌++◌, length, Some, None, Result, Ok, Err, refl, sym, ap, subst, ◌∙◌, slice_get, if◌then◌else◌, arith}
-use Rattle.std.specs.Prelude.{◌&&◌, ◌||◌, nat_le, nat_lt, ⊤}
+use Rattle.std.specs.Prelude.{◌&&◌, nat_le, nat_lt, ⊤}
 use Rattle.std.specs.List.{position_or_len}
 use Rattle.std.specs.Str.{bytes_eq}
-use Rattle.std.proofs.lemmas.Bool.{and_parts}
+use Rattle.std.proofs.lemmas.Bool.{and_parts, or_parts, or_from}
 use Rattle.std.proofs.lemmas.Bool.Decides.{nat_tests}
 use Rattle.std.proofs.lemmas.Option.{slice_get_within}
 use Rattle.std.proofs.lemmas.Slice.Eq.{bytes_eq-Decides}
@@ -124,20 +124,13 @@ whole_at (t ∷ ts) (s ∷ ss) h (suc k) x e = whole_at ts ss h.1 k x e
 
 -- ---- no name stands twice
 
-or_false : (a b : Bool) → (a || b) ≡ false → (a ≡ false) × (b ≡ false)
-or_false true b h = absurd (let no : ⊥ = cc in no)
-or_false false b h = (refl, h)
-
-not_either : (a b : Bool) → a ≡ false → b ≡ false → (a || b) ≡ false
-not_either a b p q = rw p q
-
 -- a name that is none of these names with one more
 among_parts : (name : List ℕ) (before : List (List ℕ)) (x : List ℕ) → is_among name (before ++ x ∷ []) ≡ false → (is_among name before ≡ false) × (bytes_eq x name ≡ false)
-among_parts name [] x h = (refl, (or_false (bytes_eq x name) false h).0)
+among_parts name [] x h = (refl, (or_parts (bytes_eq x name) false h).0)
 among_parts name (b ∷ before) x h =
-    let p = or_false (bytes_eq b name) (is_among name (before ++ x ∷ [])) h in
+    let p = or_parts (bytes_eq b name) (is_among name (before ++ x ∷ [])) h in
     let q = among_parts name before x p.1 in
-    (not_either (bytes_eq b name) (is_among name before) p.0 q.0, q.1)
+    (or_from (bytes_eq b name) (is_among name before) p.0 q.0, q.1)
 
 not_true : (b : Bool) → not b ≡ true → b ≡ false
 not_true true h = absurd (let no : ⊥ = cc in no)

@@ -1,8 +1,8 @@
 -- The states of pages.
-use Rattle.std.proofs.Common.{◌≡◌, ◌∙◌, ap, sym, subst, ℕ, zero, suc, ◌<◌, List, [], ◌∷◌, length, reverse, slice_get, Option, Some, None, ◌++◌, refl, arith, length-append, Contains, inl, inr}
+use Rattle.std.proofs.Common.{◌≡◌, ◌∙◌, ap, sym, subst, ℕ, ◌<◌, List, [], ◌∷◌, length, reverse, slice_get, Option, Some, None, ◌++◌, refl, arith, length-append, Contains, inl, inr}
 use Rattle.std.specs.Bool.{⊤}
 use Rattle.std.proofs.lemmas.List.{reverse-append}
-use Rattle.std.proofs.lemmas.Option.{same_Some, get_or_from_slice_get}
+use Rattle.std.proofs.lemmas.Option.{same_Some, get_or_from_slice_get, slice_get_within}
 use Rattle.script_nodes.specs.Setup.{Named}
 use Rattle.page_names.specs.Names.{Destination, start, page}
 use Rattle.page_names.specs.Views.{target_of}
@@ -52,11 +52,6 @@ keeps_state (Ended bytes) P d k e = absurd (cc)
 keeps_state (Faulted f) P d k e = absurd (cc)
 keeps_state (Fuel cost) P d k e = absurd (cc)
 
-below_length : {A : Type 0} (xs : List A) (k : ℕ) (x : A) → slice_get xs k ≡ Some x → k < length xs
-below_length [] k x h = absurd (cc)
-below_length (y ∷ ys) zero x h = omega arith
-below_length (y ∷ ys) (suc k) x h = omega (arith, below_length ys k x h)
-
 -- the state over a page's tape, or the one that is given to its number
 state_there : (source : Source ⊤) (s : Named) (shelf n k : ℕ) (older : List Page) (p : Page) (t : Tape) (d : Suspended) → page_tape (home s shelf n) (reverse older) p ≡ t → p.number ≡ k
     → IsStateOver source s t k d → IsStateAt s (source_in s (shelf_from source shelf) n) older p d
@@ -75,7 +70,7 @@ first_kept source scripts b t k s effects inside d o found made state has =
     let tape : page_tape (home s b.shelf o.page.number) [] p ≡ tape_for (start_visit b (ticket_of t) k s) (recorded (reads_of effects)) =
     ap (λ (n : ℕ). page_tape (home s b.shelf n) [] p) number ∙ ap (λ (q : Page). page_tape (home s b.shelf t.number) [] q) made.page in
     record {
-      place = subst (λ (m : ℕ). m < length scripts) (sym made.script) (below_length scripts t.script s found);
+      place = subst (λ (m : ℕ). m < length scripts) (sym made.script) (slice_get_within scripts t.script s found);
       pages = made.pages;
       shown = made.shown;
       state = rw its (record {

@@ -3,6 +3,7 @@ use Rattle.std.proofs.Common.{◌≡◌, ℕ, ◌+◌, ◌<◌, ◌≤◌, ◌&&
 use Rattle.std.specs.Prelude.{codes, option_map, unwrap_or, is_none, if◌then◌else◌}
 use Rattle.std.proofs.lemmas.List.{drop_more, drop_all}
 use Rattle.std.proofs.lemmas.Bool.{cases_Bool, false≢true}
+use Rattle.std.proofs.Math.Bool.{and-false, and-true}
 use Rattle.script_value.specs.Val.{Val, Vals, number, truth, text, symbol, list, no_vals, val}
 use Rattle.script_value.specs.Views.{meaning, meanings}
 use Rattle.script_value.specs.declared.value.Value.{Value}
@@ -144,14 +145,6 @@ item_counted cells scope in_page true xs i x o h p g =
     rw (items_next xs i x h p, e) refl
 item_counted cells scope in_page false xs i x o h p g = refl
 
-and_false : (b : Bool) → (b && false) ≡ false
-and_false true = refl
-and_false false = refl
-
-and_true : (b : Bool) → (b && true) ≡ b
-and_true true = refl
-and_true false = refl
-
 ended : (b : Bool) (done : List Core) → unless_plain b (Ok done) ≡ Ok (if b then None else Some done)
 ended true done = refl
 ended false done = refl
@@ -166,7 +159,7 @@ item_stops cells scope in_page b done xs i x h p all plain z d Memory a q g = rw
 item_stops cells scope in_page b done xs i x h p all plain z d (Syntax k) a q g =
     let f = fault_given (is_plain (meaning x)) (filled cells scope in_page (meaning x)) k g in
     let next = items_next xs i x h p in
-    let not_plain : are_plain (meanings xs) ≡ false = plain ∙ rw (next, f.1) (and_false b) in
+    let not_plain : are_plain (meanings xs) ≡ false = plain ∙ rw (next, f.1) (and-false b) in
     let err : all_filled cells scope in_page [] (meanings xs) ≡ Err k = all ∙ rw (next, f.0) refl in
     rw (a, q, not_plain, err) refl
 
@@ -177,7 +170,7 @@ pub items_end : (cells : CellNames) (scope : List (List ℕ)) (in_page : Bool) (
 items_end cells scope in_page b done xs i h all plain =
     let none = drop_all i xs h in
     let trees : all_filled cells scope in_page [] (meanings xs) ≡ Ok done = all ∙ rw none refl in
-    let same : are_plain (meanings xs) ≡ b = plain ∙ rw none (and_true b) in
+    let same : are_plain (meanings xs) ≡ b = plain ∙ rw none (and-true b) in
     rw (same, trees) (ended (b && not (begins (codes "unquote-splicing") (meanings xs))) done)
 
 pub items_given : (b m n : Bool) (done : List Core) (o : Option (List Core)) (r : Result (Option (List Core)) SyntaxKind)

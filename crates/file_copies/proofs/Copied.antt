@@ -3,7 +3,7 @@ use Rattle.std.proofs.Common.{◌≡◌, ℕ, zero, suc, ◌+◌, ◌≤◌, ◌
 use Rattle.std.specs.List.{AllByRecursion}
 use Rattle.std.proofs.lemmas.List.{append-nil}
 use Rattle.std.proofs.lemmas.List.Elements.{All-from_recursion}
-use Rattle.std.proofs.lemmas.Option.{same_Some}
+use Rattle.std.proofs.lemmas.Option.{same_Some, slice_get_within}
 use Rattle.page_journal.specs.Records.{newest, header, stored, bodies_of, framed, frames, at_rest}
 use Rattle.page_journal.specs.Scanned.{NoLonger}
 use Rattle.page_journal.specs.Taken.{TakesAll}
@@ -63,11 +63,6 @@ outs_none drawn number First plan = refl
 outs_none drawn number Number plan = refl
 outs_none drawn number Others plan = none_picked plan
 
-pub there_low : {A : Type 0} (xs : List A) (n : ℕ) (x : A) → slice_get xs n ≡ Some x → n < length xs
-there_low [] n x e = absurd (let no : ⊥ = cc e in no)
-there_low (y ∷ ys) zero x e = omega arith
-there_low (y ∷ ys) (suc n) x e = let h = there_low ys n x e in omega (arith, h)
-
 -- one record more
 outs_step : (c : Copier) (body : List ℕ) (bodies : List (List ℕ)) (s : Stage) → length c.plan.now ≡ length c.notes.now → IsAsNoted c body s
     → outs c.drawn c.number.now s (drop c.next c.plan.now) (body ∷ bodies)
@@ -87,7 +82,7 @@ outs_step c body bodies Number many noted = by_drawn c.drawn
     by_drawn true = refl
     by_drawn false = refl
 outs_step c body bodies Others many noted =
-    picked_on c.plan.now c.next body bodies (omega (arith, many, there_low c.notes.now c.next noted.0 noted.1.0))
+    picked_on c.plan.now c.next body bodies (omega (arith, many, slice_get_within c.notes.now c.next noted.0 noted.1.0))
     ∙ ap (λ (xs : List (List ℕ)). puts c body Others ++ xs) (by_drawn c.drawn)
   where
     by_drawn : (d : Bool) → picked (drop (suc c.next) c.plan.now) bodies ≡ outs d c.number.now (stage_then d body Others) (drop (suc c.next) c.plan.now) bodies
@@ -131,7 +126,7 @@ one_short c body rest Others most many noted head number all then_so =
     n = noted.0
 
     low : c.next < length c.plan.now
-    low = omega (arith, many, there_low c.notes.now c.next noted.0 noted.1.0)
+    low = omega (arith, many, slice_get_within c.notes.now c.next noted.0 noted.1.0)
 
     by_mark : (t : Bool)
         → AllByRecursion (λ m. length_in m ≤ most) (if t then n ∷ picked (drop (suc c.next) c.plan.now) (drop (suc c.next) c.notes.now) else picked (drop (suc c.next) c.plan.now) (drop (suc c.next) c.notes.now))

@@ -15,6 +15,7 @@ use Rattle.std.proofs.lemmas.List.Sums.{fails_before_first}
 use Rattle.httparse.specs.Grammar.{trim_ows}
 use Rattle.std.specs.Str.{str_eq_ignore_ascii_case}
 use Rattle.std.specs.Str.Parse.{digits_value}
+use Rattle.std.proofs.Math.Bool.{or-false}
 use Rattle.httparse.specs.Spans.{header_bytes}
 use Rattle.httparse.specs.declared.spans.HeaderSpan.{HeaderSpan}
 use Rattle.http_forms.specs.Fields.{values_of, is_comma, is_close, options, say_close}
@@ -80,14 +81,10 @@ found_same name tested label lines hs i d found h is same test so_far =
     let other : str_eq_ignore_ascii_case (header_bytes lines (get_or hs i d)).0 name ≡ false = sym (test ∙ (ap (λ x. str_eq_ignore_ascii_case x tested) is ∙ ap (str_eq_ignore_ascii_case (header_bytes lines (get_or hs i d)).0) same)) in
     subst (λ vs. IsFound vs found) (sym (values_more name lines hs i d h ∙ test_false _ _ _ other)) so_far
 
-or_nothing : (b : Bool) → (b || false) ≡ b
-or_nothing true = refl
-or_nothing false = refl
-
 -- values, and one more
 say_close-push : (values : List (List ℕ)) (value : List ℕ) → say_close (values ++ value ∷ []) ≡ (say_close values || list_any is_close (options value))
 say_close-push values value =
-    list_any-append (λ v. list_any is_close (options v)) values (value ∷ []) ∙ ap (λ (b : Bool). say_close values || b) (or_nothing (list_any is_close (options value)))
+    list_any-append (λ v. list_any is_close (options v)) values (value ∷ []) ∙ ap (λ (b : Bool). say_close values || b) (or-false (list_any is_close (options value)))
 
 -- whether it is said that the connection closes, with one field more, of this name or of another
 pub says_one : (name tested label value lines : List ℕ) (hs : List HeaderSpan) (i : ℕ) (d : HeaderSpan) (says more : Bool) → i < length hs
@@ -155,4 +152,4 @@ pub close_last : (value rest : List ℕ) (b : Bool) → position is_comma rest �
 close_last value rest b is so_far test =
     let far = no_comma rest is in
     let none : All (λ x. is_comma x ≡ false) rest = λ k d m. fails_before_first is_comma rest k d (omega (arith, far, m)) in
-    test ∙ (sym (or_nothing (is_close (trim_ows rest))) ∙ (ap (λ (parts : List (List ℕ)). list_any is_close (map trim_ows parts)) (sym (slice_split_none is_comma rest none)) ∙ so_far))
+    test ∙ (sym (or-false (is_close (trim_ows rest))) ∙ (ap (λ (parts : List (List ℕ)). list_any is_close (map trim_ows parts)) (sym (slice_split_none is_comma rest none)) ∙ so_far))

@@ -1,9 +1,9 @@
 -- What is remade by running the script again is taken by the state that its record tells.
-use Rattle.std.proofs.Common.{◌≡◌, ℕ, ◌==◌, ◌&&◌, List, [], ◌∷◌, map, length, Option, Some, None, Bool, true, false, refl, sym, ap, subst, ◌∙◌, slice_get, if◌then◌else◌, arith}
+use Rattle.std.proofs.Common.{◌≡◌, ℕ, ◌==◌, ◌&&◌, List, [], ◌∷◌, map, length, Option, Some, None, Bool, true, refl, sym, ap, subst, ◌∙◌, slice_get, if◌then◌else◌, arith}
 use Rattle.std.specs.Prelude.{nat_lt}
 use Rattle.std.specs.Ordering.{int_eq}
 use Rattle.std.specs.Cmp.{signed_Decides}
-use Rattle.std.proofs.lemmas.Bool.{and_from}
+use Rattle.std.proofs.lemmas.Bool.{and_from, and_parts}
 use Rattle.std.proofs.lemmas.Bool.Decides.{nat_tests}
 use Rattle.script_value.specs.Val.{Val}
 use Rattle.script_value.specs.declared.outcome.TxName.{TxName}
@@ -34,10 +34,6 @@ use Rattle.journal_spec.specs.Lengths.{state_over, told_own, own_told}
 use Rattle.journal_spec.specs.Whole.{IsWhole, HasWholeScripts}
 use Rattle.journal_spec.proofs.Owned.{visit_state, names_cells}
 use Rattle.journal_spec.proofs.Telling.{IsQuiet}
-
-and_parts : (a b : Bool) → (a && b) ≡ true → (a ≡ true) × (b ≡ true)
-and_parts true b h = (refl, h)
-and_parts false b h = absurd (let no : ⊥ = cc in no)
 
 effect_means : (d e : Effect) → is_effect d e ≡ true → d ≡ e
 effect_means (read c v) (read d w) h =

@@ -1,18 +1,13 @@
 -- The first bytes of a feed.
-use Rattle.std.proofs.Common.{◌≡◌, ◌≤◌, ◌<◌, ◌++◌, ◌∙◌, ℕ, List, [], ◌∷◌, Option, Some, None, length, take, drop, arith, sym, ap, refl, subst, length-append, append-nil, Bool, true, false, IsTrue, ◌↔◌}
+use Rattle.std.proofs.Common.{◌≡◌, ◌≤◌, ◌<◌, ◌++◌, ◌∙◌, ℕ, List, [], Option, Some, None, length, take, drop, arith, sym, ap, refl, subst, length-append, append-nil, Bool, true, false, IsTrue, ◌↔◌}
 use Rattle.std.proofs.Math.Seq.{take-append_seam}
-use Rattle.std.proofs.lemmas.List.{take-append-drop, length-drop, length-take-le, take_all}
+use Rattle.std.proofs.lemmas.List.{take-append-drop, length-drop, length-take-le, take_all, nil_from_length}
 use Rattle.std.specs.Io.KnownBytes.{Consumes, IsAtEnd}
 use Rattle.shelf.specs.WebOutside.View.{SourceView}
 use Rattle.shelf.specs.PageJournal.Records.{behind}
 use Rattle.shelf.proofs.PageJournal.Scans.{behind_is}
 use Rattle.page_follower.specs.Feed.{feed_head}
 use Rattle.page_follower.specs.Reading.{Got, IsHeadCut, IsNoHead, Gives}
-
--- a list of no bytes
-nothing_in : (rest : List ℕ) → length rest ≡ 0 → rest ≡ []
-nothing_in [] e = refl
-nothing_in (b ∷ rest) e = absurd (omega arith)
 
 -- bytes that are no front of a longer text do not go on to it
 no_front : (text bytes : List ℕ) → (bytes ≡ take (length bytes) text → ⊥) → behind bytes text ≡ None
@@ -31,7 +26,7 @@ no_start text bytes few differ = cases (behind text bytes) refl
     cases None is = refl
     cases (Some rest) is =
         let whole : bytes ≡ text ++ rest = behind_is text bytes rest is in
-        let none : rest ≡ [] = nothing_in rest (let l = length-append text rest in let m = ap length whole in omega arith) in
+        let none : rest ≡ [] = nil_from_length rest (let l = length-append text rest in let m = ap length whole in omega arith) in
         let same : bytes ≡ text = whole ∙ ap (λ l. text ++ l) none ∙ append-nil text in
         absurd (differ (same ∙ sym (ap (λ n. take n text) (ap length same) ∙ (let e = take-append_seam text [] in subst (λ l. take (length text) l ≡ text) (append-nil text) e))))
 

@@ -3,7 +3,7 @@ use Rattle.std.proofs.Common.{◌≡◌, ◌≢◌, ◌∙◌, ◌⊎◌, inl, i
 use Rattle.std.specs.Prelude.{IsTrue}
 use Rattle.std.proofs.lemmas.List.{length-map, map-append}
 use Rattle.std.proofs.lemmas.List.Sums.{sum_by-append, sum_by-cons}
-use Rattle.std.proofs.lemmas.Option.{slice_get_within}
+use Rattle.std.proofs.lemmas.Option.{slice_get_within, same_Some}
 use mathlib.Core.Logic.{dite}
 use native.Mathlib.Decide.{ℕ_discrete}
 use Rattle.web_outside.specs.declared.nonces.Counting.{Counting}
@@ -29,7 +29,7 @@ use Rattle.shelf.specs.Ranges.{numbered}
 use Rattle.play_desk.specs.Opening.{AreOpened, AllKept, AllStayKept, AreHome, CountStays, FailedFor, GivesOne, HoldImages, IsClosedBy, IsKept, IsRefusedBy, LeaveOthers, OpensNext, rules_at}
 use Rattle.play_desk.specs.Staff.{AreFit, HaveOwnNumbers, IsHome, desk_with, faults_in, numbers_in, shelf_at, total}
 use Rattle.play_desk.proofs.Asking.{asked_more, asked_none}
-use Rattle.play_desk.proofs.Places.{in_push, none_there, same_Some}
+use Rattle.play_desk.proofs.Places.{in_push, none_there}
 use Rattle.play_desk.proofs.Closing.{at_last, in_front}
 use Rattle.play_desk.proofs.Fitting.{number_at, own_numbers}
 use Rattle.play_desk.proofs.Keeping.{all_kept_in}

@@ -2,6 +2,7 @@
 use Rattle.std.proofs.Common.{◌≡◌, ◌≢◌, ◌∙◌, ap, sym, subst, refl, ℕ, ◌≤◌, zero, suc, Bool, true, false, List, [], ◌∷◌, ◌++◌, length, map, slice_get, Option, Some, None, arith, append_assoc}
 use Rattle.std.specs.Prelude.{IsTrue}
 use Rattle.std.proofs.lemmas.List.{map-append}
+use Rattle.std.proofs.lemmas.Option.{same_Some}
 use mathlib.Core.Logic.{dite}
 use mathlib.Core.List.{IsPrefix}
 use native.Mathlib.Decide.{ℕ_discrete}
@@ -22,7 +23,6 @@ use Rattle.play_steps.specs.declared.stage.Reopen.TheVariants as reopen
 use Rattle.play_desk.specs.Desk.{Desk}
 use Rattle.play_desk.specs.Opening.{AreHome, CountStays, GivesOne, HoldImages, HoldTheBooks, HoldsTheBook, IsLeft, IsPutBack, KeepsShelvesBut, LeaveOthers, LeavesLost, StandsLost, TellsItsRoom, TellsRoom}
 use Rattle.play_desk.specs.Staff.{AreFit, AreOwn, HaveOwnNumbers, IsHome, desk_with, faults_in, numbers_in, shelf_at, total}
-use Rattle.play_desk.proofs.Places.{same_Some}
 use Rattle.play_desk.proofs.Fitting.{number_at}
 use Rattle.play_desk.proofs.Outage.{home_out, stays_out}
 use Rattle.play_desk.proofs.Removing.{out_of}

@@ -3,7 +3,7 @@ use Rattle.std.proofs.Common.{◌≡◌, ◌≢◌, ◌≤◌, ◌⊎◌, inl, i
 use Rattle.std.proofs.lemmas.Bool.{cases_eq}
 use Rattle.std.proofs.lemmas.List.{length-map, length-set, map-set}
 use Rattle.std.proofs.lemmas.List.Elements.{Contains-append_left, Contains-push}
-use Rattle.std.proofs.lemmas.Option.{slice_get-map, slice_get_within}
+use Rattle.std.proofs.lemmas.Option.{slice_get-map, slice_get_within, same_Some}
 use Rattle.server_limits.specs.Limits.{most_shelves}
 use Rattle.server_limits.specs.Counts.{most_workers}
 use Rattle.script_value.specs.declared.outcome.Reply.{Reply}
@@ -20,7 +20,7 @@ use Rattle.shelf.specs.Views.{book_in, compacted_of, library_in, swept_of, HasTa
 use Rattle.shelf.specs.Tickets.{GoesOnFromItsPage, KeepsTickets}
 use Rattle.shelf.specs.declared.rules.Rules.{Rules}
 use Rattle.play_desk.specs.Staff.{IsUnspent, HoldsAt, OfEachTicket, AreFit, AreLow, AreNumbered, HaveOwnNumbers, KeepsOthers, numbers_in, place_of}
-use Rattle.play_desk.proofs.Places.{at_set, get_other, get_set, same_set, same_Some}
+use Rattle.play_desk.proofs.Places.{at_set, get_other, get_set, same_set}
 use Rattle.play_desk.proofs.Kept.{compacted, swept}
 use Rattle.play_desk.proofs.Open.{still_out}
 use Rattle.play_desk.proofs.Happening.{Happens, moment_of, then_is}

@@ -1,6 +1,7 @@
 -- What workers hold is out, and each publish of a desk's run is lawful.
 use Rattle.std.proofs.Common.{◌≡◌, ◌≢◌, ◌⊎◌, ◌∙◌, ap, sym, subst, refl, inl, inr, ⊎_elim, ℕ, ◌+◌, ◌<◌, zero, suc, ◌==◌, Bool, true, false, if◌then◌else◌, List, [], ◌∷◌, ◌++◌, length, slice_get, slice_set, Option, Some, None, not, filter, arith}
 use Rattle.std.proofs.lemmas.List.{length-append, length-set}
+use Rattle.std.proofs.lemmas.Option.{same_Some}
 use Rattle.server_limits.specs.Counts.{most_workers}
 use Rattle.script_value.specs.Val.{Val}
 use Rattle.page_names.specs.Names.{Destination}
@@ -16,7 +17,7 @@ use Rattle.replay_spec.proofs.Stand.{among_drawn, among_spent}
 use Rattle.play_desk.specs.Target.{shelf_for}
 use Rattle.play_desk.specs.Desk.{Desk, counting, happening, first_desk, first_shelves, taken_by, without_shelf}
 use Rattle.play_desk.proofs.Kept.{compacted, published, swept, of_among, among_other}
-use Rattle.play_desk.proofs.Places.{at_set, in_push, none_there, not_same, same_Some}
+use Rattle.play_desk.proofs.Places.{at_set, in_push, none_there, not_same}
 
 -- The numbers that are out were drawn. What workers hold is out on its shelf, and of one shelf they hold different numbers.
 pub record AreOut (n : ℕ) (ss : List Shelf) (held : List (Option Ticket)) : Type 0 where

@@ -2,12 +2,12 @@
 use Rattle.std.proofs.Common.{◌≡◌, ◌≢◌, ◌∙◌, ap, sym, subst, refl, ⊎_elim, ℕ, ◌+◌, ◌<◌, ◌≤◌, zero, suc, List, [], ◌∷◌, length, map, slice_get, slice_set, Option, Some, None, option_map, arith}
 use Rattle.std.proofs.lemmas.Bool.{cases_eq}
 use Rattle.std.proofs.lemmas.List.{length-map, length-set}
-use Rattle.std.proofs.lemmas.Option.{slice_get-map, slice_get_within}
+use Rattle.std.proofs.lemmas.Option.{slice_get-map, slice_get_within, same_Some}
 use Rattle.replay_spec.specs.Next as next
 use Rattle.shelf.specs.Visits.{ticket_of, Ticket}
 use Rattle.play_desk.specs.Desk.{left_of, without_shelf}
 use Rattle.play_desk.specs.Staff.{KeepsOthers, place_of}
-use Rattle.play_desk.proofs.Places.{get_other, get_set, same_Some}
+use Rattle.play_desk.proofs.Places.{get_other, get_set}
 
 -- what is left at a place
 without_at : (n k from w : ℕ) (held : List (Option next.Ticket))

@@ -2,6 +2,7 @@
 use Rattle.std.proofs.Common.{◌≡◌, ◌≢◌, ◌∙◌, ap, sym, subst, ⊎_elim, ℕ, ◌≤◌, Bool, true, List, [], length, replicate, slice_get, slice_set, Some, None, Option, option_map, map, arith}
 use Rattle.std.proofs.lemmas.Bool.{cases_eq}
 use Rattle.std.proofs.lemmas.List.{length-map, map-set}
+use Rattle.std.proofs.lemmas.Option.{same_Some}
 use Rattle.server_limits.specs.Counts.{most_workers}
 use Rattle.play_desk.proofs.Stepping.{crashes, is_event, shelf_there}
 use Rattle.web_outside.specs.Causes.{Rose}
@@ -26,7 +27,7 @@ use Rattle.play_desk.specs.Desk.{Desk, counting, crashed_by, desk_crash, happeni
 use Rattle.shelf.specs.declared.shelf.Shelf.{Shelf}
 use Rattle.play_desk.specs.Opening.{CountRose, CountStays, GivesOne, HasCrashed, TakesOne}
 use Rattle.play_desk.specs.Staff.{AreFit, AreLow, HaveOwnNumbers, IsHome, desk_with, faults_in, numbers_in, shelf_at, total}
-use Rattle.play_desk.proofs.Places.{none_there, same_Some}
+use Rattle.play_desk.proofs.Places.{none_there}
 use Rattle.play_desk.proofs.Fitting.{number_at, numbers_set}
 use Rattle.play_desk.proofs.Counting.{faults_set}
 use Rattle.play_desk.proofs.Removing.{out_of, skip, at_out, skip_apart, skip_not, still_in, sum_out, map_out}

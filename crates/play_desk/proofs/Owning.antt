@@ -1,5 +1,6 @@
 -- Own shelves and the tickets that are open on them go on to be, with each event.
 use Rattle.std.proofs.Common.{◌≡◌, ◌≢◌, ◌⊎◌, inl, inr, ◌∙◌, ap, sym, subst, refl, ℕ, Bool, List, length, replicate, slice_get, slice_set, Option, Some, None, Result}
+use Rattle.std.proofs.lemmas.Option.{same_Some}
 use Rattle.server_limits.specs.Counts.{most_workers}
 use Rattle.script_value.specs.Val.{Val}
 use Rattle.script_value.specs.declared.outcome.Reply.{Reply}
@@ -20,7 +21,7 @@ use Rattle.shelf.specs.Going.{TicketsGoOnToFit}
 use Rattle.shelf.specs.declared.shelf.Shelf.{Shelf}
 use Rattle.shelf.specs.Views.{book_in, compacted_of, library_in, swept_of, IsOwnShelf}
 use Rattle.play_desk.specs.Staff.{IsOpen, AreOwn, IsUnspent, KeepsOthers, place_of}
-use Rattle.play_desk.proofs.Places.{at_set, none_there, same_Some}
+use Rattle.play_desk.proofs.Places.{at_set, none_there}
 use Rattle.play_desk.proofs.Open.{fits_now, leads_here, stays_open}
 use Rattle.play_desk.proofs.Happening.{Happens, moment_of, then_is}
 use Rattle.play_desk.proofs.Fitting.{each_with, left_held, of_held}

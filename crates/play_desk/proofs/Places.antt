@@ -1,6 +1,7 @@
 -- Places of lists that are read and written.
 use Rattle.std.proofs.Common.{◌≡◌, ◌≢◌, ◌⊎◌, inl, inr, ap, sym, refl, ℕ, ◌+◌, ◌<◌, ◌==◌, ◌++◌, ◌∙◌, true, false, zero, suc, List, [], ◌∷◌, length, replicate, take, slice_get, slice_set, slice_index_or, Some, None, arith}
 use Rattle.std.proofs.lemmas.Bool.{eq-eqb}
+use Rattle.std.proofs.lemmas.Option.{same_Some}
 
 pub get_set : {A : Type 0} (xs : List A) (i : ℕ) (x : A) → i < length xs → slice_get (slice_set xs i x) i ≡ Some x
 get_set [] i x h = absurd (omega arith)
@@ -35,9 +36,6 @@ pub none_there : {A : Type 0} (n w : ℕ) (t : A) → slice_get (replicate n Non
 none_there zero w t h = absurd (cc)
 none_there (suc n) zero t h = absurd (cc)
 none_there (suc n) (suc w) t h = none_there n w t h
-
-pub same_Some : {A : Type 0} (x y : A) → Some x ≡ Some y → x ≡ y
-same_Some x y e = cc
 
 -- what stands in a list with one more
 pub in_push : {A : Type 0} (xs : List A) (x : A) (k : ℕ) (u : A) → slice_get (xs ++ x ∷ []) k ≡ Some u → (slice_get xs k ≡ Some u) ⊎ (x ≡ u)

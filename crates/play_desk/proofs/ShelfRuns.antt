@@ -1,7 +1,7 @@
 -- Runs of shelves over the events that were entered for them.
 use Rattle.std.proofs.Common.{◌≡◌, ◌≢◌, ◌∙◌, ap, sym, subst, refl, ⊎_elim, ℕ, ◌+◌, ◌==◌, true, false, List, [], ◌∷◌, ◌++◌, slice_get, slice_set, Some, arith}
 use Rattle.std.proofs.lemmas.Bool.{cases_eq, eq-eqb, ne_eqb}
-use Rattle.std.proofs.lemmas.Option.{slice_get_within}
+use Rattle.std.proofs.lemmas.Option.{slice_get_within, same_Some}
 use Rattle.replay_spec.specs.Book.{Book}
 use Rattle.replay_spec.specs.Rules.{Rules}
 use Rattle.replay_spec.specs.Step.{Event, Fate, Reply, taken, step}
@@ -12,7 +12,7 @@ use Rattle.replay_spec.proofs.Goes.{after_append, lawful_append}
 use Rattle.play_desk.specs.Desk.{counting, happening, in_64_bits}
 use Rattle.play_desk.specs.Ledger.{Entry}
 use Rattle.play_desk.specs.Laws.{events_on, replies_on, AreAlike, AreRuns, AreLawfulRuns}
-use Rattle.play_desk.proofs.Places.{get_set, get_other, same_Some}
+use Rattle.play_desk.proofs.Places.{get_set, get_other}
 
 events_append : (k : ℕ) (a b : List Entry) → events_on k (a ++ b) ≡ events_on k a ++ events_on k b
 events_append k [] b = refl

@@ -81,7 +81,7 @@ put_most w (u ∷ us) = grind (arith, nat_tests, put_most w us)
 abbrev AreRoomy : (most : ℕ) → List Instance → Type 0
 AreRoomy most is = (k : ℕ) (i : Instance) → instance_at k is ≡ Some i → length i.used ≤ most
 
--- a use more is no page more
+-- as many pages have a use after an answer as before it
 pub used_many : (p n : ℕ) (us : List Use) → length (used_by p n us) ≡ length us
 used_many p n us = sym (length-map (used_by p n us) (λ (u : Use). u.page)) ∙ (ap (λ (ns : List ℕ). length ns) (used_pages p n us) ∙ length-map us (λ (u : Use). u.page))
 

@@ -1,5 +1,5 @@
 -- Setups of the same names and texts, place by place.
-use Rattle.std.proofs.Common.{◌≡◌, ◌≤◌, ◌<◌, ◌*◌, ◌^◌, ◌&&◌, ℕ, zero, suc, Bool, true, false, List, [], ◌∷◌, length, length-append, flat_map, drop, slice_get, Some, refl, ◌∙◌, ap, arith}
+use Rattle.std.proofs.Common.{◌≡◌, ◌≤◌, ◌<◌, ◌*◌, ◌^◌, ◌&&◌, ℕ, zero, suc, false, List, [], ◌∷◌, length, length-append, flat_map, drop, slice_get, Some, refl, ◌∙◌, ap, arith}
 use Rattle.std.specs.List.{AllByRecursion}
 use Rattle.wire_bytes.specs.Spelling.{u32_bytes, byte_string}
 use Rattle.value_bytes.specs.Spelling.{list_bytes}
@@ -9,6 +9,7 @@ use Rattle.journal_records.specs.Fields.{script_bytes, ScriptFits}
 use Rattle.journal_records.specs.Records.{IsInGrammar, begin_of, renewal_of, body_of}
 use Rattle.std.proofs.lemmas.Option.{same_Some}
 use Rattle.std.specs.Str.{bytes_eq}
+use Rattle.std.proofs.lemmas.Bool.{and_right}
 use Rattle.script_nodes.specs.Setup.{Named, texts_of}
 use Rattle.replay_spec.specs.Book.{are_same}
 use Rattle.shelf.specs.Present.{is_same}
@@ -23,15 +24,11 @@ pub same_at : (ss ts : List Named) (n : ℕ) (s t : Named) → slice_get ss n �
 same_at ss ts n s t a b =
     ap (λ (xs : List Named). are_same xs (drop n ts)) (split_at ss n s a) ∙ ap (λ (ys : List Named). are_same (s ∷ drop (suc n) ss) ys) (split_at ts n t b)
 
-and_false : (x y : Bool) → y ≡ false → (x && y) ≡ false
-and_false true y e = e
-and_false false y e = refl
-
 pub not_same : (ss ts : List Named) → (length ss ≡ length ts → ⊥) → are_same ss ts ≡ false
 not_same [] [] other = absurd (other refl)
 not_same [] (t ∷ ts) other = refl
 not_same (s ∷ ss) [] other = refl
-not_same (s ∷ ss) (t ∷ ts) other = and_false (bytes_eq s.name t.name && bytes_eq s.text t.text) (are_same ss ts) (not_same ss ts (λ e. other (ap suc e)))
+not_same (s ∷ ss) (t ∷ ts) other = and_right (bytes_eq s.name t.name && bytes_eq s.text t.text) (are_same ss ts) (not_same ss ts (λ e. other (ap suc e)))
 
 -- ---- a setup that was read has few scripts, and is not too long
 

@@ -5,6 +5,7 @@ use Rattle.web_outside.specs.declared.nonces.Counting.{Counting}
 use Rattle.shelf.specs.declared.shelf.Shelf.{Shelf}
 use Rattle.std.specs.Prelude.{insert}
 use Rattle.std.proofs.lemmas.List.{length-map, length-set}
+use Rattle.std.proofs.lemmas.Option.{same_Some}
 use Rattle.shelf.specs.Visits.{instance_of, ticket_of}
 use Rattle.play_steps.specs.Rules.{Comes}
 use Rattle.play_steps.specs.declared.stage.Reopen.{Reopen}
@@ -17,7 +18,7 @@ use Rattle.shelf.specs.Views.{book_in, rules_of}
 use Rattle.play_desk.specs.Opening.{StandsLost, TellsRoom}
 use Rattle.play_desk.specs.Staff.{AreFit, AreLow, AreOwn, HaveOwnNumbers, IsHome, KeepsOthers, desk_with, faults_in, total}
 use Rattle.play_desk.proofs.Asking.{first_goes_on}
-use Rattle.play_desk.proofs.Places.{at_index, same_Some}
+use Rattle.play_desk.proofs.Places.{at_index}
 use Rattle.play_desk.proofs.Fitting.{fit_crash, low_numbers, own_numbers}
 use Rattle.play_desk.proofs.Owning.{own_crash}
 use Rattle.play_desk.proofs.Removing.{put_in, still_in, taken_out}
