@@ -18,7 +18,7 @@ use Rattle.instance_book.specs.declared.book.Book.{Book}
 use Rattle.instance_book.specs.Views.{Beside, book_of, instances_of}
 use Rattle.book_visits.specs.Changes.{decision_of}
 use Rattle.instance_book.specs.Makes.{rules_with}
-use Rattle.book_visits.specs.Prepares.{IsCarriedOut, extension_by, ending_by, IsOpening, IsExtension, IsEnding, IsFinish, IsDecisionBy, AnswersWithPage, IsOfSegment}
+use Rattle.book_visits.specs.Prepares.{IsCarriedOut, extension_by, ending_by, IsOpening, IsExtension, IsEnding, IsFinish, IsDecisionBy, AnswersWithPage, IsOfSegment, opening_by}
 use Rattle.book_visits.proofs.Lands.{opening_itself, extension_itself, ending_itself, finish_itself}
 
 module _ (book : Book) (t : Ticket) (s : Segment) where

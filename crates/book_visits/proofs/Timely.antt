@@ -1,5 +1,5 @@
 -- What is prepared tells no fault, and a deadline that can be told.
-use Rattle.std.proofs.Common.{◌≡◌, sym, subst, ◌<◌, ◌^◌, List, Option, Some, None, Result, Ok, Err, IfOk}
+use Rattle.std.proofs.Common.{◌≡◌, sym, subst, List, [], Option, Some, None, Result, Ok, Err, IfOk}
 use Rattle.std.specs.declared.alloc.AllocError.{AllocError}
 use Rattle.script_value.specs.declared.outcome.Reply.{Reply}
 use Rattle.script_value.specs.declared.outcome.TxName.{TxName}
@@ -7,7 +7,8 @@ use Rattle.replay_spec.specs.Book as spec
 use Rattle.replay_spec.specs.Step as step
 use Rattle.replay_spec.specs.Step.{Decision, replies, records, compacts}
 use Rattle.journal_records.specs.Fields as told
-use Rattle.journal_records.specs.Views.{origin_of, change_with, page_change}
+use Rattle.journal_records.specs.Records.{opening_page, extension_page, TimeFits}
+use Rattle.journal_records.specs.Views.{origin_of, page_of, change_with, page_change}
 use Rattle.journal_records.specs.declared.records.PageRecord.{PageRecord}
 use Rattle.book_visits.specs.declared.prepared.Prepared.{Prepared}
 use Rattle.instance_book.specs.declared.change.Change.{Change}
@@ -19,16 +20,16 @@ use Rattle.book_visits.specs.Prepares.{IsOfRun}
 -- a decision tells so
 abbrev pub IsTimely : Decision → Type 0
 IsTimely (replies r) = IsOfRun r
-IsTimely (records r (spec.opens o) inside) = IsOfRun r × (o.deadline < 2 ^ 63)
-IsTimely (records r (spec.extends x) inside) = IsOfRun r × (x.deadline < 2 ^ 63)
+IsTimely (records r (spec.opens o) inside) = IsOfRun r × TimeFits (opening_page o [])
+IsTimely (records r (spec.extends x) inside) = IsOfRun r × TimeFits (extension_page x [])
 IsTimely (records r _ inside) = IsOfRun r
 IsTimely (compacts r) = IsOfRun r
 
 -- so does a page
-timely_page : (r : step.Reply) (inside : List TxName) (p : PageRecord) → IsTimely (records r (page_change p) inside) → IsOfRun r × (p.deadline < 2 ^ 63)
+timely_page : (r : step.Reply) (inside : List TxName) (p : PageRecord) → IsTimely (records r (page_change p) inside) → IsOfRun r × TimeFits (page_of p [])
 timely_page r inside p = by_origin (origin_of p.origin)
   where
-    by_origin : (o : told.Origin) → IsTimely (records r (change_with o p) inside) → IsOfRun r × (p.deadline < 2 ^ 63)
+    by_origin : (o : told.Origin) → IsTimely (records r (change_with o p) inside) → IsOfRun r × TimeFits (page_of p [])
     by_origin (told.start k) h = h
     by_origin (told.answered i n answer) h = h
 

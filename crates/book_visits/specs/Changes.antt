@@ -1,9 +1,11 @@
 -- What is decided by what is prepared, and what it makes of the book.
-use Rattle.std.specs.Prelude.{◌^◌, ◌<◌, ℕ, max, List, Option, Some, None, ⊤}
+use Rattle.std.specs.Prelude.{ℕ, max, List, [], Option, Some, None, ⊤}
 use Rattle.script_nodes.specs.Setup.{Named, Library}
 use Rattle.replay_spec.specs.Book as spec
 use Rattle.replay_spec.specs.Step as step
 use Rattle.replay_spec.specs.Step.{Decision, replies, records}
+use Rattle.journal_records.specs.Records.{TimeFits}
+use Rattle.journal_records.specs.Views.{page_of}
 use Rattle.machine_states.specs.Views.{suspended_of}
 use Rattle.instance_book.specs.FrameCodec.Spelling.{StateHasBytes}
 use Rattle.instance_book.specs.declared.change.Extension.{Extension}
@@ -28,10 +30,10 @@ abbrev pub put_into : Library → Prepared → spec.Book → spec.Book
 put_into library p b =
     record (changed_by library p.change b) { logged = max b.logged p.logged }
 
--- the deadline of the page that a change shows, if any, is below the end of those that can be told
+-- the time until which the page that a change shows, if any, can be answered can be written
 abbrev pub HasDeadlineIn : Change → Type 0
-HasDeadlineIn (Opens o) = o.record.deadline < 2 ^ 63
-HasDeadlineIn (Extends x) = x.record.deadline < 2 ^ 63
+HasDeadlineIn (Opens o) = TimeFits (page_of o.record [])
+HasDeadlineIn (Extends x) = TimeFits (page_of x.record [])
 HasDeadlineIn _ = ⊤
 
 -- the deadline of the page that a change shows, if there is a change with one, can be told

@@ -252,8 +252,8 @@ page_seen = record {
   there = λ x. refl;
   here = λ p. refl;
   bytes = λ p. refl;
-  fit = λ p f. (f.ticket, (f.nonce, (f.origin, (f.effects, (f.left, (tt, (f.deadline, (f.evicted, f.state))))))));
-  fitted = λ x f. record { ticket = f.0; nonce = f.1.0; origin = f.1.1.0; effects = f.1.1.1.0; left = f.1.1.1.1.0; deadline = f.1.1.1.1.1.1.0; evicted = f.1.1.1.1.1.1.1.0; state = f.1.1.1.1.1.1.1.1 };
+  fit = λ p f. (f.ticket, (f.nonce, (f.origin, (f.effects, (f.left, (tt, (f.time, (f.evicted, f.state))))))));
+  fitted = λ x f. record { ticket = f.0; nonce = f.1.0; origin = f.1.1.0; effects = f.1.1.1.0; left = f.1.1.1.1.0; time = f.1.1.1.1.1.1.0; evicted = f.1.1.1.1.1.1.1.0; state = f.1.1.1.1.1.1.1.1 };
 }
 
 page_exact : IsExact page_bytes PageFits read_page

@@ -56,7 +56,7 @@ fitting_page gone state f g x fits = record {
   origin = fits.1.1.0;
   effects = fits.1.1.1.0;
   left = fits.1.1.1.1.0;
-  deadline = fits.1.1.1.1.1.1.0;
+  time = fits.1.1.1.1.1.1.0;
   evicted = f x.1.1.1.1.1.1.1.0 fits.1.1.1.1.1.1.1.0;
   state = g x.1.1.1.1.1.1.1.1 fits.1.1.1.1.1.1.1.1;
 }

@@ -11,7 +11,7 @@ page_with p state fits few = record {
   origin = fits.origin;
   effects = fits.effects;
   left = fits.left;
-  deadline = fits.deadline;
+  time = fits.time;
   evicted = fits.evicted;
   state = few;
 }

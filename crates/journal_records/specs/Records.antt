@@ -81,6 +81,10 @@ page_bytes p =
 abbrev pub IsNumber : ℕ → Type 0
 IsNumber n = n < numbers_end
 
+-- the time until which a page can be answered can be written
+abbrev pub TimeFits : Page → Type 0
+TimeFits p = p.deadline < deadlines_end
+
 -- a page can be written
 pub record PageFits (p : Page) : Type 0 where
   pub ticket : p.ticket < numbers_end
@@ -88,7 +92,7 @@ pub record PageFits (p : Page) : Type 0 where
   pub origin : OriginFits p.origin
   pub effects : FitsList EffectFits p.effects
   pub left : FitsList NameFits p.left
-  pub deadline : p.deadline < deadlines_end
+  pub time : TimeFits p
   pub evicted : FitsList IsNumber p.evicted
   pub state : length p.state < 2 ^ 32
 

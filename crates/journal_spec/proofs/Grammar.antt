@@ -13,17 +13,17 @@ use Rattle.replay_spec.specs.Admission.{is_one}
 use Rattle.replay_spec.specs.Invariant.{HasPage, IsOf, CanGo, IsOrderlyChange, IsOrderly}
 use Rattle.replay_spec.proofs.Goers.{used_there}
 use Rattle.replay_spec.proofs.Stand.{among_of}
-use Rattle.journal_records.specs.Fields.{numbers_end, deadlines_end, name_bytes, NameFits, effect_bytes, EffectFits, send_byte, origin_bytes, is_shallow, is_shallow_effect, IsTypedEffect}
-use Rattle.journal_records.specs.Records.{Page, ChangeFits, opening_page, extension_page, page_bytes, ending_bytes, finish_bytes, effects_bytes, names_bytes, IsNumber, PartsFit}
+use Rattle.journal_records.specs.Fields.{numbers_end, name_bytes, NameFits, effect_bytes, EffectFits, send_byte, origin_bytes, is_shallow, is_shallow_effect, IsTypedEffect}
+use Rattle.journal_records.specs.Records.{Page, ChangeFits, opening_page, extension_page, page_bytes, ending_bytes, finish_bytes, effects_bytes, names_bytes, IsNumber, TimeFits, PartsFit}
 use Rattle.journal_spec.specs.Making.{has_script}
 use Rattle.journal_spec.specs.Spelling.{IsInRange}
 use Rattle.journal_spec.proofs.Typed.{value_fits, effects_typed}
 use Rattle.journal_spec.proofs.Brief.{IsShort}
 
--- the nonce, the deadline and the tick that a change tells are such as records tell
+-- the nonce, the time and the tick that a change tells are such as records tell
 abbrev pub TellsInRange : Change → Type 0
-TellsInRange (opens o) = (o.nonce < 2 ^ 64) × (o.deadline < deadlines_end) × (o.evicted ≡ [])
-TellsInRange (extends x) = (x.nonce < 2 ^ 64) × (x.deadline < deadlines_end)
+TellsInRange (opens o) = (o.nonce < 2 ^ 64) × TimeFits (opening_page o []) × (o.evicted ≡ [])
+TellsInRange (extends x) = (x.nonce < 2 ^ 64) × TimeFits (extension_page x [])
 TellsInRange (ends e) = ⊤
 TellsInRange (finishes f) = ⊤
 TellsInRange (sweeps tick) = tick < numbers_end
@@ -197,7 +197,7 @@ module _ (b : Book) (g : IsOrderly b) (range : IsInRange b) (few : length b.scri
         origin = let within : o.script < length b.scripts = grind (arith, nat_tests, script) in omega (arith, within, few);
         effects = effects_fit o.effects (length (page_bytes p)) long.effects (omega (arith, brief.low)) brief.shallow parts.0;
         left = names_fit o.left (length (page_bytes p)) long.left (omega (arith, brief.low)) parts.1;
-        deadline = tells.1;
+        time = tells.1;
         evicted = subst (FitsList IsNumber) (sym tells.2) (omega arith, tt);
         state = omega (arith, long.state, brief.low);
       }
@@ -213,7 +213,7 @@ module _ (b : Book) (g : IsOrderly b) (range : IsInRange b) (few : length b.scri
         origin = record { instance = numbers.0; page = numbers.1; answer = value_fits x.answer (omega (arith, answer_long x state, brief.low)) shallow.0 parts.0 };
         effects = effects_fit x.effects (length (page_bytes p)) long.effects (omega (arith, brief.low)) shallow.1 parts.1;
         left = names_fit x.left (length (page_bytes p)) long.left (omega (arith, brief.low)) parts.2;
-        deadline = tells.1;
+        time = tells.1;
         evicted = numbers_fit b x.instance x.page g range.drawn orderly.0 x.evicted orderly.1 (length (page_bytes p)) long.evicted (omega (arith, brief.low));
         state = omega (arith, long.state, brief.low);
       }

@@ -20,7 +20,7 @@ use Rattle.replay_spec.specs.Invariant.{HasPage, CanGo, IsOf, IsOrderlyChange}
 use Rattle.replay_spec.specs.Step as step
 use Rattle.replay_spec.specs.Step.{replies, records, carried_out, publish_comes}
 use Rattle.machine_states.specs.Machine.{Suspended}
-use Rattle.journal_records.specs.Records.{changes, record_length, IsInGrammar}
+use Rattle.journal_records.specs.Records.{changes, record_length, IsInGrammar, TimeFits}
 use Rattle.book_recovery.specs.JournalSpec.Before.{state_at, Earlier}
 use Rattle.book_recovery.specs.JournalSpec.Retaking as books_told
 use Rattle.book_recovery.specs.JournalSpec.Retaking.{arena_of, Told, with_state}
@@ -34,7 +34,7 @@ use Rattle.book_recovery.proofs.JournalSpec.Grammar.{TellsInRange, IsToldWith, i
 use Rattle.machine_states.specs.Views.{segment_of, suspended_of}
 use Rattle.machine_states.specs.declared.segment.Segment.{Segment}
 use Rattle.journal_records.specs.Fields as spec_records
-use Rattle.journal_records.specs.Views.{origin_of as origin_in, change_with, page_change}
+use Rattle.journal_records.specs.Views.{origin_of as origin_in, page_of as told_page, change_with, page_change}
 use Rattle.journal_records.specs.declared.records.PageRecord.{PageRecord}
 use Rattle.book_recovery.specs.InstanceBook.declared.book.Book.{Book}
 use Rattle.book_recovery.specs.InstanceBook.declared.change.Change.{Change}
@@ -153,7 +153,7 @@ room_same (Some (Ends e)) old new same room = tt
 room_same (Some (Finishes f)) old new same room = tt
 
 -- the nonce and the deadline of a page are such as records tell
-page_in_range : (t : Ticket) (d : Destination) (s : eval.Segment) (p : PageRecord) → t.nonce < 2 ^ 64 → IsChangeBy t s d (page_change p) → p.deadline < 2 ^ 63 → TellsInRange (page_change p)
+page_in_range : (t : Ticket) (d : Destination) (s : eval.Segment) (p : PageRecord) → t.nonce < 2 ^ 64 → IsChangeBy t s d (page_change p) → TimeFits (told_page p []) → TellsInRange (page_change p)
 page_in_range t d s p nonce is low = by_origin (origin_in p.origin) refl
   where
     its : spec_records.Origin → spec.Change

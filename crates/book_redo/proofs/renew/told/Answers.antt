@@ -1,4 +1,4 @@
-use Rattle.std.proofs.Common.{ap, List, ℕ, length, arith}
+use Rattle.std.proofs.Common.{ap, List, [], ℕ, length, arith}
 use Rattle.journal_records.specs.Views.{page_change}
 use Rattle.journal_records.proofs.OtherStates.{change_with}
 use Rattle.book_redo.proofs.renew.told.Goals as goal

@@ -1,4 +1,4 @@
-use Rattle.std.proofs.Common.{◌≡◌, ◌∙◌, ap, sym, subst, refl, ℕ, List, map, true, None}
+use Rattle.std.proofs.Common.{◌≡◌, ◌∙◌, ap, sym, subst, refl, ℕ, List, [], map, true, None}
 use Rattle.script_value.specs.Val.{Val}
 use Rattle.script_value.specs.Views.{meaning}
 use Rattle.script_value.specs.declared.value.Value.{Value}

@@ -1,4 +1,4 @@
-use Rattle.std.proofs.Common.{◌≡◌, ◌∙◌, ap, sym, subst, ℕ, ◌+◌, ◌<◌, ◌^◌, List, [], Some, IfOk, arith, inl}
+use Rattle.std.proofs.Common.{◌≡◌, ◌∙◌, ap, sym, subst, ℕ, ◌+◌, ◌<◌, ◌^◌, List, [], Some, IfOk, refl, arith, inl}
 use Rattle.std.specs.Option.{option_copied}
 use Rattle.machine_states.specs.Views.{outcome_of, segment_of, state_of, suspended_of}
 use Rattle.replay_spec.specs.Book as spec
