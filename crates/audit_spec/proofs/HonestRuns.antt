@@ -15,6 +15,7 @@ use Rattle.replay_spec.specs.Laws.{Moment, then_book, book_after, AreLawful}
 use Rattle.replay_spec.specs.Remade.{NameTheirCells, IsFiled}
 use Rattle.replay_spec.proofs.Compacted.{first_orderly}
 use Rattle.replay_spec.proofs.Going.{Goes, stays, draws, spends, publishes, fails, goes_to, fails_at, rewrites, fails_to_rewrite, keeps, keeps_rewritten, loses, goes}
+use Rattle.replay_spec.proofs.Filing.{over}
 use Rattle.journal_spec.specs.Lengths.{journal_rules}
 use Rattle.journal_spec.specs.Making.{Texts}
 use Rattle.journal_spec.specs.Bodies.{bodies_of}
@@ -79,9 +80,6 @@ honest_going_on j scripts b fair = by_test (are_same scripts b.scripts)
 
 honest_reopened : (j : Journal) (scripts : List Named) (b : Book) → AreFair b.file.lines (first_of b.shelf b.file) → IsHonest (reopened_with (Some j) scripts b)
 honest_reopened j scripts b fair = honest_going_on j (setup_for b scripts) b fair
-
-abbrev over : Rules → Journal → Rules
-over r j = record r { journal = Some j }
 
 pub tick_fair : (b : Book) (tick : ℕ) → b.clock < tick → IsFair b (sweeps tick)
 tick_fair b tick later = fair_sweep b tick (grind (arith, nat_tests, later))

@@ -29,12 +29,13 @@ use Rattle.replay_spec.proofs.Numbered.{number_of}
 use Rattle.replay_spec.proofs.Recovered.{place_is}
 use Rattle.replay_spec.proofs.Room.{but_less}
 use Rattle.replay_spec.proofs.Tests.{equal_self, kind_means, names_mean}
+use Rattle.replay_spec.proofs.Last.{without}
 use Rattle.server_limits.specs.Limits.{most_fuel, most_life}
 use Rattle.journal_spec.specs.Whole.{IsWhole, HasWholeScripts}
 use Rattle.journal_spec.proofs.Remaking.{effects_mean}
 use Rattle.audit_spec.specs.Tests.{holds_of, is_none, goes_on, can_be_answered, is_admitted, is_last, is_finish, ends_so, finishes_so, last_visit, last_segment, runs_so, are_numbers, least_go, is_due, is_in_time}
 use Rattle.audit_spec.specs.Meaning.{AreApart, target_at, free_rules, unfed, IsPublished, IsDecided, IsOver}
-use Rattle.audit_spec.proofs.Unfed.{without, publish_unfed}
+use Rattle.audit_spec.proofs.Unfed.{publish_unfed}
 use Rattle.audit_spec.proofs.Nonces.{hides_url}
 
 -- ---- what the tests say

@@ -12,14 +12,11 @@ use Rattle.replay_spec.specs.Next.{Ticket, Visit, url_for, comes_to, start_visit
 use Rattle.replay_spec.specs.Step.{Reply, Decision, unless, down_by, with_room, change_by, reply_by, full, stopped, gone_for, decide, publish_comes}
 use Rattle.replay_spec.specs.Invariant.{IsOrderly}
 use Rattle.replay_spec.specs.Remade.{NameTheirCells}
+use Rattle.replay_spec.proofs.Last.{without}
 use Rattle.journal_spec.specs.Lengths.{own_told}
 use Rattle.journal_spec.specs.Whole.{HasWholeScripts}
 use Rattle.journal_spec.specs.Keeping.{IsTakenAs}
 use Rattle.audit_spec.specs.Meaning.{unfed}
-
--- these rules without a journal
-abbrev pub without : Rules → Rules
-without rules = record rules { journal = None }
 
 admit_unfed : (b : Book) (d : Destination) → admit (unfed b) d ≡ admit b d
 admit_unfed b (start name) = refl

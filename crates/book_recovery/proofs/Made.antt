@@ -34,7 +34,6 @@ use Rattle.book_redo.specs.JournalSpec.Old.{change_next, next_at, second_at, wit
 use Rattle.book_redo.specs.declared.renew.Renewed.{Renewed}
 use Rattle.book_redo.specs.declared.renew.Renewed.TheVariants as renewed
 use Rattle.book_redo.specs.Renewing.{IsAsNewest, IsPassedOver, IsOutside, IsToldAsIs}
-use Rattle.replay_spec.proofs.Compacted.{one_among}
 use Rattle.book_recovery.specs.Found.{beside_file}
 use Rattle.book_recovery.specs.Reading.{seen_by, TellsOf, IsUnderWay, SeesNumber, Sees, may_stand, IsMadeOf, IsPassed, IsMadeBy, IsMadeIn, turns, making_of, IsMadeAs, IsBefore, IsNothing, IsRenewed, IsFirst}
 use Rattle.book_recovery.proofs.Longer.{instances_longer, states_longer}

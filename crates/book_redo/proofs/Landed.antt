@@ -55,7 +55,6 @@ use Rattle.instance_book.specs.Makes.{shelf_from, HasStatesFrom, HasItsStates, K
 use Rattle.instance_book.specs.Changes.{begun_with, shown_with, gone_in, changed_by, OpensKept, HasRoomFor, KeepsStatesBy}
 use Rattle.instance_book.specs.Standing.{book_under, place_of, BeginsAt}
 use Rattle.instance_book.specs.Segments.{IsNewPage, root_instance, IsOpenedBy, IsExtendedBy}
-use Rattle.journal_spec.proofs.Telling.{at_number_again}
 use Rattle.book_redo.specs.Redo.{no_rules, counted_to, Counts, are_held, IsStateTold, IsAnswerTold, HasNoAnswer, told_of, HasToldStates, is_read, names_told, IsFree, IsUntold, told_states, IsLandedBy, IsLanded, OpensAt, first_in, opens_on, opens_so, LandsAs, HasFirstState, KeepsStatesOpened, takes_record, StandsThere, IsMisread, IsPassed, IsExtended}
 use Rattle.instance_book.proofs.Seen.{mend_agrees, instance_some}
 use Rattle.instance_book.proofs.Given.{more_given}

@@ -1,7 +1,8 @@
 -- What contracts see of a file, which does not tell its bytes.
-use Rattle.std.specs.Prelude.{◌≡◌, ℕ, ◌+◌, ◌-◌, ◌≤◌, ◌^◌, [], Bool, false, ◌||◌, min, IsTrue, Result, Ok, Err, is_err}
+use Rattle.std.specs.Prelude.{◌≡◌, ℕ, ◌-◌, ◌≤◌, ◌^◌, [], Bool, false, ◌||◌, IsTrue, Result, is_err}
 use Rattle.web_outside.specs.Causes.{Rose}
 use Rattle.web_disk.specs.View.{View}
+use Rattle.web_disk.specs.Repeated.{faults_after}
 use Rattle.file_disk.specs.declared.file.FileDisk.{FileDisk}
 
 -- a view that tells no bytes: a count of faults, and so much room
@@ -20,11 +21,6 @@ untold faults ready end left = record {
 -- the view of a file, which always has room
 abbrev pub file_view : {F : Type 0} → FileDisk F → View
 file_view disk = untold disk.faults 8 (2 ^ 64 - 1) (2 ^ 64 - 1)
-
--- the count of faults after a call: one more where it failed, up to the type's end
-abbrev pub faults_after : {T E : Type 0} → Result T E → ℕ → ℕ
-faults_after (Ok x) faults = faults
-faults_after (Err e) faults = min (faults + 1) (2 ^ 64 - 1)
 
 -- the count has risen, or stands at the type's end
 pub record HasRisen (before now : ℕ) : Type 0 where

@@ -1,6 +1,7 @@
 ghost use Rattle.std.specs.Prelude.{◌≡◌, ◌≤◌, ◌+◌, ◌-◌, ◌^◌, false, true, length, min, OnOk, OnErr};
 ghost use Rattle.web_disk.specs.View.{Elapses, IsCall};
-ghost use Rattle.file_disk.specs.Files.{file_view, Counts, HasRisen, faults_after, lost_after, nothing_told};
+ghost use Rattle.web_disk.specs.Repeated.{faults_after};
+ghost use Rattle.file_disk.specs.Files.{file_view, Counts, HasRisen, lost_after, nothing_told};
 
 use std::alloc::AllocError;
 use std::fs::OpenFile;

@@ -31,7 +31,7 @@ use Rattle.frame_codec.proofs.Frames.{both_bytes, BothFit, both_exact, values_ex
 use Rattle.frame_codec.proofs.Walks.{lets_fit, walk_fits, fits_walk}
 use Rattle.frame_codec.proofs.Cells.{cells_fit, fit_cells}
 use Rattle.frame_codec.proofs.Order.{kept_order}
-use Rattle.frame_codec.proofs.States.{all_reversed, all_both, all_first, state_again}
+use Rattle.frame_codec.proofs.States.{all_reversed, all_both, all_first, state_again, lists_bytes, ListsFit}
 use Rattle.frame_codec.proofs.Fronts as shared
 
 -- ---- laws
@@ -71,12 +71,6 @@ bound_still p made c e = by_binding (binding c p) (sym (last_binds c made p) ∙
 
 abbrev parts_of : Delta → DeltaParts
 parts_of d = (d.env_shared, (d.env, (d.frames_shared, (d.frames, d.shadows))))
-
-abbrev lists_bytes : List Frame × List (ℕ × Val) → List ℕ
-lists_bytes = both_bytes (list_bytes frame_bytes) (list_bytes shadow_bytes)
-
-abbrev ListsFit : Arena → List Frame × List (ℕ × Val) → Type 0
-ListsFit a = BothFit (FitsList (IsRead a)) (FitsList ShadowHasBytes)
 
 abbrev framed_bytes : ℕ × (List Frame × List (ℕ × Val)) → List ℕ
 framed_bytes = both_bytes u32_bytes lists_bytes

@@ -8,7 +8,7 @@ use Rattle.script_value.specs.Val.{Val}
 use Rattle.web_cells.specs.Shadows.{binding, all_bound, last_shadow, AreAbove, Rise}
 use Rattle.web_cells.specs.Own.{IsOwn}
 use Rattle.web_cells.proofs.Shadowed.{last_binds, rise}
-use Rattle.web_cells.proofs.Owned.{same_bindings, above_none, all_rise}
+use Rattle.web_cells.proofs.Owned.{same_bindings, above_none, all_rise, or_that}
 use Rattle.script_nodes.specs.Arena.{Arena}
 use Rattle.machine_states.specs.Machine.{Frame, Suspended}
 use Rattle.frame_codec.specs.Spelling.{ShadowHasBytes}
@@ -86,10 +86,6 @@ own_binding p (s ∷ ss) c h = by_cell (s.0 == c) refl (own_binding p ss c h.1)
         → binding c (own_of p (s ∷ ss)) ≡ own_value (binding c p) (cond t (Some s.1) (binding c ss))
     by_cell true e later = let is : s.0 ≡ c = grind (arith, nat_tests, e) in at_cell is (is_value (binding s.0 p) s.1) refl later
     by_cell false e later = elsewhere e (is_value (binding s.0 p) s.1) later
-
-abbrev or_that : Option Val → Option Val → Option Val
-or_that None found = found
-or_that (Some v) found = Some v
 
 untouched : (c : ℕ) (made : Bindings) (found : Option Val) → AreAbove c made → last_shadow c made found ≡ found
 untouched c [] found h = refl

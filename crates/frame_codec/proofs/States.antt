@@ -1,5 +1,5 @@
 -- States are spelled exactly.
-use Rattle.std.proofs.Common.{◌≡◌, ℕ, ◌&&◌, Bool, true, cond, List, [], ◌∷◌, length, reverse, Option, Some, None, refl, sym, ap, subst, ◌∙◌}
+use Rattle.std.proofs.Common.{◌≡◌, ℕ, ◌&&◌, Bool, true, List, [], ◌∷◌, length, reverse, Option, Some, None, refl, sym, ap, subst, ◌∙◌}
 use mathlib.Core.List.{reverse_aux}
 use Rattle.std.specs.List.{AllByRecursion}
 use Rattle.std.proofs.lemmas.List.{append-nil, reverse-reverse}
@@ -46,13 +46,15 @@ all_first P Q (x ∷ xs) h = (h.0.0, all_first P Q xs h.1)
 abbrev pub Parts : Type 0
 Parts = List Val × (List Frame × List (ℕ × Val))
 
-abbrev lists_bytes : List Frame × List (ℕ × Val) → List ℕ
+-- frames and shadows, each one after the other after their count
+abbrev pub lists_bytes : List Frame × List (ℕ × Val) → List ℕ
 lists_bytes = both_bytes (list_bytes frame_bytes) (list_bytes shadow_bytes)
 
 abbrev parts_bytes : Parts → List ℕ
 parts_bytes = both_bytes values_bytes lists_bytes
 
-abbrev ListsFit : Arena → List Frame × List (ℕ × Val) → Type 0
+-- frames and shadows can be written
+abbrev pub ListsFit : Arena → List Frame × List (ℕ × Val) → Type 0
 ListsFit a = BothFit (FitsList (IsRead a)) (FitsList ShadowHasBytes)
 
 abbrev PartsFit : Arena → Parts → Type 0

@@ -14,6 +14,7 @@ use Rattle.replay_spec.proofs.Going.{Goes, stays, draws, spends, publishes, fail
 use Rattle.replay_spec.proofs.Events.{settled_setup, took_setup, swept_setup}
 use Rattle.replay_spec.proofs.Barred.{recovered_setup, some_setup}
 use Rattle.replay_spec.proofs.Filed.{like_back}
+use Rattle.replay_spec.proofs.Filing.{over}
 use Rattle.std.specs.Prelude.{nat_le}
 use Rattle.journal_records.specs.Fields.{numbers_end}
 use Rattle.journal_records.specs.Records as records
@@ -50,9 +51,6 @@ line_more shelf l f =
     (ap (λ (xs : List (Line × List ℕ)). map (λ (y : Line × List ℕ). y.1) xs) (with_more f.lines l m)
     ∙ seconds (with_spelled f.lines m) (l, spelled (lines_after f.lines m).book l))
     ∙ ap (λ (bs : List (List ℕ)). begin ∷ bs) (sym (append_assoc (drawn_bodies f.drawn) bodies more))
-
-abbrev over : Rules → Journal → Rules
-over r j = record r { journal = Some j }
 
 abbrev Lands : (rules : Rules) → Book → Change → List TxName → Type 0
 Lands rules b c inside = bodies_of b.shelf (land rules c inside b).file ≡ bodies_of b.shelf b.file ++ own_body b c ∷ []

@@ -14,7 +14,7 @@ use Rattle.replay_spec.specs.Change.{mend, put_page, shown_by, ended_by, fresh, 
 use Rattle.replay_spec.specs.Admission.{◌>>=◌, Place}
 use Rattle.replay_spec.specs.Next.{home, past, answered, newest, tape_of}
 use Rattle.replay_spec.specs.Recovery.{page_of_numbers, extension_visit, number_in, with_number, first_of}
-use Rattle.replay_spec.specs.Invariant.{Among, Apart, AreAncestors, Lineage, IsOf, AreOrderly}
+use Rattle.replay_spec.specs.Invariant.{Apart, AreAncestors, Lineage, IsOf, AreOrderly}
 use Rattle.replay_spec.specs.Remade.{IsOrderlyMade}
 use Rattle.replay_spec.proofs.Numbered.{number_of, put_found, put_length}
 use Rattle.replay_spec.proofs.Ancestors.{Grown, put_grown, chain_is, ancestors_grown, lineage_grown}
@@ -23,7 +23,7 @@ use Rattle.replay_spec.proofs.Landed.{never, land_well}
 use Rattle.replay_spec.proofs.Found.{mend_other, mend_found, keep_found}
 use Rattle.replay_spec.proofs.Differ.{put_from, mend_from}
 use Rattle.replay_spec.proofs.Admitted.{came_from}
-use Rattle.replay_spec.proofs.Recovered.{new_number, more_seen}
+use Rattle.replay_spec.proofs.Recovered.{new_number, more_seen, Unseen}
 use Rattle.replay_spec.proofs.Compacted.{line_orderly, first_orderly}
 use Rattle.machine_states.specs.Machine.{Suspended, inside_of}
 use Rattle.kept_states.specs.FrameCodec.Forms.{read_form}
@@ -264,9 +264,6 @@ extended_own u b x names d orderly unused is k j p found shown = by_number (x.in
     by_number false e = elsewhere (grind (arith, nat_tests, e))
 
 -- ---- one record more
-
-abbrev Unseen : List ℕ → ℕ → Type 0
-Unseen seen n = Among n seen → ⊥
 
 -- the number that a page has
 abbrev IsPageOf : Change → ℕ → Type 0

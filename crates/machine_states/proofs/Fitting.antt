@@ -17,12 +17,13 @@ use Rattle.script_nodes.specs.Arena.{Arena, parts}
 use Rattle.replay_spec.specs.Tape.{recorded, Answer, sent, State, Outcome, End, got, stop, Run, ◌>>=◌, after, answer, choose, charge, url, halt, ends, send_page, enter, leave, lookup, read_cell, as_number}
 use Rattle.replay_spec.specs.Eval.{value_at, copied, is_not_false}
 use Rattle.replay_spec.specs.Laws.{Waits}
+use Rattle.replay_spec.proofs.Follows.{more}
 use Rattle.machine_states.specs.Machine.{Frame, in_binding, in_operand, in_body, in_seq, in_and, in_or, in_if, in_count, in_store, in_turn, in_isolate, in_call, in_task, in_page, in_finish, in_back, Control, visit, value, Point, inside_of, visits, gives, given, node_at, part_in, part_at, parts_from, bindings_from, bindings_in, body_at, body_in, op_at, first_of, task_in, task_at, store_by, next_binding, next_part, next_operand, next_argument, next_turn, first_turn, visited, cut, taken, Machine, Suspended, Step, goes, stopped, stepped, step_at, step, then, steps}
 use Rattle.machine_states.specs.Laws.{started}
 use Rattle.machine_states.specs.Fits.{node_of, IsKind, IsPart, Binds, Works, FitsAt, IsSend, Fits, EachStateFits}
 use Rattle.machine_states.proofs.Meaning.{cut_back, length_more, drop_all}
 use Rattle.machine_states.proofs.Acts.{IsPlain, visited_paid, taken_any, any_given, plain_or_page}
-use Rattle.machine_states.proofs.Grow.{more, Grows, Grown, law}
+use Rattle.machine_states.proofs.Grow.{Grows, Grown, law}
 
 -- ## Kinds
 

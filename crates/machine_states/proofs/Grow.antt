@@ -7,11 +7,9 @@ use Rattle.script_nodes.specs.declared.script.SendKind.{SendKind}
 use Rattle.script_nodes.specs.Arena.{Arena}
 use Rattle.replay_spec.specs.Tape.{finishes, ends, halt, Reads, recorded, present, bound, Answer, State, begins, How, page_stop, Outcome, End, got, stop, Run, after, charged, is_over, sent, read_from, set_in, add_in}
 use Rattle.replay_spec.specs.Laws.{Waits}
+use Rattle.replay_spec.proofs.Follows.{more}
 use Rattle.machine_states.specs.Machine.{Frame, in_page, Control, visit, value, Point, inside_of, gives, given, node_at, cut, taken, Machine, Suspended, Step, goes, stopped, stepped, step_at, step, then, steps}
 use Rattle.machine_states.proofs.Acts.{IsActLaw, IsPlain, visited_paid, taken_any, any_given, plain_or_page}
-
-abbrev pub more : Answer → State → State
-more x s = record s { later = s.later ++ x ∷ [] }
 
 abbrev pub grown : Answer → Machine → Machine
 grown x m = record m { state = more x m.state }

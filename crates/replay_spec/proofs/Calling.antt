@@ -12,7 +12,6 @@ use Rattle.script_nodes.proofs.Below.{bodies_below}
 use Rattle.replay_spec.proofs.Tests.{equal_self}
 use Rattle.replay_spec.specs.Tape.{finishes, ends, Run, ◌>>=◌, give, answer, choose, charge, url, halt, send_page, enter, leave, shadow, set_cell, add_cell, as_number}
 use Rattle.replay_spec.specs.Eval.{for_each, is_any, is_not_false, Calls, with_task, calls_from, no_calls, calls_of, calls_in, eval, eval_into, eval_while}
-use Rattle.replay_spec.proofs.Tests.{equal_self}
 
 -- over calls that are the same below n, a tree that calls below n is the same
 module _ (f g : Calls) (n : ℕ) (agree : (k : ℕ) → k < n → f k ≡ g k) where

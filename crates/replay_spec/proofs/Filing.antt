@@ -39,7 +39,8 @@ with_among (ends e) seen n h = h
 with_among (finishes f) seen n h = h
 with_among (sweeps tick) seen n h = inr h
 
-abbrev over : Rules → Journal → Rules
+-- these rules with this journal
+abbrev pub over : Rules → Journal → Rules
 over r j = record r { journal = Some j }
 
 abbrev moved : Book → (drawn length : ℕ) → (out : List ℕ) → Option Doubt → Book

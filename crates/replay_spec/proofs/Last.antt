@@ -15,7 +15,8 @@ unless_last : (journal : Option Journal) (b : Book) (o : Option Reply) (d e : De
 unless_last journal b None d e h = h
 unless_last journal b (Some r) d e h = refl
 
-abbrev without : Rules → Rules
+-- these rules without a journal
+abbrev pub without : Rules → Rules
 without rules = record rules { journal = None }
 
 room_last : (rules : Rules) (b : Book) (r : Reply) (inside : List TxName) (o : Option Change) → with_room rules b r inside o ≡ through rules.journal b (with_room (without rules) b r inside o)

@@ -20,7 +20,6 @@ use Rattle.http_forms.specs.declared.request.Request.{Request}
 use Rattle.http_forms.specs.declared.reply.Answer.TheVariants as answers
 use Rattle.http_forms.proofs.Pieces.{consumes_none}
 use Rattle.http_forms.proofs.Streaming.{streams_last, streams_more}
-use Rattle.http_forms.proofs.Pieces.{consumes_none}
 use Rattle.request_workers.specs.Linking.{Visited, no_visit, both, visited, Exchange, SweepsAll, SweepsNone, SweptBy, Turned, Wrote, WroteReply, WroteRefusal, Answered, Refuses, Linked, TurnsLink, TellsBy, StopsBy, LastSweep, stop_text}
 use Rattle.request_workers.specs.declared.link.LinkEnd.{LinkEnd}
 use Rattle.request_workers.specs.declared.link.LinkEnd.TheVariants as ends

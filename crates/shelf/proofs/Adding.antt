@@ -13,7 +13,7 @@ use Rattle.shelf.specs.declared.shelf.Shelf.{Shelf}
 use Rattle.shelf.specs.Following.{CanBeFed}
 use Rattle.shelf.specs.Views.{doubt_of, IsFed, IsInOrder}
 use Rattle.shelf.proofs.Newest.{newest_images}
-use Rattle.shelf.proofs.Standing.{OnlyNow}
+use Rattle.book_recovery.proofs.JournalSpec.Standings.{OnlyNow}
 
 -- calls that write nothing leave what a crash might have left at first
 pub nothing_then : (v w : View) (P : List ℕ → Type 0) → OnlyNow v → NoNewImage v w → Elapses v w → ((image : List ℕ) → v.images image → P image) → LeavesOnly v w P

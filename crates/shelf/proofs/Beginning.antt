@@ -36,7 +36,7 @@ use Rattle.book_recovery.specs.Found.{IsBookInOrder, beside_file}
 use Rattle.file_copies.specs.OfFileNotes.declared.notes.FileNotes.{FileNotes}
 use Rattle.book_recovery.specs.Noting.{marks_of}
 use Rattle.book_recovery.specs.JournalSpec.Reading.{AreAllBytes}
-use Rattle.page_journal.proofs.Scans.{quiet_none}
+use Rattle.book_recovery.proofs.JournalSpec.Standings.{OnlyNow}
 use Rattle.shelf.specs.Files.{file_in, read_file, KnowsRead, NotesBegun}
 use Rattle.shelf.specs.Opening.{making_of, OpensOwn, TellsSetup, TellsFull, IsLibraryOf, Opens, IsMadeOf}
 use Rattle.shelf.specs.Owning.{StaysOwnThroughout}
@@ -46,7 +46,6 @@ use Rattle.shelf.proofs.Bare.{Bare}
 use Rattle.shelf.proofs.Openings.{read_beside, found_fit}
 use Rattle.shelf.proofs.Renewing.{outside_refuses, by_memory, opened_book_of}
 use Rattle.shelf.proofs.Known.{bytes_more}
-use Rattle.shelf.proofs.Standing.{OnlyNow}
 use Rattle.shelf.proofs.Owned.{with_added, stays_own, settled_own, quiet_own}
 use Rattle.shelf.proofs.Newest.{own_in}
 

@@ -10,6 +10,7 @@ use Rattle.replay_spec.specs.Compaction.{compaction, file_length}
 use Rattle.replay_spec.specs.Runs.{drawn_by}
 use Rattle.replay_spec.specs.Step as step
 use Rattle.book_recovery.specs.InstanceBook.declared.book.Book as kept
+use Rattle.book_recovery.proofs.JournalSpec.Standings.{OnlyNow}
 use Rattle.file_copies.specs.OfFileNotes.declared.notes.FileNotes.{FileNotes}
 use Rattle.shelf.specs.declared.shelf.Shelf.{Shelf}
 use Rattle.shelf.specs.declared.compaction.CompactFault.TheVariants as fault
@@ -17,7 +18,6 @@ use Rattle.shelf.specs.Compacting.{Rewrites}
 use Rattle.shelf.specs.Events.{IsLeftAlone}
 use Rattle.shelf.specs.Views.{rules_of, library_in, book_in, fate_by, IsFree, IsInOrder}
 use Rattle.shelf.proofs.Leads.{unfed, bars_none}
-use Rattle.shelf.proofs.Standing.{OnlyNow}
 use Rattle.shelf.proofs.Quiet.{untouched}
 use Rattle.shelf.proofs.Steps.{Comes, wanting_compact, full_compact}
 use Rattle.shelf.proofs.Compacting.{Compacts, uncompacted, no_room}

@@ -37,12 +37,11 @@ use Rattle.book_recovery.specs.JournalSpec.Disks.{IsFit}
 use Rattle.book_recovery.specs.JournalSpec.Laws.{MeasuresDoubt, CompactionsStandBetween, compacted_book}
 use Rattle.book_recovery.proofs.JournalSpec.Between.{stand_alike}
 use Rattle.book_recovery.proofs.JournalSpec.Fitting.{no_doubt}
-use Rattle.book_recovery.proofs.JournalSpec.Standings.{carried, stands_then, settled_stands, left_standing}
+use Rattle.book_recovery.proofs.JournalSpec.Standings.{carried, stands_then, settled_stands, left_standing, OnlyNow, CountsNow}
 use Rattle.file_copies.specs.OfFileNotes.declared.notes.FileNotes.{FileNotes}
 use Rattle.file_copies.specs.OfFileNotes.Files.{file_in, marks_in, IsPlanned, IsPicked}
 use Rattle.book_recovery.specs.Found.{HasToldStates}
 use Rattle.book_recovery.specs.Noting.{marks_of}
-use Rattle.page_journal.proofs.Mending.{leaves_map}
 use Rattle.shelf.specs.declared.doubt.Doubt as doubt_type
 use Rattle.shelf.specs.declared.doubt.Work.TheVariants as doubted
 use Rattle.shelf.specs.declared.shelf.Shelf.{Shelf}
@@ -52,7 +51,7 @@ use Rattle.shelf.specs.Owning.{OwnRecords, HasOwnImages, StaysOwnThroughout, Sta
 use Rattle.shelf.specs.Views.{rules_of, doubt_of, library_in, book_in, fate_by, TellsStates, IsFree, IsFed, IsInOrder, IsOwnShelf, IsEvent}
 use Rattle.shelf.specs.Events.{HasMoments, HasOwnMoments}
 use Rattle.shelf.specs.Tickets.{KeepsTickets}
-use Rattle.shelf.proofs.Standing.{OnlyNow, CountsNow, own_alike}
+use Rattle.shelf.proofs.Standing.{own_alike}
 use Rattle.shelf.proofs.Leads.{leads_in, unfed, bars_none}
 use Rattle.shelf.proofs.Order.{quiet_event, order_of, order_behind}
 use Rattle.shelf.proofs.Steps.{Comes, rewritten_compact, doubted_compact}

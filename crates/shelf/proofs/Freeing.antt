@@ -25,6 +25,7 @@ use Rattle.book_recovery.specs.InstanceBook.Swept.{swept}
 use Rattle.book_recovery.specs.InstanceBook.Makes.{Makes, KeepsStates, count_of}
 use Rattle.book_recovery.specs.InstanceBook.Views.{Beside, instance_of}
 use Rattle.book_recovery.proofs.InstanceBook.Seen.{length_seen}
+use Rattle.book_recovery.proofs.JournalSpec.Standings.{OnlyNow}
 use Rattle.shelf.specs.declared.doubt.Doubt as doubt_type
 use Rattle.shelf.specs.declared.doubt.Work.TheVariants as doubted
 use Rattle.shelf.specs.declared.shelf.Shelf.{Shelf}
@@ -35,7 +36,7 @@ use Rattle.shelf.proofs.Known.{known_added, marked_tick}
 use Rattle.shelf.specs.Views.{rules_of, doubt_of, library_in, follows_in, book_in, fate_by, IsFree, IsFed, IsInOrder, IsOwnShelf, IsEvent}
 use Rattle.shelf.specs.Events.{HasMoments, HasOwnMoments}
 use Rattle.shelf.specs.Recording.{refusal_of_size, IsBody}
-use Rattle.shelf.proofs.Standing.{OnlyNow, IsQuietCall}
+use Rattle.shelf.proofs.Standing.{IsQuietCall}
 use Rattle.shelf.proofs.Leads.{leads_in, bars_none}
 use Rattle.shelf.proofs.Order.{quiet_event}
 use Rattle.shelf.proofs.Steps.{Comes, doubting, landed_sweep, doubted_sweep}

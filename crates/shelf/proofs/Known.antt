@@ -28,9 +28,10 @@ use Rattle.file_copies.specs.OfFileNotes.declared.notes.FileNotes.{FileNotes}
 use Rattle.file_copies.specs.OfFileNotes.Files.{marks_in, IsNoted, StaysAsTold}
 use Rattle.file_copies.specs.OfFileNotes.Notes.{is_told}
 use Rattle.book_recovery.specs.Noting.{mark_by, mark_in, marks_of}
+use Rattle.book_recovery.proofs.JournalSpec.Standings.{CountsNow}
 use Rattle.shelf.specs.Files.{KnowsFile, LeavesNewest}
 use Rattle.shelf.proofs.Newest.{newest_images}
-use Rattle.shelf.proofs.Standing.{CountsNow, IsQuietCall}
+use Rattle.shelf.proofs.Standing.{IsQuietCall}
 
 -- ---- the marks of records, with one more
 
@@ -93,6 +94,9 @@ bytes_more [] body all one = (one, tt)
 bytes_more (b ∷ bodies) body all one = (all.0, bytes_more bodies body all.1 one)
 
 -- ---- what is known, by the calls of the journal
+
+pub told_still : (notes : FileNotes) → StaysAsTold notes notes
+told_still notes = record { file = refl; notes = refl; head = refl; drawn = refl }
 
 -- what a crash leaves of a settled journal of the newest format
 pub settled_newest : {D : Type 0} (view : D → View) (j : Journal D) → IsSettled view j → j.format ≡ newest → LeavesNewest (view j.disk)

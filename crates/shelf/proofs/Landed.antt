@@ -29,14 +29,14 @@ use Rattle.book_recovery.specs.JournalSpec.Spelling.{IsTickInRange, IsInRange}
 use Rattle.book_recovery.specs.JournalSpec.Laws.{LandingsAreKept, LandingsStandBetween}
 use Rattle.book_recovery.proofs.JournalSpec.Fitting.{whole_by}
 use Rattle.book_recovery.proofs.JournalSpec.Taking.{IsNew}
-use Rattle.book_recovery.proofs.JournalSpec.Standings.{settled_stands, written, left_standing}
+use Rattle.book_recovery.proofs.JournalSpec.Standings.{settled_stands, written, left_standing, OnlyNow, CountsNow}
 use Rattle.book_recovery.specs.InstanceBook.Makes.{HasSomeStates}
 use Rattle.shelf.specs.declared.doubt.Doubt as doubt_type
 use Rattle.shelf.specs.declared.shelf.Shelf.{Shelf}
 use Rattle.shelf.specs.Views.{doubt_of, library_in, book_in, IsInOrder}
 use Rattle.book_recovery.specs.Found.{HasToldStates}
 use Rattle.shelf.specs.Events.{HasMoments}
-use Rattle.shelf.proofs.Standing.{OnlyNow, CountsNow, IsQuietCall, throughout_alike}
+use Rattle.shelf.proofs.Standing.{IsQuietCall, throughout_alike}
 use Rattle.value_bytes.specs.Laws.{AreBytes}
 use Rattle.file_copies.specs.OfFileNotes.Files.{marks_in, IsNoted}
 use Rattle.shelf.proofs.Newest.{newest_images, makes_so}

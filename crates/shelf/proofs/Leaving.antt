@@ -37,6 +37,7 @@ use Rattle.book_recovery.specs.InstanceBook.Places.{Source}
 use Rattle.book_recovery.specs.InstanceBook.Makes.{Makes, MakesUnder, StaysSame, HasStatesFrom, HasSomeStates, HasItsStates, KeepsStates}
 use Rattle.book_visits.specs.Views.{ticket_of, reply_of}
 use Rattle.book_recovery.specs.InstanceBook.Changes.{change_of, inside_of, HasRoomFor, KeepsStatesBy}
+use Rattle.book_recovery.proofs.JournalSpec.Standings.{OnlyNow, CountsNow}
 use Rattle.book_visits.specs.Changes.{put_into, HasStateBy, IsSpelledIn, IsSpelledBy}
 use Rattle.book_visits.specs.Fits.{FitsAs}
 use Rattle.book_visits.specs.Prepares.{HasItsScript}
@@ -50,7 +51,7 @@ use Rattle.shelf.specs.Holding.{IsWholeIn}
 use Rattle.shelf.specs.Preparing.{CanBeLanded}
 use Rattle.shelf.specs.Tickets.{KeepsTickets}
 use Rattle.shelf.specs.Recording.{IsBody, BindsIn, GoesOnAsGiven, state_in, told_in}
-use Rattle.shelf.proofs.Standing.{OnlyNow, CountsNow, IsQuietCall}
+use Rattle.shelf.proofs.Standing.{IsQuietCall}
 use Rattle.shelf.proofs.Leads.{unfed, out_leads}
 use Rattle.shelf.proofs.Order.{quiet, quiet_event}
 use Rattle.shelf.proofs.Steps.{Comes, wanting}

@@ -23,7 +23,7 @@ use Rattle.book_recovery.specs.JournalSpec.Copying.{copies, MigrationsMakeTheBoo
 use Rattle.std.proofs.lemmas.Option.{same_Some}
 use Rattle.book_recovery.specs.JournalSpec.Laws.{MigrationsStandBetween}
 use Rattle.book_recovery.specs.JournalSpec.Standing.{puts, Held}
-use Rattle.book_recovery.proofs.JournalSpec.Standings.{carried}
+use Rattle.book_recovery.proofs.JournalSpec.Standings.{carried, OnlyNow}
 use Rattle.book_recovery.specs.JournalSpec.OwnCopies.{CopiesAreOwn}
 use Rattle.book_recovery.specs.JournalSpec.Owning.{AreOwn, AreOwnIn}
 use Rattle.file_copies.specs.OfFileNotes.declared.notes.FileNotes.{FileNotes}
@@ -41,7 +41,6 @@ use Rattle.book_recovery.specs.JournalSpec.Reading.{AreAllBytes}
 use Rattle.book_recovery.specs.JournalSpec.Whole.{AreWhole}
 use Rattle.book_recovery.specs.Anew.{ReadsAnew}
 use Rattle.book_recovery.specs.Noting.{IsFileOf, WhereMade, NotesFile}
-use Rattle.page_journal.proofs.Mending.{leaves_map}
 use Rattle.shelf.specs.Compacting.{IsRoomMade}
 use Rattle.shelf.specs.declared.migration.FileAnew.{FileAnew}
 use Rattle.shelf.specs.Migrating.{bodies_by, bodies_now, making_by, making_now, StaysBy, HasLowNumber, anew_by, IsFileAnew, IsNoneAnew, IsMigrationFault, Moves, Migrates}
@@ -56,7 +55,6 @@ use Rattle.shelf.proofs.Roles.{IsOlder, IsUnfed, older_unfed, unfed_made}
 use Rattle.shelf.proofs.Replaced.{left_first, left_then}
 use Rattle.shelf.proofs.Owned.{none_own, quiet_own, settled_own, with_others, stays_own}
 use Rattle.shelf.proofs.Newest.{now_own}
-use Rattle.shelf.proofs.Standing.{OnlyNow}
 
 -- ---- in any format nothing is made just where there is no record
 

@@ -25,6 +25,7 @@ use Rattle.book_recovery.specs.JournalSpec.Whole.{HasWholeScripts}
 use Rattle.book_recovery.proofs.JournalSpec.Between.{make_books}
 use Rattle.book_recovery.specs.InstanceBook.Views as views
 use Rattle.book_recovery.specs.Found.{beside_file}
+use Rattle.book_recovery.proofs.JournalSpec.Standings.{CountsNow}
 use Rattle.shelf.specs.declared.follower.Follower.{Follower}
 use Rattle.shelf.specs.declared.begin.BeginFault.{BeginFault}
 use Rattle.shelf.specs.declared.begin.BeginFault.TheVariants as fault
@@ -38,7 +39,6 @@ use Rattle.shelf.specs.Migrating.{bodies_now, making_by, making_now, IsTooLongAn
 use Rattle.shelf.specs.Opening.{making_of, making_on, making_after, now_in_bytes, bodies_after, HasRoomFor, IsTooLongIn, opened_beside, HasAdded, IsMadeOf, IsReadOrRenewed, KeepsRecords, MakesBook, IsOpenedBook, IsFollowerOf, OpensOwn, Renews, CanGoOnWith, HasStatesTold}
 use Rattle.shelf.proofs.Openings.{made_there, now_in}
 use Rattle.shelf.proofs.OwnOpenings.{opened_own}
-use Rattle.shelf.proofs.Standing.{CountsNow}
 use Rattle.shelf.proofs.Known.{settled_newest}
 
 -- ---- the shelf, whose file was read of its journal

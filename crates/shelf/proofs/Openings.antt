@@ -29,7 +29,7 @@ use Rattle.shelf.proofs.Newest.{makes_so}
 use Rattle.book_recovery.specs.InstanceBook.declared.book.Book.{Book as RustBook}
 use Rattle.book_recovery.specs.InstanceBook.Views as views
 use Rattle.book_recovery.specs.InstanceBook.Views.{Beside}
-use Rattle.book_recovery.specs.Found.{HasToldStates}
+use Rattle.book_recovery.specs.Found.{FindsBook, beside_file}
 use Rattle.shelf.specs.Files.{file_in, read_file}
 use Rattle.shelf.specs.Migrating.{making_now}
 use Rattle.shelf.specs.Opening.{making_of, now_by_log, now_in_bytes}

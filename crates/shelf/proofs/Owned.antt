@@ -14,7 +14,6 @@ use Rattle.book_recovery.specs.JournalSpec.Making.{made_in, book_of}
 use Rattle.book_recovery.specs.JournalSpec.Owning.{AreOwn, AreOwnIn}
 use Rattle.book_recovery.specs.JournalSpec.Standing.{Flight, still, adds, puts, with_flight, format_with, HasRoom, Hold}
 use Rattle.book_recovery.proofs.JournalSpec.Between.{closed_format}
-use Rattle.page_journal.proofs.Mending.{leaves_map}
 use Rattle.shelf.specs.Owning.{IsOwnImage, OwnRecords, HoldOwn, HoldsOwnRecords, HasOwnImages, StaysOwnThroughout}
 use Rattle.shelf.proofs.Newest.{own_now}
 

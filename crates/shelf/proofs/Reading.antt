@@ -18,7 +18,6 @@ use Rattle.book_recovery.specs.JournalSpec.Making.{Making, nothing, waits, waite
 use Rattle.file_copies.specs.OfFileNotes.declared.notes.FileNotes.{FileNotes}
 use Rattle.file_copies.specs.OfFileNotes.Files as noted
 use Rattle.book_recovery.specs.Noting.{marks_of, IsFileOf, WhereMade, NotesFile}
-use Rattle.page_journal.proofs.Scans.{quiet_then}
 use Rattle.shelf.specs.Files.{file_in, KnowsRead}
 use Rattle.book_recovery.specs.JournalSpec.Opening.{opened_on}
 use Rattle.book_recovery.specs.JournalSpec.Owning.{AreOwn}

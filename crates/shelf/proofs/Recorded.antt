@@ -23,11 +23,11 @@ use Rattle.book_recovery.specs.JournalSpec.Keeping.{AreOver, IsAppending, KeepsS
 use Rattle.book_recovery.specs.JournalSpec.Disks.{IsFit}
 use Rattle.book_recovery.specs.JournalSpec.Laws.{MeasuresDoubt, EventsAreKept, EventsStandBetween}
 use Rattle.book_recovery.proofs.JournalSpec.Telling.{own_before_is, own_are_told}
-use Rattle.book_recovery.proofs.JournalSpec.Standings.{settled_stands, written, left_standing}
+use Rattle.book_recovery.proofs.JournalSpec.Standings.{settled_stands, written, left_standing, OnlyNow, CountsNow}
 use Rattle.shelf.specs.Owning.{OwnRecords, HoldsOwnRecords, HasOwnImages, StaysOwnThroughout, StandsOwn}
 use Rattle.shelf.proofs.Owned.{images_own, own_seen, with_added, stays_own, quiet_run_own}
 use Rattle.shelf.proofs.Newest.{newest_images, makes_so, now_own}
-use Rattle.shelf.proofs.Standing.{OnlyNow, CountsNow, IsQuietCall, nothing_doubted}
+use Rattle.shelf.proofs.Standing.{IsQuietCall, nothing_doubted}
 
 -- where nothing is in doubt, any length measures it
 pub measured_up : (rules : Rules) (n : ℕ) (d : Book) → d.down ≡ None → MeasuresDoubt rules n d

@@ -35,7 +35,7 @@ use Rattle.book_recovery.specs.JournalSpec.Events.{IsGiven}
 use Rattle.book_recovery.specs.JournalSpec.Whole.{AreWhole, HasWholeScripts}
 use Rattle.book_recovery.specs.JournalSpec.Disks.{IsFit}
 use Rattle.book_recovery.specs.JournalSpec.Laws.{ASetupIsItsTexts, RenewalsAreKept, RenewalsStandBetween}
-use Rattle.book_recovery.proofs.JournalSpec.Standings.{carried, settled_stands}
+use Rattle.book_recovery.proofs.JournalSpec.Standings.{carried, settled_stands, OnlyNow}
 use Rattle.book_recovery.specs.InstanceBook.declared.book.Book.{Book as RustBook}
 use Rattle.book_recovery.specs.InstanceBook.Views as views
 use Rattle.book_recovery.specs.InstanceBook.Views.{Beside}
@@ -50,8 +50,6 @@ use Rattle.book_recovery.specs.JournalSpec.Old.{book_of_format, format_of_now}
 use Rattle.book_recovery.specs.JournalSpec.Reading.{AreAllBytes}
 use Rattle.file_copies.specs.OfFileNotes.declared.notes.FileNotes.{FileNotes}
 use Rattle.book_recovery.specs.Noting.{mark_by, marks_of}
-use Rattle.page_journal.proofs.Scans.{quiet_none}
-use Rattle.page_journal.proofs.Mending.{leaves_map}
 use Rattle.shelf.proofs.Setups.{few_scripts}
 use Rattle.shelf.proofs.Known.{bodies_more, mark_made, bytes_more}
 use Rattle.shelf.specs.Files.{file_in, read_file, KnowsRead, NotesRenewed}
@@ -63,7 +61,6 @@ use Rattle.shelf.specs.Faults.{IsReadFaultOf}
 use Rattle.shelf.specs.declared.begin.BeginFault.{BeginFault}
 use Rattle.shelf.specs.declared.begin.BeginFault.TheVariants as fault
 use Rattle.shelf.proofs.Openings.{found_fit, read_beside, there, found_is, found_again, found_makes, found_told}
-use Rattle.shelf.proofs.Standing.{OnlyNow}
 use Rattle.shelf.proofs.Owned.{with_added, stays_own, settled_own, quiet_own}
 use Rattle.shelf.proofs.Newest.{own_in, makes_so}
 

@@ -21,7 +21,7 @@ use Rattle.book_recovery.specs.JournalSpec.Old.{book_of_format}
 use Rattle.book_recovery.specs.JournalSpec.Standing.{Makes, Between, Held, HoldIn, StaysThroughout}
 use Rattle.book_recovery.specs.JournalSpec.Disks.{OpeningsStay, RecoveriesFindOne}
 use Rattle.book_recovery.proofs.JournalSpec.Between.{stand_alike}
-use Rattle.book_recovery.proofs.JournalSpec.Standings.{carried}
+use Rattle.book_recovery.proofs.JournalSpec.Standings.{carried, CountsNow}
 use Rattle.file_copies.specs.OfFileNotes.Files.{IsNoted}
 use Rattle.shelf.specs.Files.{read_file}
 use Rattle.shelf.specs.Following.{IsOpen}
@@ -41,7 +41,6 @@ use Rattle.shelf.proofs.Openings.{found_fit, none_read, not_nothing}
 use Rattle.shelf.proofs.Owned.{none_own, first_own, with_added, stays_own}
 use Rattle.shelf.proofs.OwnOpenings.{read_moments}
 use Rattle.shelf.proofs.Reopening.{plain_bare}
-use Rattle.shelf.proofs.Standing.{CountsNow}
 
 -- ---- what it is
 

@@ -22,6 +22,7 @@ use Rattle.book_recovery.specs.declared.found.Found.TheVariants as found
 use Rattle.book_recovery.specs.Found.{Finds, FindsBook, IsBookInOrder, IsFoundInOrder}
 use Rattle.book_recovery.specs.Noting.{NotesFile, WhereMade}
 use Rattle.book_recovery.specs.Reading.{Gives, IsBefore, seen_by}
+use Rattle.book_recovery.proofs.JournalSpec.Standings.{OnlyNow}
 use Rattle.file_copies.specs.OfFileNotes.declared.notes.FileNotes.{FileNotes}
 use Rattle.shelf.specs.Fed.{IsWaiting, IsFedOf, follower_of}
 use Rattle.shelf.specs.Files.{KnowsRead}
@@ -35,7 +36,6 @@ use Rattle.shelf.proofs.Newest.{newest_images}
 use Rattle.shelf.proofs.Openings.{quiet_leaves, none_read, not_nothing, found_makes, found_told}
 use Rattle.shelf.proofs.Reading.{known_file, none_waits, noted_at}
 use Rattle.shelf.proofs.Renewing.{opened_book_of, by_memory}
-use Rattle.shelf.proofs.Standing.{OnlyNow}
 use Rattle.shelf.proofs.Waiting.{waiting_opens, waiting_known, GoesOnFed}
 
 -- where it is not to follow, or there is a record, it goes on with what there is

@@ -10,7 +10,7 @@ use Rattle.page_journal.proofs.Holds.{settled_images}
 use Rattle.page_journal.proofs.Mending.{leaves_then, leaves_map}
 use Rattle.file_copies.specs.declared.copying.CopyFault.{CopyFault}
 use Rattle.shelf.specs.Compacting.{Replaces}
-use Rattle.shelf.proofs.Standing.{OnlyNow}
+use Rattle.book_recovery.proofs.JournalSpec.Standings.{OnlyNow}
 
 module _ {D : Type 0} (view : D → View) (old : Journal D) where
   abbrev v : View

@@ -11,6 +11,7 @@ use Rattle.page_journal.specs.Scanned.{IsQuiet}
 use Rattle.page_journal.specs.Settled.{IsSettled, view_of, bodies_in, length_of}
 use Rattle.page_journal.specs.declared.journal.Journal.{Journal}
 use Rattle.book_recovery.specs.InstanceBook.declared.book.Book.{Book}
+use Rattle.book_recovery.proofs.JournalSpec.Standings.{OnlyNow}
 use Rattle.file_copies.specs.OfFileNotes.declared.notes.FileNotes.{FileNotes}
 use Rattle.file_copies.specs.declared.copying.CopyFault.TheVariants as copy
 use Rattle.shelf.specs.declared.compaction.CompactFault.{CompactFault}
@@ -18,7 +19,6 @@ use Rattle.shelf.specs.declared.compaction.CompactFault.TheVariants as fault
 use Rattle.shelf.specs.declared.compaction.Planned.{Planned}
 use Rattle.shelf.specs.Compacting.{length_for, copies_for, IsPlannedFor, IsTooLongFor, IsRoomMade, HasFailedSo, Replaces, Rewrites}
 use Rattle.page_journal.proofs.Mending.{leaves_then, leaves_map}
-use Rattle.shelf.proofs.Standing.{OnlyNow}
 use Rattle.shelf.proofs.Replaced.{left_first, left_then}
 
 -- bytes that are a file of these bodies hold them

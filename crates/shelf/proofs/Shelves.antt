@@ -44,9 +44,10 @@ use Rattle.shelf.specs.Files.{KnowsFile}
 use Rattle.shelf.proofs.Known.{known_quiet, known_doubted, may_newest}
 use Rattle.shelf.specs.Views.{rules_of, doubt_of, library_in, book_in, TellsStates, IsFed, IsInOrder, IsOwnShelf}
 use Rattle.book_recovery.specs.Found.{HasToldStates}
+use Rattle.book_recovery.proofs.JournalSpec.Standings.{OnlyNow, CountsNow}
 use Rattle.shelf.specs.Owning.{StandsOwn}
 use Rattle.shelf.specs.Events.{HasMoments, HasOwnMoments}
-use Rattle.shelf.proofs.Standing.{OnlyNow, CountsNow, IsQuietCall, quiet_fit, quiet_moments, own_alike, measured_alike}
+use Rattle.shelf.proofs.Standing.{IsQuietCall, quiet_fit, quiet_moments, own_alike, measured_alike}
 use Rattle.shelf.proofs.Recorded as recorded
 use Rattle.shelf.proofs.Recorded.{recorded_moments, measured_moments, added_fit, doubted_fit, own_images, own_run}
 use Rattle.shelf.proofs.Owned.{quiet_run_own}

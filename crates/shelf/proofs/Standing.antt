@@ -1,5 +1,5 @@
 -- How a shelf's disk goes on to stand for its book.
-use Rattle.std.proofs.Common.{◌≡◌, ℕ, ◌≤◌, Bool, List, [], ◌++◌, Option, None, IsTrue, inl, refl, sym, ◌∙◌, ap, subst, arith}
+use Rattle.std.proofs.Common.{◌≡◌, ℕ, Bool, List, [], ◌++◌, Option, None, IsTrue, inl, refl, sym, ◌∙◌, ap, subst, arith}
 use Rattle.std.proofs.lemmas.List.{append-nil}
 use Rattle.book_recovery.specs.SetupReader.Texts.{setup_of_texts as texts}
 use Rattle.web_disk.specs.View.{View, NoNewImage, Elapses}
@@ -18,15 +18,9 @@ use Rattle.book_recovery.specs.JournalSpec.Disks.{IsFit}
 use Rattle.book_recovery.specs.JournalSpec.Laws.{MeasuresDoubt, EventsAreKept}
 use Rattle.book_recovery.specs.JournalSpec.Owning.{IsOwnBefore}
 use Rattle.book_recovery.proofs.JournalSpec.Between.{kept_alike, stand_alike}
-use Rattle.book_recovery.proofs.JournalSpec.Standings.{carried, stays_then, stands_then}
+use Rattle.book_recovery.proofs.JournalSpec.Standings.{carried, stays_then, stands_then, OnlyNow}
 use Rattle.page_journal.proofs.Mending.{leaves_map}
 use Rattle.shelf.specs.Owning.{StandsMeasured, StandsOwn}
-
-abbrev pub OnlyNow : View → Type 0
-OnlyNow v = (image : List ℕ) → v.since v.moment image → v.images image
-
-abbrev pub CountsNow : View → Type 0
-CountsNow v = (t : ℕ) (image : List ℕ) → t ≤ v.moment → v.images image → v.since t image
 
 -- no call was made, or one that leaves no new image: the journal has the same records, and can go on where it could
 pub record IsQuietCall {D : Type 0} (view : D → View) (tells : Bool) (old new : Journal D) : Type 0 where

@@ -10,8 +10,8 @@ use Rattle.page_journal.specs.declared.journal.Journal.{Journal}
 use Rattle.page_journal.proofs.Mending.{leaves_then}
 use Rattle.shelf.specs.Opening.{TellsSetup}
 use Rattle.shelf.specs.declared.begin.BeginFault.TheVariants as fault
-use Rattle.shelf.proofs.Standing.{OnlyNow}
 use Rattle.shelf.proofs.Newest.{newest_images}
+use Rattle.book_recovery.proofs.JournalSpec.Standings.{OnlyNow}
 
 -- a call that leaves no new image, after which one leaves what has a property that all had before
 run_after : (v0 v1 v2 : View) (P : List ℕ → Type 0) → OnlyNow v0 → ((image : List ℕ) → v0.images image → P image) → NoNewImage v0 v1 → Elapses v0 v1 → LeavesOnly v1 v2 P → LeavesOnly v0 v2 P

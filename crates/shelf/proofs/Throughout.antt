@@ -7,7 +7,7 @@ use Rattle.page_journal.proofs.Mending.{leaves_then, leaves_map}
 use Rattle.replay_spec.specs.Book.{Book, reopened}
 use Rattle.book_recovery.specs.JournalSpec.Standing.{Between, Held, HoldIn, HeldOpened, HoldsOpening, StaysThroughout, OpensThroughout}
 use Rattle.book_recovery.proofs.JournalSpec.Between.{stand_alike}
-use Rattle.book_recovery.proofs.JournalSpec.Standings.{carried}
+use Rattle.book_recovery.proofs.JournalSpec.Standings.{carried, CountsNow}
 use Rattle.std.proofs.lemmas.Option.{same_Some}
 use Rattle.std.proofs.lemmas.Bool.Decides.{nat_tests}
 use Rattle.page_journal.specs.Records.{newest}
@@ -24,7 +24,6 @@ use Rattle.book_recovery.specs.JournalSpec.Disks.{RecoveriesFindOne}
 use Rattle.book_recovery.proofs.JournalSpec.Between.{make_books}
 use Rattle.shelf.specs.Migrating.{bodies_now, Moves}
 use Rattle.shelf.specs.Opening.{making_of, IsRenewedAs, HoldsAnew, IsReadOrRenewed, Renews}
-use Rattle.shelf.proofs.Standing.{CountsNow}
 
 -- what is left of an opening of two books
 abbrev pub HeldAnew : {before after : Book} (shelf : ℕ) (scripts : List Named) → Between texts shelf before after → List ℕ → Type 0

@@ -41,7 +41,7 @@ use Rattle.book_recovery.specs.JournalSpec.Reading.{AreAllBytes}
 use Rattle.book_recovery.specs.InstanceBook.declared.in_order.InOrder.{InOrder}
 use Rattle.file_copies.specs.OfFileNotes.declared.notes.FileNotes.{FileNotes}
 use Rattle.book_recovery.specs.Noting.{NotesFile, WhereMade}
-use Rattle.page_journal.proofs.Scans.{quiet_none}
+use Rattle.book_recovery.proofs.JournalSpec.Standings.{OnlyNow}
 use Rattle.shelf.specs.Fed.{IsFedAs, IsFedBy, IsFedAt, fed_of, follower_of, IsWaiting, IsFedOf}
 use Rattle.shelf.specs.Files.{file_in, read_file, KnowsRead}
 use Rattle.shelf.specs.Opening.{making_of, opening_bodies, HasOwnRecords, IsFollowerOf, IsFollowedBy, IsOpenedBook, OpensOwn, Opens, IsMadeOf}
@@ -52,7 +52,6 @@ use Rattle.shelf.specs.Owning.{StaysOwnThroughout}
 use Rattle.shelf.proofs.Openings.{found_fit, read_beside, there, found_is, found_again, found_makes, found_told}
 use Rattle.shelf.proofs.Renewing.{opened_by, bodies_by, opened_book_of}
 use Rattle.shelf.proofs.Reading.{read_refused, none_waits_fed, known_file, noted_at}
-use Rattle.shelf.proofs.Standing.{OnlyNow}
 use Rattle.shelf.proofs.Owned.{settled_own, quiet_own}
 use Rattle.shelf.proofs.Newest.{own_in}
 

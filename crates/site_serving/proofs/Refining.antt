@@ -32,7 +32,6 @@ use Rattle.site.specs.Openings.{IsOwnOpening, book_then, count_of, opened_of, so
 use Rattle.site.specs.Passes.{Compacted, Follows, GoesFrom, Known, Published, Spots, Swept, Ticked, Took, has_freed, seen_by}
 use Rattle.site.specs.Rules.{TicksAs, site_rules}
 use Rattle.site.specs.Sites.{PublishesAt, TakesOn, VisitsAt, place_for}
-use Rattle.history_spec.proofs.Passing.{own_append, own_one}
 use Rattle.site_serving.specs.Serving.{AreSeenBy, opened_as, openings_of}
 use Rattle.site_serving.proofs.Moving.{worked}
 use Rattle.site_serving.specs.Visits.{AreSwept, HappensAt, IsCompacted, IsFollowed, IsSwept, IsTicked, IsVisited, IsWorn, Makes, Seen, SweepsOn, VisitsOn, history_rules, nothing_seen, unseen}

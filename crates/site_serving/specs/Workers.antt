@@ -40,10 +40,6 @@ AreOwn {S} rules passes = (k : ℕ) (p : S) → slice_get passes k ≡ Some p �
 abbrev pub HaveOwn : {S P : Type 0} → PassRules S → (count : ℕ) → List (Worker S P) → Type 0
 HaveOwn {S} {P} rules count workers = (k : ℕ) (w : Worker S P) → k < count → rules.IsOwn (slice_index_or workers k w).pass
 
--- a vector that is empty, and has room for so many
-abbrev pub HasRoomFor : {T : Type 0} → ℕ → Vec T → Type 0
-HasRoomFor many v = (v.items ≡ []) × (vec_len v ≡ 0) × (many ≤ vec_capacity v)
-
 -- no pass and no porch is left
 abbrev pub AreGone : {S P : Type 0} → Vec S → Vec P → Type 0
 AreGone passes porches = (passes.items ≡ []) × (vec_len passes ≡ 0) × (porches.items ≡ []) × (vec_len porches ≡ 0)

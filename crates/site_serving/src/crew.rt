@@ -1,6 +1,7 @@
 //! Workers on their way to their work and back. They stand in the reverse order meanwhile.
 ghost use Rattle.std.specs.Prelude.{◌≡◌, reverse, vec_len};
-ghost use Rattle.site_serving.specs.Workers.{AreGone, HasRoomFor, KeepRoom, passes_of, porches_of, tallies_of};
+ghost use Rattle.lock_row.specs.Locks.{HasRoomFor};
+ghost use Rattle.site_serving.specs.Workers.{AreGone, KeepRoom, passes_of, porches_of, tallies_of};
 
 use crate::worker::Worker;
 use request_workers::Tally;

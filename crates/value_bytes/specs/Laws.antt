@@ -1,11 +1,8 @@
 -- Writing and reading undo each other, so what has a spelling has one alone.
-use Rattle.std.specs.Prelude.{◌≡◌, ℕ, ◌<◌, List, [], ◌++◌, get_or, Some}
+use Rattle.std.specs.Prelude.{◌≡◌, ℕ, List, [], ◌++◌, Some}
+pub use Rattle.wire_bytes.specs.Reading.{AreBytes}
 use Rattle.value_bytes.specs.Spelling.{value_bytes, values_bytes, HasBytes, HaveBytes}
 use Rattle.value_bytes.specs.Reading.{Reader, read_value, read_values}
-
--- each of these numbers is a byte: it is below 256
-abbrev pub AreBytes : List ℕ → Type 0
-AreBytes bytes = (i : ℕ) → get_or bytes i 0 < 256
 
 -- what is read in front of the rest has a spelling, which stands there
 pub record Spells {A : Type 0} (spelled : A → List ℕ) (fits : A → Type 0) (bytes : List ℕ) (x : A) (rest : List ℕ) : Type 0 where

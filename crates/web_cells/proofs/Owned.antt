@@ -93,7 +93,8 @@ untouched p (s ∷ ss) own c found h (inr i) =
     ∙ ap (λ (t : Bool). last_shadow c i.1.0 (if t then Some s.1 else found)) no
     ∙ untouched p ss i.1.0 c found h.1 i.1.1.1
 
-abbrev or_that : Option Val → Option Val → Option Val
+-- the first of two values that may be none, or else the second
+abbrev pub or_that : Option Val → Option Val → Option Val
 or_that None found = found
 or_that (Some v) found = Some v
 

@@ -38,19 +38,19 @@ abbrev pub is_there : RepeatDisk → ℕ → ℕ → Bool
 is_there disk place size = nat_le (place + size) (start_of disk + length disk.last.items)
 
 -- the count of faults after a call: one more where it failed, up to the type's end
-abbrev pub faults_behind : {T E : Type 0} → Result T E → ℕ → ℕ
-faults_behind (Ok x) faults = faults
-faults_behind (Err e) faults = min (faults + 1) (2 ^ 64 - 1)
+abbrev pub faults_after : {T E : Type 0} → Result T E → ℕ → ℕ
+faults_after (Ok x) faults = faults
+faults_after (Err e) faults = min (faults + 1) (2 ^ 64 - 1)
 
 -- nothing but the count of faults may change
 abbrev pub OnlyCounts : {T E : Type 0} → RepeatDisk → RepeatDisk → Result T E → Type 0
-OnlyCounts old new result = new ≡ record old { faults = faults_behind result old.faults }
+OnlyCounts old new result = new ≡ record old { faults = faults_after result old.faults }
 
 -- a call on the last part fails exactly where this is not met, and then nothing but the count changes; the last part begins where it did
 pub record Serves {T E : Type 0} (met : Bool) (old new : RepeatDisk) (result : Result T E) : Type 0 where
   pub fails : is_err result ≡ not met
   pub failed : OnErr result (OnlyCounts old new result)
-  pub faults : new.faults ≡ faults_behind result old.faults
+  pub faults : new.faults ≡ faults_after result old.faults
   pub start : start_of new ≡ start_of old
 
 -- a disk that tells no bytes promises nothing of them

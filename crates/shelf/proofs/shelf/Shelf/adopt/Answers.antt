@@ -7,7 +7,7 @@ use Rattle.shelf.specs.Following.{IsFedMore, TellsPlace}
 use Rattle.shelf.specs.Views.{book_in, IsInOrder}
 use Rattle.shelf.proofs.Adding.{as_before, then_adds, can_be_fed, settled_fed}
 use Rattle.shelf.proofs.Adopting.{stands_nowhere, stands_there, fed_stands, adopted, adopted_order}
-use Rattle.book_recovery.proofs.Adopted.{as_told}
+use Rattle.shelf.proofs.Known.{told_still}
 use Rattle.shelf.proofs.Quiet.{untouched}
 use Rattle.shelf.proofs.Still.{order_still}
 use Rattle.shelf.proofs.Unmoved.{same_book, kept_order}
@@ -73,7 +73,7 @@ returns-then-is_err-clause-in_order g c = λ can.
     let done = c.room.ensures in
     let order = c.requires.in_order (can_be_fed s c.in-Some.follower c.in-Some.is c.in_default-fallen.is) in
     subst (λ (o : Option Follower). IsInOrder g.D.Disk.view g.D.Disk.tells (record s { journal = c.room.new.self; follower = o })) c.in-Some.is
-    (order_still g.D.Disk.view g.D.Disk.tells s c.room.new.self s.notes (record { settled = λ told settled. done.settled told; format = done.format; seen = done.seen; images = done.images }) done.len (as_told s.notes) order done.sound done.whole order.knows.noted)
+    (order_still g.D.Disk.view g.D.Disk.tells s c.room.new.self s.notes (record { settled = λ told settled. done.settled told; format = done.format; seen = done.seen; images = done.images }) done.len (told_still s.notes) order done.sound done.whole order.knows.noted)
 
 pub returns-then-is_err-clause-any_moment : goal.returns-then-is_err-clause-any_moment
 returns-then-is_err-clause-any_moment g c =

@@ -16,7 +16,7 @@ use Rattle.value_bytes.specs.Laws.{AreBytes}
 use Rattle.file_copies.specs.OfFileNotes.declared.note.Note.{Note}
 use Rattle.file_copies.specs.OfFileNotes.Files.{file_in, marks_in}
 use Rattle.file_copies.specs.OfFileNotes.Notes.{is_told}
-use Rattle.book_recovery.proofs.Adopted.{as_told}
+use Rattle.shelf.proofs.Known.{told_still}
 use Rattle.shelf.specs.Views.{library_in, book_in, fate_by}
 use Rattle.shelf.specs.Events.{decision_of, TellsReply}
 use Rattle.shelf.specs.Recording.{IsBody, told_in}
@@ -44,7 +44,7 @@ idle g c =
     let q = c.requires in
     let is = landing.idle_book view tells s q.in_order t p q.up q.out q.script q.landed q.room c.spend.new.self c.install.new.book c.spend.ensures.book c.install.ensures.book c.in_default.is in
     spent_publishes view tells g.N.Nonces.nonce s (record s { book = c.install.new.book }) t c.install.result q.in_order c.events_are_kept.ensures (g.met.D.Disk.only_now s.journal.disk) q.out is refl refl refl refl (no_call view tells s.journal)
-    q.in_order.knows.noted (as_told s.notes) q.in_order.sound q.in_order.whole
+    q.in_order.knows.noted (told_still s.notes) q.in_order.sound q.in_order.whole
     (λ source all. c.install.ensures.states source l.all (subst (HasStateFrom l.all (shelf_from source c.spend.new.self.shelf) (instances_of l.all c.spend.new.self.instances)) (sym c.in_default.is) tt) (c.spend.ensures.states source l.all all))
     (λ own. landing.idle_comes view tells s q.in_order t p q.up q.out q.script q.landed q.room c.install.result c.install.ensures.reply c.in_default.is (q.decided own))
 

@@ -24,7 +24,7 @@ use Rattle.shelf.proofs.Leaving.{Publishes, spent_publishes, visit_anew, publish
 use Rattle.shelf.proofs.Now.{if_none}
 use Rattle.shelf.proofs.Tickets.{anew_keeps}
 use Rattle.shelf.proofs.Quiet.{untouched, alone}
-use Rattle.book_recovery.proofs.Adopted.{as_told}
+use Rattle.shelf.proofs.Known.{told_still}
 use Rattle.shelf.proofs.shelf.Shelf.publish.Goals as goal
 use Rattle.shelf.proofs.shelf.Shelf.publish.Goals.{After-spend, After-prepared, After-land, After-spend-in-Err}
 
@@ -45,7 +45,7 @@ turned g c =
     let order = c.requires.in_order in
     let answer = replied s.rules (book_in g.D.Disk.view s) (ticket_of t) (reply_of r) (barred_publish s.rules (book_in g.D.Disk.view s) (ticket_of t) (reply_of r) (bars g c)) in
     spent_publishes view tells g.N.Nonces.nonce s (record s { book = c.spend.new.self }) t r order c.events_are_kept.ensures (g.met.D.Disk.only_now s.journal.disk) c.requires.out
-    (c.spend.ensures.book l (beside_of view s)) refl refl refl refl (no_call view tells s.journal) order.knows.noted (as_told s.notes) order.sound order.whole (λ source. c.spend.ensures.states source l.all) (λ own. answer)
+    (c.spend.ensures.book l (beside_of view s)) refl refl refl refl (no_call view tells s.journal) order.knows.noted (told_still s.notes) order.sound order.whole (λ source. c.spend.ensures.states source l.all) (λ own. answer)
 
 pub returns-in-Some-clause-event : goal.returns-in-Some-clause-event
 returns-in-Some-clause-event g c = (turned g (goal.at.returns-in-Some-clause-event g c).After-spend).event
@@ -243,7 +243,7 @@ refused g c =
     let free = bars_none g.D.Disk.view s (c.barred.ensures.free c.in_default.is) in
     let order = c.requires.in_order in
     spent_publishes view tells g.N.Nonces.nonce s (record s { book = c.spend-in-Err.new.self }) t c.in-Err.reply order c.events_are_kept.ensures (g.met.D.Disk.only_now s.journal.disk) c.requires.out
-    (c.spend-in-Err.ensures.book l here ∙ ap (spend t.number) (c.prepared.ensures.book l here)) refl refl refl refl (no_call view tells s.journal) order.knows.noted (as_told s.notes) order.sound order.whole
+    (c.spend-in-Err.ensures.book l here ∙ ap (spend t.number) (c.prepared.ensures.book l here)) refl refl refl refl (no_call view tells s.journal) order.knows.noted (told_still s.notes) order.sound order.whole
     (λ source all. c.spend-in-Err.ensures.states source l.all (c.prepared.ensures.states source l.all all))
     (λ own.
     let decided = c.in-Err.ensures.decided (fits_at l here no_journal s.book t (target_of t.target) own.fits) here free in

@@ -14,7 +14,7 @@ use Rattle.value_bytes.specs.Laws.{AreBytes}
 use Rattle.file_copies.specs.OfFileNotes.declared.note.Note.{Note}
 use Rattle.file_copies.specs.OfFileNotes.Files.{file_in, marks_in}
 use Rattle.file_copies.specs.OfFileNotes.Notes.{is_told}
-use Rattle.book_recovery.proofs.Adopted.{as_told}
+use Rattle.shelf.proofs.Known.{told_still}
 use Rattle.shelf.specs.Views.{book_in}
 use Rattle.shelf.proofs.Steps.{barred_by, early, barred_sweep}
 use Rattle.shelf.proofs.Publishing.{bar_count}
@@ -34,7 +34,7 @@ early_tick : (g : _) (c : Then-tick-clock g) → Sweeps g.D.Disk.view g.D.Disk.t
 early_tick g c =
     let s = c.args.self.now in
     let before : nat_le c.args.tick s.book.clock ≡ true = grind (arith, nat_tests, c.if-tick-clock.true, c.clock.ensures.clock) in
-    unswept g.D.Disk.view g.D.Disk.tells g.N.Nonces.nonce s c.requires.in_order c.args.tick c.requires.tick c.events_are_kept.ensures (g.met.D.Disk.only_now s.journal.disk) s.journal s.notes c.requires.in_order.knows.noted (as_told s.notes) refl (λ sound. sound) refl (no_call g.D.Disk.view g.D.Disk.tells s.journal) c.requires.in_order.fed (step.swept 0)
+    unswept g.D.Disk.view g.D.Disk.tells g.N.Nonces.nonce s c.requires.in_order c.args.tick c.requires.tick c.events_are_kept.ensures (g.met.D.Disk.only_now s.journal.disk) s.journal s.notes c.requires.in_order.knows.noted (told_still s.notes) refl (λ sound. sound) refl (no_call g.D.Disk.view g.D.Disk.tells s.journal) c.requires.in_order.fed (step.swept 0)
     (λ given. refl) (early s.rules (book_in g.D.Disk.view s) c.args.tick before)
 
 pub returns-then-tick-clock-clause-event : goal.returns-then-tick-clock-clause-event
@@ -62,7 +62,7 @@ turned g c =
     let s = c.args.self.now in
     let r = c.in-Some.reply in
     let late : nat_le c.args.tick s.book.clock ≡ false = grind (arith, nat_tests, c.if-tick-clock.false, c.clock.ensures.clock) in
-    unswept g.D.Disk.view g.D.Disk.tells g.N.Nonces.nonce s c.requires.in_order c.args.tick c.requires.tick c.events_are_kept.ensures (g.met.D.Disk.only_now s.journal.disk) s.journal s.notes c.requires.in_order.knows.noted (as_told s.notes) refl (λ sound. sound) refl (no_call g.D.Disk.view g.D.Disk.tells s.journal)
+    unswept g.D.Disk.view g.D.Disk.tells g.N.Nonces.nonce s c.requires.in_order c.args.tick c.requires.tick c.events_are_kept.ensures (g.met.D.Disk.only_now s.journal.disk) s.journal s.notes c.requires.in_order.knows.noted (told_still s.notes) refl (λ sound. sound) refl (no_call g.D.Disk.view g.D.Disk.tells s.journal)
     c.requires.in_order.fed (reply_of r) (λ given. quiet r given) (barred_sweep s.rules (book_in g.D.Disk.view s) c.args.tick late (reply_of r) (bars g c))
 
 pub returns-in-Some-clause-event : goal.returns-in-Some-clause-event

@@ -26,7 +26,7 @@ use Rattle.book_recovery.specs.InstanceBook.Places as sources
 use Rattle.shelf.proofs.Shelves.{quiet_order, quiet_own, same_order, kept_told, some_kept}
 use Rattle.shelf.proofs.Fitting.{fits_drawn, start_has_script}
 use Rattle.shelf.proofs.Tickets.{anew_keeps, drawn_keeps, taken_goes}
-use Rattle.book_recovery.proofs.Adopted.{as_told}
+use Rattle.shelf.proofs.Known.{told_still}
 use Rattle.shelf.proofs.shelf.Shelf.take.Goals as goal
 
 pub returns-in-Some-clause-event : goal.returns-in-Some-clause-event
@@ -98,7 +98,7 @@ returns-in-Ok-clause-in_order g c =
     let why : refusal_of (admit b d) ≡ None = ap refusal_of (admit_same (library_in s) (beside_of g.D.Disk.view s) no_journal s.book d) ∙ c.in_default-admit.ensures.admitted in
     let scripts : HasWholeScripts (draw b) = record { setup = c.requires.scripts_are.setup; instances = c.requires.scripts_are.instances } in
     quiet_order g.D.Disk.view g.D.Disk.tells s _ refl refl (draw b) (c.in-Ok.ensures.drawn (library_in s) (beside_of g.D.Disk.view s)) refl refl (no_call g.D.Disk.view g.D.Disk.tells s.journal)
-    c.requires (some_kept (library_in s).all s.book c.take_ticket.new.book c.take_ticket.ensures.states) (kept_told (library_in s).all s.book c.take_ticket.new.book c.take_ticket.ensures.states) c.requires.sound (step.take d v) step.plain (step.taken b.drawn 0) (taken s.rules b d v 0 (free_take b d free low why)) tt tt tt refl tt tt c.events_are_kept.ensures refl scripts c.requires.whole c.requires.knows.noted (as_told s.notes) refl (unfed g.D.Disk.view g.D.Disk.tells _ (c.barred.ensures.free c.in_default.is).leads)
+    c.requires (some_kept (library_in s).all s.book c.take_ticket.new.book c.take_ticket.ensures.states) (kept_told (library_in s).all s.book c.take_ticket.new.book c.take_ticket.ensures.states) c.requires.sound (step.take d v) step.plain (step.taken b.drawn 0) (taken s.rules b d v 0 (free_take b d free low why)) tt tt tt refl tt tt c.events_are_kept.ensures refl scripts c.requires.whole c.requires.knows.noted (told_still s.notes) refl (unfed g.D.Disk.view g.D.Disk.tells _ (c.barred.ensures.free c.in_default.is).leads)
 
 pub returns-in-Ok-clause-own : goal.returns-in-Ok-clause-own
 returns-in-Ok-clause-own g c =
