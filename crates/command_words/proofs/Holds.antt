@@ -21,9 +21,9 @@ use Rattle.clap.specs.declared.error.kind.ErrorKind.TheVariants.{MissingRequired
 use Rattle.clap.proofs.OnLiterals.{clap_on_literals}
 use Rattle.clap.proofs.ValueTestLemmas.{accepts-Accepts}
 use Rattle.command_words.specs.App.{app, audit_shape, check_shape, export_shape, follow_shape, load_shape, play_shape, promote_shape, serve_shape}
-use Rattle.server_limits.specs.Limits.{most_connections, most_fuel, most_instances, most_life, most_pages, most_shelves}
+use Rattle.server_limits.specs.Limits.{most_connections, most_fuel, most_instances, most_life, most_pages, most_shelves, most_requests}
 use Rattle.server_limits.specs.Counts.{most_workers}
-use Rattle.command_words.specs.Options.{Item, Kind, shelves_items, bare, directory, feed_items, flag, last_shelf, load_items, most_run, number, play_items, serve_items, most_requests}
+use Rattle.command_words.specs.Options.{Item, Kind, shelves_items, bare, directory, feed_items, flag, last_shelf, load_items, most_run, number, play_items, serve_items}
 use Rattle.command_words.specs.Plain.{AreInRange, CanFeed, HasShelves, CanLoad, CanServe, IsInRange}
 use Rattle.command_words.specs.Reads.{Holds, HoldsAs, HoldsAsked, HoldsFlag, HoldsFor, HoldsNumber, HoldsText, asked_as, asked_from, feed_at, shelves_at, for_audit, for_check, for_export, for_follow, for_load, for_play, for_promote, for_serve, load_at, number_at, options_at, service_at, text_at}
 use Rattle.command_words.specs.declared.Command.{Command}

@@ -4,7 +4,7 @@ use Rattle.std.specs.List.{AllByRecursion as Each}
 use Rattle.std.specs.Fmt.{decimal}
 use Rattle.std.specs.Str.{bytes_eq}
 use Rattle.std.specs.Str.Parse.{digits_value}
-use Rattle.server_limits.specs.Limits.{most_connections, most_fuel, most_instances, most_life, most_pages, most_shelves}
+use Rattle.server_limits.specs.Limits.{most_connections, most_fuel, most_instances, most_life, most_pages, most_requests, most_shelves}
 use Rattle.server_limits.specs.Counts.{most_workers}
 
 -- a text by its bytes
@@ -65,10 +65,6 @@ port = record { name = codes "port"; kind = number 0 65535; default = None }
 -- the option of how many workers a server has
 abbrev pub workers : Item
 workers = record { name = codes "workers"; kind = number 1 most_workers; default = Some (codes "4") }
-
--- the most requests that a link may carry
-abbrev pub most_requests : ℕ
-most_requests = 1000
 
 -- the option of how many requests a connection may carry
 abbrev pub requests : Item

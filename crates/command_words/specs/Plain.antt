@@ -1,9 +1,9 @@
 -- Plain words, and what they ask for.
 use Rattle.std.specs.Prelude.{⊤, ◌≡◌, ◌≢◌, ◌<◌, ◌≤◌, ◌∷◌, List, [], codes, length, Result, Err, IfOk}
 use Rattle.std.specs.Str.Parse.{digits_value}
-use Rattle.server_limits.specs.Limits.{AreConnections, AreInstances, ArePages, AreShelves, IsFuel, IsLife, IsWithin}
+use Rattle.server_limits.specs.Limits.{AreConnections, AreInstances, ArePages, AreShelves, IsFuel, IsLife, IsWithin, most_requests}
 use Rattle.server_limits.specs.Counts.{most_workers}
-use Rattle.command_words.specs.Options.{ArePlain, IsPlainNumber, Setting, Text, feed_items, shelves_items, flag_of, most_run, number_of, play_items, serve_items, spelled, text_of, last_shelf, most_requests}
+use Rattle.command_words.specs.Options.{ArePlain, IsPlainNumber, Setting, Text, feed_items, shelves_items, flag_of, most_run, number_of, play_items, serve_items, spelled, text_of, last_shelf}
 use Rattle.command_words.specs.Options.{audit, connections, fuel, instances, journal, life, pages, port, requests, shelf, shelves, workers}
 use Rattle.command_words.specs.declared.Command.{Command}
 use Rattle.command_words.specs.declared.Command.TheVariants.{Audit, Check, Export, Follow, Load, Play, Promote, Serve}

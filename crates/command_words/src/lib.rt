@@ -15,16 +15,14 @@ use clap::error::ErrorKind;
 use clap::{Arg, ArgAction, ArgMatches, value_parser};
 use script_value::Str;
 use server_limits::{
-    MOST_CONNECTIONS, MOST_FUEL, MOST_INSTANCES, MOST_LIFE, MOST_PAGES, MOST_SHELVES, MOST_WORKERS,
+    MOST_CONNECTIONS, MOST_FUEL, MOST_INSTANCES, MOST_LIFE, MOST_PAGES, MOST_REQUESTS,
+    MOST_SHELVES, MOST_WORKERS,
 };
 use std::alloc::{AllocError, Global};
 use thiserror::Error;
 
 /// The greatest number of a measured run.
 pub const MOST_RUN: u64 = 9_223_372_036_854_775_807;
-
-/// The most requests that a link may carry.
-pub const MOST_REQUESTS: u32 = 1000;
 
 /// The greatest number of a shelf.
 pub const LAST_SHELF: u32 = MOST_SHELVES - 1;

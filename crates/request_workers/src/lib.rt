@@ -11,4 +11,4 @@ mod worker;
 pub use link::{LinkEnd, Links, serve_link};
 pub use serve::{Served, serve_one};
 pub use tally::{Tally, WorkEnd};
-pub use worker::{MOST_REQUESTS, work};
+pub use worker::work;

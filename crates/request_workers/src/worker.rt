@@ -8,9 +8,6 @@ use http_forms::Answering;
 use std::alloc::Global;
 use web_outside::{CONNECTION_LIMIT, Clock, Failed, Gate, Link, Porch};
 
-/// The most requests that a link carries.
-pub const MOST_REQUESTS: u32 = 1000;
-
 // What one turn of a worker came to.
 enum Turn {
     Served,

@@ -25,6 +25,10 @@ most_pages = 1024
 abbrev pub most_connections : ℕ
 most_connections = 1000000
 
+-- how many requests a connection may be told to carry
+abbrev pub most_requests : ℕ
+most_requests = 1000
+
 -- a number is in the range from `low` up to `high`
 abbrev pub IsWithin : (low high n : ℕ) → Type 0
 IsWithin low high n = (low ≤ n) × (n ≤ high)

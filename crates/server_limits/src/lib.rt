@@ -2,7 +2,7 @@
 #![tactic(auto)]
 
 ghost use Rattle.std.specs.Prelude.{◌≡◌};
-ghost use Rattle.server_limits.specs.Limits.{most_connections, most_fuel, most_instances, most_life, most_pages, most_shelves};
+ghost use Rattle.server_limits.specs.Limits.{most_connections, most_fuel, most_instances, most_life, most_pages, most_requests, most_shelves};
 ghost use Rattle.server_limits.specs.Counts.{most_scripts, most_workers};
 
 /// The most shelves of a server.
@@ -23,6 +23,9 @@ pub const MOST_PAGES: u64 = 1_024;
 /// The most links that a worker may be told to serve.
 pub const MOST_CONNECTIONS: u64 = 1_000_000;
 
+/// The most requests that a link may be told to carry.
+pub const MOST_REQUESTS: u32 = 1_000;
+
 /// The most workers of a server.
 pub const MOST_WORKERS: u32 = 16;
 
@@ -37,6 +40,7 @@ pub fn limits_are_as_defined()
     ensures instances { MOST_INSTANCES ≡ most_instances }
     ensures pages { MOST_PAGES ≡ most_pages }
     ensures connections { MOST_CONNECTIONS ≡ most_connections }
+    ensures requests { MOST_REQUESTS ≡ most_requests }
     ensures workers { MOST_WORKERS ≡ most_workers }
     ensures scripts { MOST_SCRIPTS ≡ most_scripts }
 {}

@@ -41,10 +41,6 @@ pub record Views (D P L N : Type 0) : Type 1 where
   pub nonce : N → ℕ → ℕ
   pub shown : Option ℕ
 
--- the most requests that a link may carry
-abbrev pub most_requests : ℕ
-most_requests = 1000
-
 -- How contracts see the things that a serving meets.
 abbrev pub views : {D P L N : Type 0} → (disk : D → View) → (told : Bool) → (link : L → LinkView) → (porch : P → PorchView L)
     → (nonce : N → ℕ → ℕ) → (shown : Option ℕ) → Views D P L N

@@ -3,8 +3,9 @@ ghost use Rattle.std.specs.Prelude.{◌≡◌, ◌≤◌, ℕ, Some, length, sli
 ghost use Rattle.disk_trio.specs.Trio.{trio_view};
 ghost use Rattle.site_serving.specs.Workers.{IsRoomFor};
 ghost use Rattle.server_limits.specs.Counts.{most_workers};
+ghost use Rattle.server_limits.specs.Limits.{most_requests};
 ghost use Rattle.site.specs.Beginnings.{IsFirstPass, IsReady, IsWhole};
-ghost use Rattle.site_serving.specs.Serving.{AreUntouched, ComesTo, EndsAs, HasFailed, IsManned, fault_of, most_requests, openings_in, pasts_of, views};
+ghost use Rattle.site_serving.specs.Serving.{AreUntouched, ComesTo, EndsAs, HasFailed, IsManned, fault_of, openings_in, pasts_of, views};
 
 use crate::keeping::Past;
 use crate::{Room, serve_all, total};
@@ -26,7 +27,7 @@ pub struct Watch {
     pub workers: u32,
     /// The most links that each of them serves.
     pub connections: u64,
-    /// The most requests that each link carries, 1 to `request_workers::MOST_REQUESTS`.
+    /// The most requests that each link carries, 1 to `server_limits::MOST_REQUESTS`.
     pub requests: u32,
 }
 

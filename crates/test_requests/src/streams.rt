@@ -2,7 +2,8 @@
 
 use crate::counter::{Asked, Counter};
 use http_forms::Refused;
-use request_workers::{LinkEnd, Links, MOST_REQUESTS, serve_link};
+use request_workers::{LinkEnd, Links, serve_link};
+use server_limits::MOST_REQUESTS;
 use std::alloc::Global;
 use std::test::Fail;
 use web_outside::{Clock, OpenGate, SetClock, TextLink, TextSink, TextSource, TickingClock};

@@ -1,7 +1,6 @@
 use Rattle.std.proofs.Common.{rules, ◌≡◌, ap, arith, Err}
-use Rattle.server_limits.specs.Limits.{most_connections}
+use Rattle.server_limits.specs.Limits.{most_connections, most_requests}
 use Rattle.server_limits.specs.Counts.{most_workers}
-use Rattle.command_words.specs.Options.{most_requests}
 use Rattle.command_words.proofs.Reading.{same_error}
 use Rattle.command_words.proofs.service_of.Goals as goal
 
