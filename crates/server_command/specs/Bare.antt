@@ -24,7 +24,7 @@ use Rattle.page_follower.specs.OfShelf.declared.begin.BeginFault.{BeginFault}
 use Rattle.page_follower.specs.OfShelf.declared.shelf.Shelf.{Shelf}
 use Rattle.play_steps.specs.Rules.{StaysUp}
 use Rattle.play_desk.specs.Asking.{AsksForNone, AsksForOne, AsksForSome}
-use Rattle.play_desk.specs.Opening.{GivesOne, TakesOne}
+use Rattle.play_desk.specs.Opening.{GivesOne, IsOutside, TakesOne}
 use Rattle.play_steps.specs.declared.stage.Reopen.{Reopen}
 use Rattle.play_steps.specs.declared.stage.Reopen.TheVariants as cause
 use Rattle.server_command.specs.declared.feeding.Opening.{Opening}
@@ -103,12 +103,6 @@ pub record AreLent {D : Type 0} (view : D → View) (told : Type 0) (before afte
   pub among : told → AreAmong (view taken).images ((shelves_of before).holds shelf)
   pub reads : told → (view taken).images (view taken).seen
   pub left : told → AreAmong ((shelves_of after).holds shelf) (view given).images
-
--- the outside failed, or memory ran out
-abbrev pub IsOutside : Reopen → Type 0
-IsOutside cause.Disk = ⊤
-IsOutside cause.Memory = ⊤
-IsOutside _ = ⊥
 
 -- Why a shelf was not opened without a setup, and what is left of its disks: they were not taken, and nothing was written on them; or they were, and
 -- unless a call of one failed, nothing was lost on them and nothing added.
