@@ -23,7 +23,7 @@ use Rattle.page_follower.specs.OfShelf.declared.shelf.Shelf.{Shelf}
 use Rattle.play_steps.specs.Rules.{StaysUp}
 use Rattle.play_desk.specs.Asking.{AsksForOne}
 use Rattle.play_desk.specs.Opening.{LeavesOthers, TakesOne, reopen_of}
-use Rattle.play_steps.specs.declared.stage.Reopen.TheVariants as cause
+use Rattle.play_steps.specs.declared.stage.Reopen.TheVariants as reopen
 use Rattle.play_desk.proofs.Asking.{asked_all}
 use Rattle.server_command.specs.Bare.{AsksOne, GivesBack, HasOpened, IsUnfitBare, OpensAs, OpensSafely, StaysShut, refused, untaken, untaken_for}
 use Rattle.server_command.specs.Racks.{ShelfFailed, racks_of}
@@ -174,7 +174,7 @@ lawful_before true shelf (made m) is = tt
 lawful_before true shelf (damaged p) is = is
 lawful_before true shelf (other p) is = is
 
-disk_fault : (e : BeginFault) → reopen_of e ≡ cause.Disk → e ≡ begin.DiskFault
+disk_fault : (e : BeginFault) → reopen_of e ≡ reopen.Disk → e ≡ begin.DiskFault
 disk_fault (begin.Damaged place) is = absurd (let no : ⊥ = cc in no)
 disk_fault (begin.Other place) is = absurd (let no : ⊥ = cc in no)
 disk_fault (begin.Full n) is = absurd (let no : ⊥ = cc in no)

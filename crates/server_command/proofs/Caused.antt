@@ -8,7 +8,7 @@ use Rattle.page_follower.specs.declared.fault.FeedFault.TheVariants as feed
 use Rattle.page_follower.specs.declared.fault.FollowEnd.{FollowEnd}
 use Rattle.page_follower.specs.declared.fault.FollowEnd.TheVariants as end
 use Rattle.play_steps.specs.declared.stage.Reopen.{Reopen}
-use Rattle.play_steps.specs.declared.stage.Reopen.TheVariants as cause
+use Rattle.play_steps.specs.declared.stage.Reopen.TheVariants as reopen
 use Rattle.server_command.specs.declared.program.Status.{Status}
 use Rattle.server_command.specs.declared.program.Status.TheVariants as status
 use Rattle.server_command.specs.Auditing.{LeavesAudit, LeavesStopped, ok_text}
@@ -84,24 +84,24 @@ audit_caused met count how p = absurd p
 -- ---- shelves that are opened without a setup
 
 -- the status of a shelf that was not opened tells that a disk failed only where it did
-unopened_by : (met : Met) (why : Reopen) → (why ≡ cause.Disk → RackFailed met.rack) → IsCaused (unopened_status why) met
-unopened_by met cause.Disk failed = failed refl
-unopened_by met cause.NotEmpty failed = tt
-unopened_by met (cause.Damaged place) failed = tt
-unopened_by met (cause.Other place) failed = tt
-unopened_by met (cause.Full length) failed = tt
-unopened_by met cause.Memory failed = tt
+unopened_by : (met : Met) (why : Reopen) → (why ≡ reopen.Disk → RackFailed met.rack) → IsCaused (unopened_status why) met
+unopened_by met reopen.Disk failed = failed refl
+unopened_by met reopen.NotEmpty failed = tt
+unopened_by met (reopen.Damaged place) failed = tt
+unopened_by met (reopen.Other place) failed = tt
+unopened_by met (reopen.Full length) failed = tt
+unopened_by met reopen.Memory failed = tt
 
 -- this is the status, and the fault that it tells came
 caused_as : (met : Met) (how is : Status) → how ≡ is → IsCaused is met → IsCaused how met
 caused_as met how is same p = subst (λ h. IsCaused h met) (sym same) p
 
-unopened_caused : (met : Met) (shelf : ℕ) (why : Reopen) (how : Status) (out : Sinks) → (why ≡ cause.Disk → RackFailed met.rack)
+unopened_caused : (met : Met) (shelf : ℕ) (why : Reopen) (how : Status) (out : Sinks) → (why ≡ reopen.Disk → RackFailed met.rack)
     → TellsUnopened shelf why how out → IsCaused how met
 unopened_caused met shelf why how out failed (telling.told line named is printed) = caused_as met how (unopened_status why) is (unopened_by met why failed)
 unopened_caused met shelf why how out failed (telling.untold is printed) = caused_as met how status.Memory is tt
 
-behind_caused : (met : Met) (text : List ℕ) (shelf : ℕ) (why : Reopen) (how : Status) → (why ≡ cause.Disk → RackFailed met.rack)
+behind_caused : (met : Met) (text : List ℕ) (shelf : ℕ) (why : Reopen) (how : Status) → (why ≡ reopen.Disk → RackFailed met.rack)
     → TellsBehind text shelf why how met.output → IsCaused how met
 behind_caused met text shelf why how failed (feeding.told_behind line named is tells) = caused_as met how (unopened_status why) is (unopened_by met why failed)
 behind_caused met text shelf why how failed (feeding.untold_behind is tells) = caused_as met how status.Memory is tt

@@ -17,7 +17,7 @@ use Rattle.server_command.specs.declared.program.Status.{Status}
 use Rattle.server_command.specs.declared.program.Status.TheVariants as status
 use Rattle.web_disk.specs.View.{RackView}
 use Rattle.disk_trio.proofs.Views.{rose_later}
-use Rattle.play_steps.specs.declared.stage.Reopen.TheVariants as cause
+use Rattle.play_steps.specs.declared.stage.Reopen.TheVariants as reopen
 use Rattle.server_command.specs.Racks.{Racks, AtRest, racks_of}
 use Rattle.server_command.specs.Remains.{IsAny, Remains, RemainsUnwritten, unopened}
 use Rattle.server_command.specs.Output.{Chances, Sinks, output_of, counted, told_scripts, ending_of, faulty, sinks, Tells, Answers, BreaksOff, nothing}
@@ -69,7 +69,7 @@ at_rest told rack = record { faults = refl; out = λ n. refl; holds = λ n image
 -- no steps were begun, and the rack was not touched; or no setup was read
 pub untouched : (told : Bool) (rack : RackView) (asked : Command) (setup : Result Parsed Fault) → Remains (racks_of told rack rack) asked setup no_chances [] IsAny 0
 untouched told rack (Play o) (Ok setup) =
-    (unopened 0 cause.Memory tt refl (record { asked = inr (refl, refl); before = λ k low. absurd (omega (arith, low)); failed = λ e. let no : ⊥ = cc in absurd no; kept = record { kept = λ n but left is. inl is; behind = λ n above left is. is } }), (let none : count_by is_fault [] ≡ 0 = refl in omega (arith, none)))
+    (unopened 0 reopen.Memory tt refl (record { asked = inr (refl, refl); before = λ k low. absurd (omega (arith, low)); failed = λ e. let no : ⊥ = cc in absurd no; kept = record { kept = λ n but left is. inl is; behind = λ n above left is. is } }), (let none : count_by is_fault [] ≡ 0 = refl in omega (arith, none)))
 untouched told rack (Play o) (Err e) = at_rest told rack
 untouched told rack Check setup = at_rest told rack
 untouched told rack (Serve v) setup = tt

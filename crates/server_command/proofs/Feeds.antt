@@ -25,7 +25,7 @@ use Rattle.page_follower.specs.Moments.{HasFed}
 use Rattle.page_follower.specs.declared.fault.FollowEnd.{FollowEnd}
 use Rattle.page_follower.specs.declared.fault.FollowEnd.TheVariants as end
 use Rattle.play_steps.specs.declared.stage.Reopen.{Reopen}
-use Rattle.play_steps.specs.declared.stage.Reopen.TheVariants as cause
+use Rattle.play_steps.specs.declared.stage.Reopen.TheVariants as reopen
 use Rattle.server_command.specs.declared.program.Status.{Status}
 use Rattle.server_command.specs.declared.program.Status.TheVariants as status
 use Rattle.server_command.specs.Bare.{AreLent, AsksOne, GivesBack, HasOpened, HasRead, OpensSafely}
@@ -100,12 +100,12 @@ module _ {D : Type 0} (view : D → View) (told : Bool) (before after : RackView
       → LeavesExport view (racks_of told before after) shelf how (sinks_of old mid)
   sent_part how is rose part = unsent r is rose (λ t. subst (AppendsPart old.written mid.written) (feeds t) (part (knows t)).written)
 
-  fails : (how : Status) (out : Sinks) → TellsUnopened shelf cause.Disk how out → IsFailing how
+  fails : (how : Status) (out : Sinks) → TellsUnopened shelf reopen.Disk how out → IsFailing how
   fails how out (telling.told line is same prints) = inl same
   fails how out (telling.untold same prints) = inr same
 
   pub sent_some : (new : SinkView) (how : Status) → ShelfFailed (racks_of told before after) shelf → old.faults ≤ mid.faults
-      → (IsTrue tells → WritesSome old mid (feed_with (feed_of bodies))) → TellsUnopened shelf cause.Disk how (sinks_of mid new)
+      → (IsTrue tells → WritesSome old mid (feed_with (feed_of bodies))) → TellsUnopened shelf reopen.Disk how (sinks_of mid new)
       → LeavesExport view (racks_of told before after) shelf how (sinks_of old new)
   sent_some new how failed le some line =
       unread r failed (fails how (sinks_of mid new) line) (λ t.
@@ -113,7 +113,7 @@ module _ {D : Type 0} (view : D → View) (told : Bool) (before after : RackView
         part.front,
         part.rest,
         sym (feeds t) ∙ part.is,
-        tells_behind part.front shelf cause.Disk how old.written mid.written new.written old.faults mid.faults new.faults le part.written line,
+        tells_behind part.front shelf reopen.Disk how old.written mid.written new.written old.faults mid.faults new.faults le part.written line,
       ))
 
 -- a shelf was opened, its records were sent, and it was closed
@@ -135,7 +135,7 @@ module _ {D : Type 0} (view : D → View) (tells told : Bool) (before mid after 
       (bodies_in view s.journal) (λ t. h.records t ∙ append-nil (bodies_after shelf (view h.taken).seen)) old between status.Write refl rose part
 
   pub export_failed : (last : SinkView) (how : Status) → Rose (view s.journal.disk).faults (view new.journal.disk).faults → old.faults ≤ between.faults
-      → (IsTrue tells → WritesSome old between (feed_with (feed_of (bodies_in view s.journal)))) → TellsUnopened shelf cause.Disk how (sinks_of between last)
+      → (IsTrue tells → WritesSome old between (feed_with (feed_of (bodies_in view s.journal)))) → TellsUnopened shelf reopen.Disk how (sinks_of between last)
       → LeavesExport view (racks_of told before after) shelf how (sinks_of old last)
   export_failed last how rose le some line =
       sent_some view told before after shelf (read_quiet view tells told false before mid after shelf s new h g counts (λ t. refl) quiet) tells knows

@@ -13,7 +13,7 @@ use Rattle.play_steps.specs.Rules.{StaysUp}
 use Rattle.play_desk.specs.Asking.{AsksForFirst, AsksForNone, AsksForOne, AsksUntil}
 use Rattle.play_desk.specs.Opening.{FailedFor}
 use Rattle.play_steps.specs.declared.stage.Reopen.{Reopen}
-use Rattle.play_steps.specs.declared.stage.Reopen.TheVariants as cause
+use Rattle.play_steps.specs.declared.stage.Reopen.TheVariants as reopen
 use Rattle.server_command.specs.Opening.{AsksAsTaken, AsksByCause, HasTaken, IsRefused, IsUntaken, RefusesInOrder, TakesBack, seen_on}
 use Rattle.play_desk.proofs.Asking.{asked_more}
 use Rattle.server_command.proofs.Racks.{held_more}
@@ -106,12 +106,12 @@ failed_since number before mid after le up failed =
 -- no disk that holds something was looked at
 pub untaken_refused : (told : Type 0) (risen : ℕ → Type 0) (scripts : List Named) (images : List (List ℕ)) (shelf : ℕ) (why : Reopen)
     → IsUntaken risen shelf why → IsRefused told risen scripts images shelf why
-untaken_refused told risen scripts images shelf cause.Disk h = h
-untaken_refused told risen scripts images shelf cause.NotEmpty h = h
-untaken_refused told risen scripts images shelf (cause.Damaged place) h = absurd h
-untaken_refused told risen scripts images shelf (cause.Other place) h = absurd h
-untaken_refused told risen scripts images shelf (cause.Full length) h = absurd h
-untaken_refused told risen scripts images shelf cause.Memory h = tt
+untaken_refused told risen scripts images shelf reopen.Disk h = h
+untaken_refused told risen scripts images shelf reopen.NotEmpty h = h
+untaken_refused told risen scripts images shelf (reopen.Damaged place) h = absurd h
+untaken_refused told risen scripts images shelf (reopen.Other place) h = absurd h
+untaken_refused told risen scripts images shelf (reopen.Full length) h = absurd h
+untaken_refused told risen scripts images shelf reopen.Memory h = tt
 
 -- disks that were taken came home
 pub all_home : (told : Type 0) (before mid after : RackView) (count : ℕ) (images : List (List ℕ)) → HasTaken told before mid count images → TakesBack mid after 0 count
@@ -185,7 +185,7 @@ all_more K (y ∷ xs) x all new = (all.0, all_more K xs x all.1 new)
 pub both_tell : (a b : Bool) → IsTrue (a && b) → IsTrue a × IsTrue b
 both_tell a b h = and_parts a b h
 
-until_disk : (before after : RackView) (count shelf : ℕ) → AsksAsTaken before after count shelf cause.Disk → AsksUntil count shelf before after
+until_disk : (before after : RackView) (count shelf : ℕ) → AsksAsTaken before after count shelf reopen.Disk → AsksUntil count shelf before after
 until_disk before after count shelf (inl until) = until
 until_disk before after count shelf (inr none) = absurd (let is = none.0 in let no : ⊥ = cc is in no)
 
@@ -193,31 +193,31 @@ until_disk before after count shelf (inr none) = absurd (let is = none.0 in let 
 pub untaken_in_order : (scripts : List Named) (before after : RackView) (count : ℕ) (risen : ℕ → Type 0) (shelf : ℕ) (why : Reopen)
     → IsUntaken risen shelf why → AsksAsTaken before after count shelf why → LeavesAllDisks before after
     → RefusesInOrder scripts before after count [] shelf why
-untaken_in_order scripts before after count risen shelf cause.Disk h asked left =
+untaken_in_order scripts before after count risen shelf reopen.Disk h asked left =
     inl (until_disk before after count shelf asked, left)
-untaken_in_order scripts before after count risen shelf cause.NotEmpty h asked left = absurd h
-untaken_in_order scripts before after count risen shelf (cause.Damaged place) h asked left = absurd h
-untaken_in_order scripts before after count risen shelf (cause.Other place) h asked left = absurd h
-untaken_in_order scripts before after count risen shelf (cause.Full length) h asked left = absurd h
-untaken_in_order scripts before after count risen shelf cause.Memory h asked left = tt
+untaken_in_order scripts before after count risen shelf reopen.NotEmpty h asked left = absurd h
+untaken_in_order scripts before after count risen shelf (reopen.Damaged place) h asked left = absurd h
+untaken_in_order scripts before after count risen shelf (reopen.Other place) h asked left = absurd h
+untaken_in_order scripts before after count risen shelf (reopen.Full length) h asked left = absurd h
+untaken_in_order scripts before after count risen shelf reopen.Memory h asked left = tt
 
 pub untaken_asked : (before after : RackView) (count : ℕ) (risen : ℕ → Type 0) (shelf : ℕ) (why : Reopen)
     → IsUntaken risen shelf why → AsksAsTaken before after count shelf why → AsksByCause before after count shelf why
-untaken_asked before after count risen shelf cause.Disk h asked = inr (until_disk before after count shelf asked)
-untaken_asked before after count risen shelf cause.NotEmpty h asked = absurd h
-untaken_asked before after count risen shelf (cause.Damaged place) h asked = absurd h
-untaken_asked before after count risen shelf (cause.Other place) h asked = absurd h
-untaken_asked before after count risen shelf (cause.Full length) h asked = absurd h
-untaken_asked before after count risen shelf cause.Memory h asked = ⊎_elim (λ until. inr (inr until)) (λ none. inl none.1) asked
+untaken_asked before after count risen shelf reopen.Disk h asked = inr (until_disk before after count shelf asked)
+untaken_asked before after count risen shelf reopen.NotEmpty h asked = absurd h
+untaken_asked before after count risen shelf (reopen.Damaged place) h asked = absurd h
+untaken_asked before after count risen shelf (reopen.Other place) h asked = absurd h
+untaken_asked before after count risen shelf (reopen.Full length) h asked = absurd h
+untaken_asked before after count risen shelf reopen.Memory h asked = ⊎_elim (λ until. inr (inr until)) (λ none. inl none.1) asked
 
 -- all disks were taken
 pub taken_asked : (before after : RackView) (count shelf : ℕ) (why : Reopen) → AsksForFirst count before after → AsksByCause before after count shelf why
-taken_asked before after count shelf cause.Disk asked = inl asked
-taken_asked before after count shelf cause.NotEmpty asked = asked
-taken_asked before after count shelf (cause.Damaged place) asked = asked
-taken_asked before after count shelf (cause.Other place) asked = asked
-taken_asked before after count shelf (cause.Full length) asked = asked
-taken_asked before after count shelf cause.Memory asked = inr (inl asked)
+taken_asked before after count shelf reopen.Disk asked = inl asked
+taken_asked before after count shelf reopen.NotEmpty asked = asked
+taken_asked before after count shelf (reopen.Damaged place) asked = asked
+taken_asked before after count shelf (reopen.Other place) asked = asked
+taken_asked before after count shelf (reopen.Full length) asked = asked
+taken_asked before after count shelf reopen.Memory asked = inr (inl asked)
 
 -- disks that were taken came home
 pub given_asked : (count : ℕ) (before middle after : RackView) → AsksForFirst count before middle → AsksForNone middle after → AsksForFirst count before after

@@ -15,7 +15,7 @@ use Rattle.server_command.specs.declared.auditing.AuditEnd.{AuditEnd}
 use Rattle.server_command.specs.declared.serving.ServeFault.{ServeFault}
 use Rattle.server_command.specs.declared.serving.ServeFault.TheVariants as fault
 use Rattle.play_steps.specs.declared.stage.Reopen.{Reopen}
-use Rattle.play_steps.specs.declared.stage.Reopen.TheVariants as cause
+use Rattle.play_steps.specs.declared.stage.Reopen.TheVariants as reopen
 use Rattle.play_desk.specs.declared.opening.OpenFault.{OpenFault}
 use Rattle.play_desk.specs.Asking.{AsksForAll, AsksForFirst, AsksForNone, AsksUntil}
 use Rattle.server_command.specs.Opening.{AsksByCause}
@@ -62,25 +62,25 @@ abbrev Shut : Asks → Racks → (shelves shelf : ℕ) → Reopen → Type 0
 Shut asks rack shelves shelf why = asks.drawn shelves × asks.shut × AsksByCause rack.before rack.after shelves shelf why
 
 few_asked : (rack : Racks) (shelves shelf : ℕ) (why : Reopen) → AsksByCause rack.before rack.after shelves shelf why → AsksForFew rack shelves
-few_asked rack shelves shelf cause.Disk (inl all) = inr (inl all)
-few_asked rack shelves shelf cause.Disk (inr until) = inr (inr (shelf, until))
-few_asked rack shelves shelf cause.NotEmpty all = inr (inl all)
-few_asked rack shelves shelf (cause.Damaged place) all = inr (inl all)
-few_asked rack shelves shelf (cause.Other place) all = inr (inl all)
-few_asked rack shelves shelf (cause.Full length) all = inr (inl all)
-few_asked rack shelves shelf cause.Memory (inl none) = inl none
-few_asked rack shelves shelf cause.Memory (inr (inl all)) = inr (inl all)
-few_asked rack shelves shelf cause.Memory (inr (inr until)) = inr (inr (shelf, until))
+few_asked rack shelves shelf reopen.Disk (inl all) = inr (inl all)
+few_asked rack shelves shelf reopen.Disk (inr until) = inr (inr (shelf, until))
+few_asked rack shelves shelf reopen.NotEmpty all = inr (inl all)
+few_asked rack shelves shelf (reopen.Damaged place) all = inr (inl all)
+few_asked rack shelves shelf (reopen.Other place) all = inr (inl all)
+few_asked rack shelves shelf (reopen.Full length) all = inr (inl all)
+few_asked rack shelves shelf reopen.Memory (inl none) = inl none
+few_asked rack shelves shelf reopen.Memory (inr (inl all)) = inr (inl all)
+few_asked rack shelves shelf reopen.Memory (inr (inr until)) = inr (inr (shelf, until))
 
 shut_order : (asks : Asks) (rack : Racks) (shelves shelf : ℕ) (why : Reopen) → Shut asks rack shelves shelf why
     → ServesInOrder asks rack shelves (unopened_status why)
-shut_order asks rack shelves shelf cause.Disk (drawn, shut, inl all) = (drawn, shut, inl all)
-shut_order asks rack shelves shelf cause.Disk (drawn, shut, inr until) = (drawn, shut, inr (shelf, until))
-shut_order asks rack shelves shelf cause.NotEmpty p = p
-shut_order asks rack shelves shelf (cause.Damaged place) p = p
-shut_order asks rack shelves shelf (cause.Other place) p = p
-shut_order asks rack shelves shelf (cause.Full length) p = p
-shut_order asks rack shelves shelf cause.Memory p = few_asked rack shelves shelf cause.Memory p.2
+shut_order asks rack shelves shelf reopen.Disk (drawn, shut, inl all) = (drawn, shut, inl all)
+shut_order asks rack shelves shelf reopen.Disk (drawn, shut, inr until) = (drawn, shut, inr (shelf, until))
+shut_order asks rack shelves shelf reopen.NotEmpty p = p
+shut_order asks rack shelves shelf (reopen.Damaged place) p = p
+shut_order asks rack shelves shelf (reopen.Other place) p = p
+shut_order asks rack shelves shelf (reopen.Full length) p = p
+shut_order asks rack shelves shelf reopen.Memory p = few_asked rack shelves shelf reopen.Memory p.2
 
 unopened_order : (asks : Asks) (rack : Racks) (shelves shelf : ℕ) (why : Reopen) (out : Sinks) (s : Status) → Shut asks rack shelves shelf why
     → TellsUnopened shelf why s out → ServesInOrder asks rack shelves s
@@ -144,12 +144,12 @@ pub memory_asked : (rack : Racks) (shelves : ℕ) (s : Status) → s ≡ status.
 memory_asked rack shelves s is asked = subst (PlaysInOrder rack shelves) (sym is) asked
 
 cause_asked : (rack : Racks) (shelves : ℕ) (why : Reopen) → AsksForShelves rack shelves → PlaysInOrder rack shelves (unopened_status why)
-cause_asked rack shelves cause.Disk asked = asked
-cause_asked rack shelves cause.NotEmpty asked = asked
-cause_asked rack shelves (cause.Damaged place) asked = asked
-cause_asked rack shelves (cause.Other place) asked = asked
-cause_asked rack shelves (cause.Full length) asked = asked
-cause_asked rack shelves cause.Memory asked = inr asked
+cause_asked rack shelves reopen.Disk asked = asked
+cause_asked rack shelves reopen.NotEmpty asked = asked
+cause_asked rack shelves (reopen.Damaged place) asked = asked
+cause_asked rack shelves (reopen.Other place) asked = asked
+cause_asked rack shelves (reopen.Full length) asked = asked
+cause_asked rack shelves reopen.Memory asked = inr asked
 
 pub unopened_asked : (rack : Racks) (shelves shelf : ℕ) (why : Reopen) (s : Status) (out : Sinks) → TellsUnopened shelf why s out
     → AsksForShelves rack shelves → PlaysInOrder rack shelves s

@@ -27,7 +27,7 @@ use Rattle.play_steps.specs.Rules.{StaysUp}
 use Rattle.play_desk.specs.Asking.{numbers_below}
 use Rattle.play_desk.specs.Opening.{AreHome}
 use Rattle.play_steps.specs.declared.stage.Reopen.{Reopen}
-use Rattle.play_steps.specs.declared.stage.Reopen.TheVariants as cause
+use Rattle.play_steps.specs.declared.stage.Reopen.TheVariants as reopen
 use Rattle.play_desk.proofs.Asking.{asked_none, asked_one_more, asked_until}
 use Rattle.server_command.specs.declared.program.Status.{Status}
 use Rattle.server_command.specs.declared.program.Status.TheVariants as status
@@ -98,7 +98,7 @@ module _ {D : Type 0} (view : D → View) (tells told : Bool) (before mid after 
 
   module _ (moments : IsTrue tells → AddsThroughout view s new (body_of promotes)) where
     unpromoted : (why : Reopen) → CanBeFed s → (IsTrue told → CannotPromote (bodies_after shelf (view h.taken).seen) why)
-        → (IsTrue told → why ≢ cause.Disk → KeepsRecords shelf [] (view h.taken) (view new.journal.disk))
+        → (IsTrue told → why ≢ reopen.Disk → KeepsRecords shelf [] (view h.taken) (view new.journal.disk))
         → IsUnpromoted view (IsTrue told) before after shelf why
     unpromoted why can cannot keeps = record {
       taken = h.taken;
@@ -158,15 +158,15 @@ module _ {D : Type 0} (view : D → View) (tells told : Bool) (before mid after 
     promotes_one (Err (reply.Down count)) p = absurd (stands view tells s count h.opens p.follows_on p.fallen)
     promotes_one (Err (reply.JournalFull n)) p = (
       λ e. absurd (let no : ⊥ = cc in no),
-      inr (still (cause.Full n) p.stays (λ t.
+      inr (still (reopen.Full n) p.stays (λ t.
           let is = p.is in
           let end = (h.readable.settled (knows t)).end in
           let long = ap (λ bs. length (at_rest bs)) (has_records t) in
           (omega (arith, is, end, long), p.long))),
     )
     promotes_one (Err (reply.DiskFault count)) p =
-        (λ e. failed p.rose, inr (unpromoted cause.Disk p.could (λ t. tt) (λ t other. absurd (other refl))))
-    promotes_one (Err reply.Memory) p = (λ e. absurd (let no : ⊥ = cc in no), inr (still cause.Memory p (λ t. tt)))
+        (λ e. failed p.rose, inr (unpromoted reopen.Disk p.could (λ t. tt) (λ t other. absurd (other refl))))
+    promotes_one (Err reply.Memory) p = (λ e. absurd (let no : ⊥ = cc in no), inr (still reopen.Memory p (λ t. tt)))
     promotes_one (Err r) p = absurd p
 
 -- a shelf was not opened

@@ -28,7 +28,7 @@ use Rattle.server_command.specs.declared.auditing.AuditEnd.{AuditEnd}
 use Rattle.server_command.specs.declared.serving.ServeFault.{ServeFault}
 use Rattle.server_command.specs.declared.serving.ServeFault.TheVariants as fault
 use Rattle.play_steps.specs.declared.stage.Reopen.{Reopen}
-use Rattle.play_steps.specs.declared.stage.Reopen.TheVariants as cause
+use Rattle.play_steps.specs.declared.stage.Reopen.TheVariants as reopen
 use Rattle.play_desk.specs.declared.opening.OpenFault.{OpenFault}
 use Rattle.server_command.specs.Command.{TellsFaultLine, TellsNoSetup}
 use Rattle.server_command.specs.Opening.{FailsAt, IsRefused, LeavesFrom, OpensOn, RefusesInOrder, RefusesOn}
@@ -145,10 +145,10 @@ refuses_of o s scripts f none p = (none, by_why f.why p.refused p.in_order p.kep
   where
     Keeps : Reopen → Type 0
     Keeps w =
-        IsTrue o.rack.tells → (k : ℕ) (read left : List ℕ) → slice_get p.images k ≡ Some read → (shelves_of o.rack.after).holds k left → (w ≡ cause.Disk → k ≢ f.shelf)
+        IsTrue o.rack.tells → (k : ℕ) (read left : List ℕ) → slice_get p.images k ≡ Some read → (shelves_of o.rack.after).holds k left → (w ≡ reopen.Disk → k ≢ f.shelf)
         → IsKept scripts k ((shelves_of o.rack.before).holds k) read left
 
-    all_kept : (w : Reopen) → IsTrue o.rack.tells → Keeps w → (w ≡ cause.Disk → ⊥) → NoneIsLost o.rack scripts p.images
+    all_kept : (w : Reopen) → IsTrue o.rack.tells → Keeps w → (w ≡ reopen.Disk → ⊥) → NoneIsLost o.rack scripts p.images
     all_kept w t kept not = record {
       held = p.held t;
       read = λ k read left read_is left_is. kept t k read left read_is left_is (λ e. absurd (not e));
@@ -158,7 +158,7 @@ refuses_of o s scripts f none p = (none, by_why f.why p.refused p.in_order p.kep
     -- nothing was opened on what a disk holds
     shuts : (w : Reopen) (why : Unfit) → (IsTrue o.rack.tells → first_unfit (unfit_left scripts) 0 p.images ≡ Some (f.shelf, why))
         → (IsTrue o.rack.tells → AsksForFirst s.options.shelves o.rack.before o.rack.after × (length p.images ≡ s.options.shelves) × AreBare o.rack.before o.rack.after p.images f.shelf) → Keeps w
-        → (w ≡ cause.Disk → ⊥) → Shuts o.rack s scripts p.images f.shelf why
+        → (w ≡ reopen.Disk → ⊥) → Shuts o.rack s scripts p.images f.shelf why
     shuts w why h order kept not t = (
       record { held = p.held t; all = λ none. absurd (let no : None ≡ Some (f.shelf, why) = sym none ∙ h t in cc) },
       h t,
@@ -171,7 +171,7 @@ refuses_of o s scripts f none p = (none, by_why f.why p.refused p.in_order p.kep
     by_why : (w : Reopen) → IsRefused (IsTrue o.rack.tells) (FailsAt s.options.shelves o.rack.before o.rack.after) scripts p.images f.shelf w
         → (IsTrue o.rack.tells → RefusesInOrder scripts o.rack.before o.rack.after s.options.shelves p.images f.shelf w) → Keeps w
         → ShutsBy o.rack s scripts p.images f.shelf w
-    by_why cause.Disk h order kept = (
+    by_why reopen.Disk h order kept = (
       h.0,
       h.1,
       λ t. record {
@@ -180,11 +180,11 @@ refuses_of o s scripts f none p = (none, by_why f.why p.refused p.in_order p.kep
       },
       order,
     )
-    by_why cause.NotEmpty h order kept = h
-    by_why (cause.Damaged place) h order kept = shuts (cause.Damaged place) (damaged place) h order kept (λ e. let no : ⊥ = cc e in no)
-    by_why (cause.Other place) h order kept = shuts (cause.Other place) (other place) h order kept (λ e. let no : ⊥ = cc e in no)
-    by_why (cause.Full length) h order kept = shuts (cause.Full length) (full length) h order kept (λ e. let no : ⊥ = cc e in no)
-    by_why cause.Memory h order kept = λ t. all_kept cause.Memory t kept (λ e. let no : ⊥ = cc e in no)
+    by_why reopen.NotEmpty h order kept = h
+    by_why (reopen.Damaged place) h order kept = shuts (reopen.Damaged place) (damaged place) h order kept (λ e. let no : ⊥ = cc e in no)
+    by_why (reopen.Other place) h order kept = shuts (reopen.Other place) (other place) h order kept (λ e. let no : ⊥ = cc e in no)
+    by_why (reopen.Full length) h order kept = shuts (reopen.Full length) (full length) h order kept (λ e. let no : ⊥ = cc e in no)
+    by_why reopen.Memory h order kept = λ t. all_kept reopen.Memory t kept (λ e. let no : ⊥ = cc e in no)
 
 -- a fault of a setup is all that is told
 pub fault_left : (serves : Serves) (v : Service) (bytes : List ℕ) (fault : Fault) (s : Status) (out : Sinks) (door seeds : Faults) → setup_of Input bytes ≡ Err fault
@@ -203,12 +203,12 @@ memory_left serves v bytes s out door seeds is line none rest =
 -- what is kept where a shelf was not opened
 keeps_but : (rack : Racks) (v : Service) (scripts : List Named) (images : List (List ℕ)) (shelf : ℕ) (why : Reopen) → ShutsBy rack v scripts images shelf why
     → KeepsAllBut rack scripts images
-keeps_but rack v scripts images shelf cause.Disk h = inr (shelf, h.1, h.2)
-keeps_but rack v scripts images shelf cause.NotEmpty h = absurd h
-keeps_but rack v scripts images shelf (cause.Damaged place) h = inl (λ t. (h t).2)
-keeps_but rack v scripts images shelf (cause.Other place) h = inl (λ t. (h t).2)
-keeps_but rack v scripts images shelf (cause.Full length) h = inl (λ t. (h t).2)
-keeps_but rack v scripts images shelf cause.Memory h = inl h
+keeps_but rack v scripts images shelf reopen.Disk h = inr (shelf, h.1, h.2)
+keeps_but rack v scripts images shelf reopen.NotEmpty h = absurd h
+keeps_but rack v scripts images shelf (reopen.Damaged place) h = inl (λ t. (h t).2)
+keeps_but rack v scripts images shelf (reopen.Other place) h = inl (λ t. (h t).2)
+keeps_but rack v scripts images shelf (reopen.Full length) h = inl (λ t. (h t).2)
+keeps_but rack v scripts images shelf reopen.Memory h = inl h
 
 -- a shelf was not opened, and that was told
 pub shuts_told : (serves : Serves) (v : Service) (scripts : List Named) (images : List (List ℕ)) (shelf : ℕ) (why : Reopen) (s : Status) (out : Sinks)
@@ -216,20 +216,20 @@ pub shuts_told : (serves : Serves) (v : Service) (scripts : List Named) (images 
     → LeavesServing serves v scripts images s out door seeds
 shuts_told serves v scripts images shelf why s out door seeds by (untold is line) =
     subst (λ x. LeavesServing serves v scripts images x out door seeds) (sym is) (line, inl (by.0, keeps_but serves.rack v scripts images shelf why by.1))
-shuts_told serves v scripts images shelf cause.Disk s out door seeds by (told line is same p) =
+shuts_told serves v scripts images shelf reopen.Disk s out door seeds by (told line is same p) =
     subst (λ x. LeavesServing serves v scripts images x out door seeds) (sym same)
     (shelf, by.1.1, by.1.0, subst (PrintsTo out) (sym (same_Some _ _ is)) p, by.0, by.1.2, by.1.3)
-shuts_told serves v scripts images shelf cause.NotEmpty s out door seeds by (told line is same p) = absurd by.1
-shuts_told serves v scripts images shelf (cause.Damaged place) s out door seeds by (told line is same p) =
+shuts_told serves v scripts images shelf reopen.NotEmpty s out door seeds by (told line is same p) = absurd by.1
+shuts_told serves v scripts images shelf (reopen.Damaged place) s out door seeds by (told line is same p) =
     subst (λ x. LeavesServing serves v scripts images x out door seeds) (sym same)
     (shelf, damaged place, by.1, subst (PrintsTo out) (sym (same_Some _ _ is)) p, by.0)
-shuts_told serves v scripts images shelf (cause.Other place) s out door seeds by (told line is same p) =
+shuts_told serves v scripts images shelf (reopen.Other place) s out door seeds by (told line is same p) =
     subst (λ x. LeavesServing serves v scripts images x out door seeds) (sym same)
     (shelf, other place, by.1, subst (PrintsTo out) (sym (same_Some _ _ is)) p, by.0)
-shuts_told serves v scripts images shelf (cause.Full length) s out door seeds by (told line is same p) =
+shuts_told serves v scripts images shelf (reopen.Full length) s out door seeds by (told line is same p) =
     subst (λ x. LeavesServing serves v scripts images x out door seeds) (sym same)
     (shelf, full length, by.1, subst (PrintsTo out) (sym (same_Some _ _ is)) p, by.0)
-shuts_told serves v scripts images shelf cause.Memory s out door seeds by (told line is same p) = absurd (let no : None ≡ Some line = is in cc)
+shuts_told serves v scripts images shelf reopen.Memory s out door seeds by (told line is same p) = absurd (let no : None ≡ Some line = is in cc)
 
 -- what a serving came to was told
 pub told_left : (serves : Serves) (v : Service) (scripts : List Named) (images : List (List ℕ)) (outcome : Result Tally ServeFault) (s : Status) (out : Sinks)

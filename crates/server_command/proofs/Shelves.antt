@@ -26,7 +26,7 @@ use Rattle.play_desk.proofs.Closing.{holds_book}
 use Rattle.site_serving.specs.Pages.{faults_told}
 use Rattle.site_serving.specs.Serving.{AreEnded, AreUntouched, IsEnded, opened_as, openings_of}
 use Rattle.command_words.specs.declared.Options.{Options}
-use Rattle.play_steps.specs.declared.stage.Reopen.TheVariants as cause
+use Rattle.play_steps.specs.declared.stage.Reopen.TheVariants as reopen
 use Rattle.server_command.specs.Opening.{AreAsked, IsRefused, RefusesInOrder, seen_on}
 use Rattle.server_command.specs.Output.{rules_for}
 use Rattle.play_desk.specs.Asking.{AsksForFirst}
@@ -262,7 +262,7 @@ pub kept_at : {D N : Type 0} (view : D → View) (tells : Bool) (scripts : List 
     (f : SiteFault D N) (before after : ℕ → List ℕ → Type 0) → (told → IsTrue tells) → (told → (d : D) → (view d).images (view d).seen) → IsNotBegun view tells scripts disks nonces f
     → (told → (k : ℕ) (d : D) → slice_get disks k ≡ Some d → AreAmong (view d).images (before k))
     → (told → (k : ℕ) (e : D) → slice_get f.disks.items k ≡ Some e → AreAmong (after k) (view e).images)
-    → told → (k : ℕ) (read left : List ℕ) → slice_get (seen_on view disks) k ≡ Some read → after k left → (reopen_of f.fault ≡ cause.Disk → k ≢ f.shelf)
+    → told → (k : ℕ) (read left : List ℕ) → slice_get (seen_on view disks) k ≡ Some read → after k left → (reopen_of f.fault ≡ reopen.Disk → k ≢ f.shelf)
     → IsKept scripts k (before k) read left
 kept_at view tells scripts told disks nonces f before after knows reads not held given t k read left read_is left_is but =
     let d = map_get (λ x. (view x).seen) disks k read read_is in

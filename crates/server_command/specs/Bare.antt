@@ -26,7 +26,7 @@ use Rattle.play_steps.specs.Rules.{StaysUp}
 use Rattle.play_desk.specs.Asking.{AsksForNone, AsksForOne, AsksForSome}
 use Rattle.play_desk.specs.Opening.{GivesOne, IsOutside, TakesOne}
 use Rattle.play_steps.specs.declared.stage.Reopen.{Reopen}
-use Rattle.play_steps.specs.declared.stage.Reopen.TheVariants as cause
+use Rattle.play_steps.specs.declared.stage.Reopen.TheVariants as reopen
 use Rattle.server_command.specs.declared.feeding.Opening.{Opening}
 use Rattle.server_command.specs.declared.feeding.Opening.TheVariants as opening
 use Rattle.server_command.specs.Racks.{Racks, ShelfFailed}
@@ -49,17 +49,17 @@ follows_on fed shelf image = follows_by (made_in (opened_bare fed shelf (now_in_
 
 -- The bytes are why a shelf is not opened on them without a setup, unless the outside failed. It asks for no empty disks.
 abbrev pub IsUnfitBare : (shelf : ℕ) → List ℕ → Reopen → Type 0
-IsUnfitBare shelf image cause.Disk = ⊤
-IsUnfitBare shelf image cause.NotEmpty = ⊥
-IsUnfitBare shelf image (cause.Damaged place) = book_in_bytes setup_of_texts shelf image ≡ damaged place
-IsUnfitBare shelf image (cause.Other place) = book_in_bytes setup_of_texts shelf image ≡ other place
-IsUnfitBare shelf image (cause.Full n) = IsTooLongAnew (format_of image) shelf (stored image) n
-IsUnfitBare shelf image cause.Memory = ⊤
+IsUnfitBare shelf image reopen.Disk = ⊤
+IsUnfitBare shelf image reopen.NotEmpty = ⊥
+IsUnfitBare shelf image (reopen.Damaged place) = book_in_bytes setup_of_texts shelf image ≡ damaged place
+IsUnfitBare shelf image (reopen.Other place) = book_in_bytes setup_of_texts shelf image ≡ other place
+IsUnfitBare shelf image (reopen.Full n) = IsTooLongAnew (format_of image) shelf (stored image) n
+IsUnfitBare shelf image reopen.Memory = ⊤
 
 -- why disks were not taken
 abbrev pub untaken_for : RackFault → Reopen
-untaken_for rack_fault.Failed = cause.Disk
-untaken_for rack_fault.Memory = cause.Memory
+untaken_for rack_fault.Failed = reopen.Disk
+untaken_for rack_fault.Memory = reopen.Memory
 
 -- ---- what a crash leaves
 
@@ -110,13 +110,13 @@ pub data IsShut {D : Type 0} (view : D → View) (told : Type 0) (fed : Bool) (b
   untaken : IsOutside why → (told → AreAmong ((shelves_of after).holds shelf) ((shelves_of before).holds shelf))
       → IsShut view told fed before after shelf why
   refused : (taken given : D) → AreLent view told before after shelf taken given → (told → IsUnfitBare shelf (view taken).seen why)
-      → (told → why ≢ cause.Disk → KeepsRecords shelf [] (view taken) (view given))
+      → (told → why ≢ reopen.Disk → KeepsRecords shelf [] (view taken) (view given))
       → (told → OpensSafely fed shelf (view taken) (view given)) → IsShut view told fed before after shelf why
 
 -- A shelf was not opened without a setup. Its disk failed where that is told.
 pub record StaysShut {D : Type 0} (view : D → View) (fed : Bool) (rack : Racks) (shelf : ℕ) (why : Reopen) : Type 0 where
   pub rest : AsksOne rack shelf
-  pub failed : why ≡ cause.Disk → ShelfFailed rack shelf
+  pub failed : why ≡ reopen.Disk → ShelfFailed rack shelf
   pub shut : IsShut view (IsTrue rack.tells) fed rack.before rack.after shelf why
 
 -- A shelf was opened without a setup, on disks that were taken for it: what stood there are lawful records, which make its book, if they make one,

@@ -24,7 +24,7 @@ use Rattle.page_follower.specs.declared.fault.FollowEnd.{FollowEnd}
 use Rattle.page_follower.specs.declared.fault.FollowEnd.TheVariants as end
 use Rattle.play_desk.specs.Asking.{AsksForFirst, AsksForOne, AsksUntil}
 use Rattle.play_steps.specs.declared.stage.Reopen.{Reopen}
-use Rattle.play_steps.specs.declared.stage.Reopen.TheVariants as cause
+use Rattle.play_steps.specs.declared.stage.Reopen.TheVariants as reopen
 use Rattle.server_command.specs.declared.program.Status.{Status}
 use Rattle.server_command.specs.declared.program.Status.TheVariants as status
 use Rattle.server_command.specs.Bare.{AsksOne, HasRead, AreLent, IsShut, OpensSafely, StaysShut, bare_records, follows_on}
@@ -93,10 +93,10 @@ TellsFeedFault fault how out = (shelf : ℕ) → TellsFollowed shelf (end.Feed f
 
 -- why a shelf was not promoted
 abbrev pub unpromoted_for : Reply → Reopen
-unpromoted_for (reply.JournalFull n) = cause.Full n
-unpromoted_for (reply.Down count) = cause.Disk
-unpromoted_for (reply.DiskFault count) = cause.Disk
-unpromoted_for _ = cause.Memory
+unpromoted_for (reply.JournalFull n) = reopen.Full n
+unpromoted_for (reply.Down count) = reopen.Disk
+unpromoted_for (reply.DiskFault count) = reopen.Disk
+unpromoted_for _ = reopen.Memory
 
 -- ---- what is told of a shelf after a text
 
@@ -118,7 +118,7 @@ feed_on shelf image = feed_with (feed_of (bodies_after shelf image))
 -- a front of the feed was written, and then it was told that a disk of the shelf failed
 abbrev pub TellsFailure : (feed : List ℕ) → (shelf : ℕ) → Status → Sinks → Type 0
 TellsFailure feed shelf how out =
-    (front : List ℕ) × (rest : List ℕ) × (feed ≡ front ++ rest) × TellsBehind front shelf cause.Disk how out
+    (front : List ℕ) × (rest : List ℕ) × (feed ≡ front ++ rest) × TellsBehind front shelf reopen.Disk how out
 
 -- What exporting leaves: the shelf was not opened; or the feed of all records that its disks held was written, and handed on; or a part of it, since a
 -- write failed; or a part of it, since a disk failed, and this was told. Nothing was written on the disks but what an opening writes.
@@ -180,12 +180,12 @@ pub record HavePromoted {D : Type 0} (view : D → View) (rack : Racks) (followe
 
 -- why a shelf that follows is not promoted, which has these records: with the one that tells it its journal would be too long; or the outside failed
 abbrev pub CannotPromote : List (List ℕ) → Reopen → Type 0
-CannotPromote bodies cause.Disk = ⊤
-CannotPromote bodies cause.NotEmpty = ⊥
-CannotPromote bodies (cause.Damaged place) = ⊥
-CannotPromote bodies (cause.Other place) = ⊥
-CannotPromote bodies (cause.Full n) = (n ≡ length (at_rest bodies) + 6) × (2 ^ 30 < n)
-CannotPromote bodies cause.Memory = ⊤
+CannotPromote bodies reopen.Disk = ⊤
+CannotPromote bodies reopen.NotEmpty = ⊥
+CannotPromote bodies (reopen.Damaged place) = ⊥
+CannotPromote bodies (reopen.Other place) = ⊥
+CannotPromote bodies (reopen.Full n) = (n ≡ length (at_rest bodies) + 6) × (2 ^ 30 < n)
+CannotPromote bodies reopen.Memory = ⊤
 
 -- A shelf was opened and follows, and was not promoted. Unless a call of its disks failed, nothing was lost on them, and nothing added.
 pub record IsUnpromoted {D : Type 0} (view : D → View) (told : Type 0) (before after : RackView) (shelf : ℕ) (why : Reopen) : Type 0 where
@@ -197,7 +197,7 @@ pub record IsUnpromoted {D : Type 0} (view : D → View) (told : Type 0) (before
   pub cannot : told → CannotPromote (bodies_after shelf (view taken).seen) why
   pub opens : told → OpensSafely false shelf (view taken) (view opened)
   pub safely : told → PromotesSafely shelf (view taken) (view opened) (view given)
-  pub keeps : told → why ≢ cause.Disk → KeepsRecords shelf [] (view taken) (view given)
+  pub keeps : told → why ≢ reopen.Disk → KeepsRecords shelf [] (view taken) (view given)
 
 -- Of so many shelves those in front of this one were promoted, or did not follow. Then the disks of this one were asked for, up to one of them or all,
 -- and no others: it was not opened, or not promoted, or there was no memory to tell of it.
@@ -211,7 +211,7 @@ pub record HaveComeTo {D : Type 0} (view : D → View) (rack : Racks) (count : �
 -- The shelf after those was not opened or not promoted, for this.
 pub record StopsAtShelf {D : Type 0} (view : D → View) (rack : Racks) (count : ℕ) (followed : List Bool) (why : Reopen) : Type 0 where
   pub come : HaveComeTo view rack count followed
-  pub failed : why ≡ cause.Disk → ShelfFailed rack (length followed)
+  pub failed : why ≡ reopen.Disk → ShelfFailed rack (length followed)
   pub stops : IsShut view (IsTrue rack.tells) false rack.before rack.after (length followed) why
       ⊎ IsUnpromoted view (IsTrue rack.tells) rack.before rack.after (length followed) why
 
@@ -239,7 +239,7 @@ abbrev pub PromotesOne : {D : Type 0} → (D → View) → Racks → (shelf : �
 PromotesOne view rack shelf (Ok followed) =
     AsksForOne shelf rack.before rack.after × IsPromoted view (IsTrue rack.tells) rack.before rack.after shelf followed
 PromotesOne view rack shelf (Err why) =
-    (why ≡ cause.Disk → ShelfFailed rack shelf)
+    (why ≡ reopen.Disk → ShelfFailed rack shelf)
     × (IsShut view (IsTrue rack.tells) false rack.before rack.after shelf why
     ⊎ IsUnpromoted view (IsTrue rack.tells) rack.before rack.after shelf why)
 

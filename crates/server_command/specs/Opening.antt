@@ -13,7 +13,7 @@ use Rattle.play_steps.specs.Played.{RoseBy}
 use Rattle.play_desk.specs.Asking.{AsksForFirst, AsksForNone, AsksUntil}
 use Rattle.play_desk.specs.Opening.{FailedFor, IsKept, reopen_of}
 use Rattle.play_steps.specs.declared.stage.Reopen.{Reopen}
-use Rattle.play_steps.specs.declared.stage.Reopen.TheVariants as cause
+use Rattle.play_steps.specs.declared.stage.Reopen.TheVariants as reopen
 use Rattle.play_desk.specs.declared.opening.OpenFault.{OpenFault}
 use Rattle.server_command.specs.Racks.{AreBare, AreHeld, FailsInOrder, damaged, other, full, first_unfit, unfit_left}
 use Rattle.server_command.specs.Serving.{AreOpened}
@@ -83,8 +83,8 @@ FailsAt count before after shelf = (shelf < count) × FailedFor shelf before aft
 
 -- why the disk of this shelf was not taken
 abbrev pub IsUntaken : (risen : ℕ → Type 0) → (shelf : ℕ) → Reopen → Type 0
-IsUntaken risen shelf cause.Disk = risen shelf
-IsUntaken risen shelf cause.Memory = ⊤
+IsUntaken risen shelf reopen.Disk = risen shelf
+IsUntaken risen shelf reopen.Memory = ⊤
 IsUntaken risen shelf _ = ⊥
 
 -- why disks were not taken
@@ -93,33 +93,33 @@ AreUntaken risen f = IsUntaken risen f.shelf f.why
 
 -- why this shelf was not opened, of those on disks that hold these
 abbrev pub IsRefused : (told : Type 0) → (risen : ℕ → Type 0) → List Named → (images : List (List ℕ)) → (shelf : ℕ) → Reopen → Type 0
-IsRefused told risen scripts images shelf cause.Disk = risen shelf
-IsRefused told risen scripts images shelf cause.NotEmpty = ⊥
-IsRefused told risen scripts images shelf (cause.Damaged place) =
+IsRefused told risen scripts images shelf reopen.Disk = risen shelf
+IsRefused told risen scripts images shelf reopen.NotEmpty = ⊥
+IsRefused told risen scripts images shelf (reopen.Damaged place) =
     told → first_unfit (unfit_left scripts) 0 images ≡ Some (shelf, damaged place)
-IsRefused told risen scripts images shelf (cause.Other place) =
+IsRefused told risen scripts images shelf (reopen.Other place) =
     told → first_unfit (unfit_left scripts) 0 images ≡ Some (shelf, other place)
-IsRefused told risen scripts images shelf (cause.Full length) =
+IsRefused told risen scripts images shelf (reopen.Full length) =
     told → first_unfit (unfit_left scripts) 0 images ≡ Some (shelf, full length)
-IsRefused told risen scripts images shelf cause.Memory = ⊤
+IsRefused told risen scripts images shelf reopen.Memory = ⊤
 
 -- In which order disks were asked for until this shelf was not opened: all were taken, in order, before one was opened. Unless memory ended, nothing
 -- was added to the records on the disks after it, nor on its own, but where a call of that failed.
 abbrev pub RefusesInOrder : List Named → (before after : RackView) → (count : ℕ) → (images : List (List ℕ)) → (shelf : ℕ) → Reopen → Type 0
-RefusesInOrder scripts before after count images shelf cause.Disk = FailsInOrder scripts before after count images shelf
-RefusesInOrder scripts before after count images shelf cause.Memory = ⊤
+RefusesInOrder scripts before after count images shelf reopen.Disk = FailsInOrder scripts before after count images shelf
+RefusesInOrder scripts before after count images shelf reopen.Memory = ⊤
 RefusesInOrder scripts before after count images shelf why =
     AsksForFirst count before after × (length images ≡ count) × AreBare before after images shelf
 
 -- the disks of the shelves up to this one were asked for, which was not taken; or none was, for want of memory
 abbrev pub AsksAsTaken : (before after : RackView) → (count shelf : ℕ) → Reopen → Type 0
-AsksAsTaken before after count shelf why = AsksUntil count shelf before after ⊎ ((why ≡ cause.Memory) × AsksForNone before after)
+AsksAsTaken before after count shelf why = AsksUntil count shelf before after ⊎ ((why ≡ reopen.Memory) × AsksForNone before after)
 
 -- the disks that were asked for until a shelf was not opened for this: all, each once and in order; or up to its own, where that was not
 -- taken; or none, for want of memory
 abbrev pub AsksByCause : (before after : RackView) → (count shelf : ℕ) → Reopen → Type 0
-AsksByCause before after count shelf cause.Disk = AsksForFirst count before after ⊎ AsksUntil count shelf before after
-AsksByCause before after count shelf cause.Memory =
+AsksByCause before after count shelf reopen.Disk = AsksForFirst count before after ⊎ AsksUntil count shelf before after
+AsksByCause before after count shelf reopen.Memory =
     AsksForNone before after ⊎ (AsksForFirst count before after ⊎ AsksUntil count shelf before after)
 AsksByCause before after count shelf why = AsksForFirst count before after
 
@@ -148,7 +148,7 @@ pub record RefusesOn (told : Type 0) (scripts : List Named) (count : ℕ) (befor
   pub held : told → AreHeld (shelves_of before).holds 0 images
   pub refused : IsRefused told (FailsAt count before after) scripts images f.shelf f.why
   pub in_order : told → RefusesInOrder scripts before after count images f.shelf f.why
-  pub kept : told → (k : ℕ) (read left : List ℕ) → slice_get images k ≡ Some read → (shelves_of after).holds k left → (f.why ≡ cause.Disk → k ≢ f.shelf)
+  pub kept : told → (k : ℕ) (read left : List ℕ) → slice_get images k ≡ Some read → (shelves_of after).holds k left → (f.why ≡ reopen.Disk → k ≢ f.shelf)
       → IsKept scripts k ((shelves_of before).holds k) read left
   pub unread : told → LeavesFrom (length images) before after
   pub home : KeepsHome before after

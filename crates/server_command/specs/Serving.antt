@@ -33,7 +33,7 @@ use Rattle.site_serving.specs.Serving.{IsUnserved, Leaves, Pasts, Views, opened_
 use Rattle.server_command.specs.declared.program.Status.{Status}
 use Rattle.server_command.specs.declared.program.Status.TheVariants as status
 use Rattle.play_steps.specs.declared.stage.Reopen.{Reopen}
-use Rattle.play_steps.specs.declared.stage.Reopen.TheVariants as cause
+use Rattle.play_steps.specs.declared.stage.Reopen.TheVariants as reopen
 use Rattle.server_command.specs.declared.serving.ServeFault.{ServeFault}
 use Rattle.server_command.specs.declared.serving.ServeFault.TheVariants as fault
 use Rattle.server_command.specs.Output.{memory_line, Chances, Output, Sinks, PrintsTo, Answers, BreaksOff, rules_for, served}
@@ -225,15 +225,15 @@ KeepsAllBut rack scripts images =
 
 -- why this shelf was not opened
 abbrev pub ShutsBy : Racks → Service → List Named → List (List ℕ) → (shelf : ℕ) → Reopen → Type 0
-ShutsBy rack s scripts images shelf cause.Disk =
+ShutsBy rack s scripts images shelf reopen.Disk =
     (shelf < s.options.shelves) × ShelfFailed rack shelf
     × (IsTrue rack.tells → AreKeptBut rack scripts images shelf)
     × (IsTrue rack.tells → FailsInOrder scripts rack.before rack.after s.options.shelves images shelf)
-ShutsBy rack s scripts images shelf cause.NotEmpty = ⊥
-ShutsBy rack s scripts images shelf (cause.Damaged place) = Shuts rack s scripts images shelf (damaged place)
-ShutsBy rack s scripts images shelf (cause.Other place) = Shuts rack s scripts images shelf (other place)
-ShutsBy rack s scripts images shelf (cause.Full length) = Shuts rack s scripts images shelf (full length)
-ShutsBy rack s scripts images shelf cause.Memory = KeepsAll rack scripts images
+ShutsBy rack s scripts images shelf reopen.NotEmpty = ⊥
+ShutsBy rack s scripts images shelf (reopen.Damaged place) = Shuts rack s scripts images shelf (damaged place)
+ShutsBy rack s scripts images shelf (reopen.Other place) = Shuts rack s scripts images shelf (other place)
+ShutsBy rack s scripts images shelf (reopen.Full length) = Shuts rack s scripts images shelf (full length)
+ShutsBy rack s scripts images shelf reopen.Memory = KeepsAll rack scripts images
 
 -- what was counted, or why nothing was, as the command tells it
 abbrev pub told_as : Result Tally ServingFault → Result Tally ServeFault

@@ -3,7 +3,7 @@ use Rattle.std.specs.Prelude.{◌≡◌, ℕ, List, Option, Some, None, Result, 
 use Rattle.request_workers.specs.declared.tally.Tally.{Tally}
 use Rattle.request_workers.specs.Tallies.{count_of}
 use Rattle.play_steps.specs.declared.stage.Reopen.{Reopen}
-use Rattle.play_steps.specs.declared.stage.Reopen.TheVariants as cause
+use Rattle.play_steps.specs.declared.stage.Reopen.TheVariants as reopen
 use Rattle.server_command.specs.declared.program.Status.{Status}
 use Rattle.server_command.specs.declared.program.Status.TheVariants as status
 use Rattle.server_command.specs.declared.serving.ServeFault.{ServeFault}
@@ -15,21 +15,21 @@ use Rattle.server_command.specs.Racks.{not_empty, damaged, other, full, disk_lin
 
 -- the line that names a shelf which was not opened for this cause; want of memory has a line of its own
 abbrev pub unopened_line : (shelf : ℕ) → Reopen → Option (List ℕ)
-unopened_line shelf cause.Disk = Some (disk_line shelf)
-unopened_line shelf cause.NotEmpty = Some (unfit_line shelf not_empty)
-unopened_line shelf (cause.Damaged place) = Some (unfit_line shelf (damaged place))
-unopened_line shelf (cause.Other place) = Some (unfit_line shelf (other place))
-unopened_line shelf (cause.Full length) = Some (unfit_line shelf (full length))
-unopened_line shelf cause.Memory = None
+unopened_line shelf reopen.Disk = Some (disk_line shelf)
+unopened_line shelf reopen.NotEmpty = Some (unfit_line shelf not_empty)
+unopened_line shelf (reopen.Damaged place) = Some (unfit_line shelf (damaged place))
+unopened_line shelf (reopen.Other place) = Some (unfit_line shelf (other place))
+unopened_line shelf (reopen.Full length) = Some (unfit_line shelf (full length))
+unopened_line shelf reopen.Memory = None
 
 -- the status of a shelf that was not opened for this cause
 abbrev pub unopened_status : Reopen → Status
-unopened_status cause.Disk = status.Disk
-unopened_status cause.NotEmpty = status.Journal
-unopened_status (cause.Damaged place) = status.Journal
-unopened_status (cause.Other place) = status.Journal
-unopened_status (cause.Full length) = status.Journal
-unopened_status cause.Memory = status.Memory
+unopened_status reopen.Disk = status.Disk
+unopened_status reopen.NotEmpty = status.Journal
+unopened_status (reopen.Damaged place) = status.Journal
+unopened_status (reopen.Other place) = status.Journal
+unopened_status (reopen.Full length) = status.Journal
+unopened_status reopen.Memory = status.Memory
 
 -- the line that names this shelf, which was not opened for this cause, was told, or there was no memory for it
 pub data TellsUnopened (shelf : ℕ) (why : Reopen) (s : Status) (out : Sinks) : Type 0 where

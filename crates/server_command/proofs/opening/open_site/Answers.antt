@@ -8,7 +8,7 @@ use Rattle.disk_trio.specs.declared.trio.Disks.{Disks}
 use Rattle.trio_rack.specs.Trios.{shelves_of}
 use Rattle.trio_rack.proofs.Each.{shelves_as_disks}
 use Rattle.play_desk.specs.Opening.{FailedFor, reopen_of}
-use Rattle.play_steps.specs.declared.stage.Reopen.TheVariants as cause
+use Rattle.play_steps.specs.declared.stage.Reopen.TheVariants as reopen
 use Rattle.play_desk.specs.declared.opening.OpenFault.{OpenFault}
 use Rattle.site_serving.specs.Shelves.{IsBegunAt}
 use Rattle.server_command.specs.Opening.{AreOut, FailsAt, HasTaken, IsRefused, RefusesInOrder, TakesBack, seen_on, unopened_by}
@@ -100,7 +100,7 @@ returns-in-Err-clause-refused g c =
       kept = λ t k read left read_is left_is but. kept_at {D = Disks g.row.D.Denot g.D.Disk} trio_view g.D.Disk.tells scripts told disks c.args.sources.items c.in-Err.field-0 (shelves_of before).holds (shelves_of last).holds
           (λ u. (both_tell _ _ u).1) (λ u d. reads_left g.D.Disk g.met.D.Disk.reads_image d (both_tell _ _ u).1) not (λ u. c.in_ok-disks.ensures.from (both_tell _ _ u).0)
           (λ u j e e_is. c.give_all.ensures.given.held u (subst (AreOut middle) (sym many) taken.out) j e e_is)
-          t k read left read_is left_is (subst (λ (f : OpenFault). f.why ≡ cause.Disk → k ≢ f.shelf) (sym why) but);
+          t k read left read_is left_is (subst (λ (f : OpenFault). f.why ≡ reopen.Disk → k ≢ f.shelf) (sym why) but);
       unread = λ t n le image h. taken.rest n (omega (arith, size, taken.many, le)) image (c.give_all.ensures.given.others n (omega (arith, many, size, taken.many, le)) image h);
       home = all_home told before middle last c.args.options.now.shelves (seen_on {D = Disks g.row.D.Denot g.D.Disk} trio_view disks) taken (subst (TakesBack middle last 0) many c.give_all.ensures.back);
       asked = taken_asked before last c.args.options.now.shelves c.why_unopened.result.shelf c.why_unopened.result.why asked;

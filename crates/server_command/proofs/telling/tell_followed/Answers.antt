@@ -1,6 +1,6 @@
 use Rattle.std.proofs.Common.{refl, sym, subst, codes}
 use Rattle.page_follower.specs.declared.fault.FollowEnd.TheVariants as end
-use Rattle.play_steps.specs.declared.stage.Reopen.TheVariants as cause
+use Rattle.play_steps.specs.declared.stage.Reopen.TheVariants as reopen
 use Rattle.server_command.specs.Feeding.{TellsFollowed, feed_line, told}
 use Rattle.server_command.specs.Output.{sinks_of}
 use Rattle.server_command.proofs.Feeds.{feed_told, held_told, unopened_told}
@@ -40,13 +40,13 @@ pub returns-in-Full-clause-tells : goal.returns-in-Full-clause-tells
 returns-in-Full-clause-tells g c =
     let old = g.O.Sink.view c.args.output.now in
     let new = g.O.Sink.view c.tell_unopened.new.output in
-    subst (λ e. TellsFollowed c.args.shelf e c.tell_unopened.result (sinks_of old new)) (sym c.in-Full.is) (unopened_told c.args.shelf (end.Full c.in-Full.len) (cause.Full c.in-Full.len) c.tell_unopened.result (sinks_of old new) refl refl c.tell_unopened.ensures.tells)
+    subst (λ e. TellsFollowed c.args.shelf e c.tell_unopened.result (sinks_of old new)) (sym c.in-Full.is) (unopened_told c.args.shelf (end.Full c.in-Full.len) (reopen.Full c.in-Full.len) c.tell_unopened.result (sinks_of old new) refl refl c.tell_unopened.ensures.tells)
 
 pub returns-in-DiskFault-clause-tells : goal.returns-in-DiskFault-clause-tells
 returns-in-DiskFault-clause-tells g c =
     let old = g.O.Sink.view c.args.output.now in
     let new = g.O.Sink.view c.tell_unopened-in-DiskFault.new.output in
-    subst (λ e. TellsFollowed c.args.shelf e c.tell_unopened-in-DiskFault.result (sinks_of old new)) (sym c.in-DiskFault.is) (unopened_told c.args.shelf end.DiskFault cause.Disk c.tell_unopened-in-DiskFault.result (sinks_of old new) refl refl c.tell_unopened-in-DiskFault.ensures.tells)
+    subst (λ e. TellsFollowed c.args.shelf e c.tell_unopened-in-DiskFault.result (sinks_of old new)) (sym c.in-DiskFault.is) (unopened_told c.args.shelf end.DiskFault reopen.Disk c.tell_unopened-in-DiskFault.result (sinks_of old new) refl refl c.tell_unopened-in-DiskFault.ensures.tells)
 
 pub returns-in-Memory-clause-tells : goal.returns-in-Memory-clause-tells
 returns-in-Memory-clause-tells g c =
