@@ -1,5 +1,5 @@
 -- What is told of shelves that are opened, crash and are closed, where the rack and its disks tell what they hold.
-use Rattle.std.specs.Prelude.{◌≡◌, ◌<◌, ◌+◌, [], ℕ, Bool, IsTrue, List, Result, IfErr, IfOk, OnErr}
+use Rattle.std.specs.Prelude.{◌≡◌, ◌<◌, ◌+◌, [], ℕ, Bool, IsTrue, List, Result, IfErr, IfOk, OnErr, OnOk}
 use Rattle.std.specs.Global.{Vec}
 use Rattle.web_outside.specs.declared.nonces.Counting.{Counting}
 use Rattle.web_disk.specs.View.{View, RackView, AreAmong}
