@@ -12,5 +12,5 @@ abbrev pub Runs : {X Y : Type 0} → (X → Y) → Result X Halt → (old new : 
 Runs view r old new action = Gives view r new.progress (action old.env (inside_of old.progress) (state_of old.progress))
 
 -- A call of the engine told a stop of this action whatever memory there is, with the variables and inside the transactions that it had.
-abbrev pub TellsStopOf : {X Y : Type 0} → Result X Halt → (old : Engine) → (List Val → List TxName → spec.Run Y) → Type 0
+abbrev pub TellsStopOf : {X : Type 0} → Result X Halt → (old : Engine) → (List Val → List TxName → spec.Run Val) → Type 0
 TellsStopOf r old action = TellsStop r (action old.env (inside_of old.progress) (state_of old.progress))
