@@ -11,6 +11,9 @@ use crate::request::Request;
 use std::alloc::{AllocError, AllocFailed, Global};
 use web_outside::{Failed, Source};
 
+// How many bytes are asked for at a time: most requests are shorter.
+const PIECE: usize = 1_024;
+
 /// Why a request was not read.
 #[derive(Clone, Copy, Debug, PartialEq, Eq)]
 pub enum ReadStop {
@@ -63,7 +66,7 @@ fn read_more<S: Source>(source: &mut S, bytes: &mut Vec<u8>) -> Result<usize, Re
         Rose (S.view source.old).faults (S.view source.new).faults }
     ensures later { (S.view source.old).faults ≤ (S.view source.new).faults }
 {
-    let mut piece = [0u8; 4096];
+    let mut piece = [0u8; PIECE];
     let count = source.read(&mut piece)?;
     bytes.extend_from_slice(&piece[..count])?;
     Ok(count)
