@@ -16,13 +16,34 @@ pub enum Stage {
     Body,
 }
 
+// The one field that gives a request a body.
+const LENGTH: &[u8] = b"Content-Length";
+
+// Whether the line begins with the name of that field.
+fn may_tell_length(line: &[u8]) -> bool {
+    match line.get(..LENGTH.len()) {
+        Some(name) => name.eq_ignore_ascii_case(LENGTH),
+        None => false,
+    }
+}
+
+// How many bytes the body has after this head; none where the head is refused. Most heads have no line that tells it, and
+// are not read for it.
+fn body_after(head: &[u8]) -> usize {
+    for line in head.split(|byte| *byte == b'\n') {
+        if may_tell_length(line) {
+            return body_length(head).unwrap_or(0) as usize;
+        }
+    }
+    0
+}
+
 // How many bytes the body has after a head of so many bytes; none where the head is refused.
 fn body_behind(bytes: &[u8], end: usize) -> usize {
-    let length = match bytes.get(..end) {
-        Some(head) => body_length(head),
-        None => Ok(0),
-    };
-    length.unwrap_or(0) as usize
+    match bytes.get(..end) {
+        Some(head) => body_after(head),
+        None => 0,
+    }
 }
 
 /// Follows the bytes of a link through its requests, by the rules that the requests are read by.
