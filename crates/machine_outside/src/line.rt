@@ -241,12 +241,14 @@ impl<C: Clock + Net + Drop> Told<C> {
         Told { line, begun: None }
     }
 
-    // When the reply began, which is now where it did not before.
+    // When the reply began, which is now where it did not before. Fails where its time is over.
     fn beginning(&mut self) -> io::Result<Instant> {
-        let begun = match self.begun {
-            Some(begun) => begun,
-            None => self.line.now()?,
-        };
+        let line = &*self.line;
+        if let Some(begun) = self.begun {
+            line.check(begun, line.patience.reply)?;
+            return Ok(begun);
+        }
+        let begun = line.now()?;
         self.begun = Some(begun);
         Ok(begun)
     }
@@ -257,11 +259,11 @@ impl<C: Clock + Net + Drop> Write for Told<C> {
         let begun = self.beginning()?;
         let line = &*self.line;
         for _ in 0..u64::MAX {
-            line.check(begun, line.patience.reply)?;
             let outcome = (&mut &line.socket).write(piece);
             if !found_nothing(&outcome) {
                 return outcome;
             }
+            line.check(begun, line.patience.reply)?;
         }
         Err(io::Error::from(ErrorKind::TimedOut))
     }
