@@ -22,12 +22,15 @@ use wire_bytes::Writer;
 // The length that stands for each above it.
 const MOST: u64 = 1 << 63;
 
+// Room that most records need no more of.
+const ROOM: usize = 256;
+
 /// The body of a record.
 pub fn encode(alloc: Global, record: &Recorded<'_>) -> Result<Bytes, AllocError>
     requires { IsInGrammar (recorded_of record.now) }
     ensures { IfOk result (λ body. body ≡ body_of (recorded_of record.now)) }
 {
-    let mut writer = Writer::new(alloc);
+    let mut writer = Writer::with_capacity(alloc, ROOM)?;
     write_record(&mut writer, record)?;
     Ok(writer.finish())
 }

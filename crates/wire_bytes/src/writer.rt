@@ -1,4 +1,4 @@
-ghost use Rattle.std.specs.Prelude.{◌≡◌, ◌<◌, ◌++◌, ◌^◌, [], ◌∷◌, length, OnOk, OnErr};
+ghost use Rattle.std.specs.Prelude.{◌≡◌, ◌<◌, ◌++◌, ◌^◌, [], ◌∷◌, length, IfOk, OnOk, OnErr};
 ghost use Rattle.wire_bytes.specs.Spelling.{u32_bytes, u64_bytes, byte_string};
 
 use crate::{u32_to_wire, u64_to_wire};
@@ -28,6 +28,15 @@ impl Writer {
         Writer {
             bytes: Vec::new(alloc),
         }
+    }
+
+    /// Nothing is written yet. There is room for so many bytes.
+    pub fn with_capacity(alloc: Global, capacity: usize) -> Result<Writer, AllocError>
+        ensures { IfOk result (λ writer. writer ≡ []) }
+    {
+        Ok(Writer {
+            bytes: Vec::with_capacity(alloc, capacity)?,
+        })
     }
 
     /// Writes a byte.
