@@ -1,5 +1,5 @@
 -- Sixteen hexadecimal digits: what is read is what is written.
-use Rattle.std.proofs.Common.{◌≡◌, get_or, min, ℕ, zero, suc, ◌+◌, ◌*◌, ◌-◌, ◌/◌, ◌%◌, ◌^◌, ◌<◌, ◌≤◌, ◌&&◌, ◌==◌, Bool, true, false, List, [], ◌∷◌, ◌++◌, length, Some, refl, sym, ◌∙◌, ap, arith, append-nil, length-append, pow-suc}
+use Rattle.std.proofs.Common.{◌≡◌, min, ℕ, zero, suc, ◌+◌, ◌*◌, ◌-◌, ◌/◌, ◌%◌, ◌^◌, ◌<◌, ◌≤◌, ◌&&◌, ◌==◌, Bool, true, false, List, [], ◌∷◌, ◌++◌, length, Some, refl, sym, ◌∙◌, ap, arith, append-nil, length-append, pow-suc}
 use Rattle.std.specs.Prelude.{replicate}
 use Rattle.std.specs.List.{list_all}
 use Rattle.std.specs.Char.{digit_value}
@@ -117,11 +117,6 @@ decimal_digit c h low = grind (arith, nat_tests)
 -- a digit that is a letter
 pub letter_digit : (c : ℕ) → is_hex_digit c ≡ true → 57 < c → digit_value c ≡ (c - 97) + 10
 letter_digit c h high = grind (arith, nat_tests)
-
-pub each_hex_digit : (ds : List ℕ) (i : ℕ) → i < length ds → list_all is_hex_digit ds ≡ true → is_hex_digit (get_or ds i 0) ≡ true
-each_hex_digit [] i h all = absurd (omega arith)
-each_hex_digit (d ∷ ds) zero h all = (and_parts (is_hex_digit d) (list_all is_hex_digit ds) all).0
-each_hex_digit (d ∷ ds) (suc i) h all = each_hex_digit ds i (omega arith) (and_parts (is_hex_digit d) (list_all is_hex_digit ds) all).1
 
 -- what is read is the number of the digits, which fits
 pub hex_read : (ds : List ℕ) → length ds ≡ 16 → list_all is_hex_digit ds ≡ true → Some (min (digits_value 16 ds) (2 ^ 64 - 1)) ≡ hex_number ds

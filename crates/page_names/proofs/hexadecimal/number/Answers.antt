@@ -1,6 +1,5 @@
 use Rattle.std.proofs.Common.{arith}
 use Rattle.std.proofs.lemmas.Int.Digits.{digits_value_more}
-use Rattle.page_names.proofs.Hex.{each_hex_digit}
 use Rattle.page_names.proofs.hexadecimal.number.Goals as goal
 
 pub loop-digit-preserved : goal.loop-digit-preserved
