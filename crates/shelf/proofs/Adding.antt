@@ -5,9 +5,8 @@ use Rattle.page_journal.specs.Records.{newest, stored}
 use Rattle.page_journal.specs.Holding.{MayHold}
 use Rattle.page_journal.specs.Settled.{IsSettled, view_of, bodies_in}
 use Rattle.page_journal.specs.declared.journal.Journal.{Journal}
-use Rattle.page_journal.proofs.Mending.{leaves_then, leaves_map}
+use Rattle.page_journal.proofs.Mending.{leaves_then}
 use Rattle.replay_spec.specs.Admission.{◌>>=◌}
-use Rattle.page_journal.proofs.Scans.{quiet_none}
 use Rattle.shelf.specs.declared.follower.Follower.{Follower}
 use Rattle.shelf.specs.declared.shelf.Shelf.{Shelf}
 use Rattle.shelf.specs.Following.{CanBeFed}
@@ -34,13 +33,9 @@ module _ {D : Type 0} (view : D → View) (j : Journal D) (body : List ℕ) (set
   held_now : (image : List ℕ) → (view_of view j).images image → Held image
   held_now image left = inl (newest_images view j settled now_is image left)
 
-  -- no call was made
-  pub none_adds : LeavesOnly (view_of view j) (view_of view j) Held
-  none_adds = leaves_map (view_of view j) (view_of view j) (view_of view j).images Held held_now (quiet_none (view_of view j) only_now).moments
-
   module _ (mid : Journal D) (less : NoNewImage (view_of view j) (view_of view mid)) (time : Elapses (view_of view j) (view_of view mid)) where
     -- room was made
-    pub room_adds : LeavesOnly (view_of view j) (view_of view mid) Held
+    room_adds : LeavesOnly (view_of view j) (view_of view mid) Held
     room_adds = nothing_then (view_of view j) (view_of view mid) Held only_now less time held_now
 
     -- and then the record was added, or not

@@ -152,7 +152,7 @@ abbrev pub LeavesAsBefore : {D N : Type 0} → (D → View) → (old new : Shelf
 LeavesAsBefore view old new = LeavesOnly (view_of view old.journal) (view_of view new.journal) (view_of view old.journal).images
 
 -- What a crash at any moment leaves while a shelf is fed a body. Where the disk was asked to write it, this is the records that the journal had, with
--- the body behind them or without it, if the disk tells its bytes. Where the body is refused, it is what a crash might have left before, on any disk.
+-- the body after them or without it, if the disk tells its bytes. Where the body is refused, it is what a crash might have left before, on any disk.
 abbrev pub AdoptsThroughout : {D N : Type 0} → (D → View) → Bool → (old new : Shelf D N) → (body : List ℕ) → Result (Unit {0}) AdoptFault → Type 0
 AdoptsThroughout view tells old new body (Ok x) = IsTrue tells → AddsThroughout view old new body
 AdoptsThroughout view tells old new body (Err (fault.DiskFault count)) = IsTrue tells → AddsThroughout view old new body
@@ -184,6 +184,15 @@ Promotes view tells old new (Err (reply.JournalFull n)) = IsTooLongPromoted view
 Promotes view tells old new (Err (reply.DiskFault count)) = HasFallen view old new count
 Promotes view tells old new (Err reply.Memory) = StaysFed view old new
 Promotes view tells old new (Err _) = ⊥
+
+-- What a crash at any moment leaves while a shelf is promoted. Where the disk was asked to write the body that tells this, it is the records that the
+-- journal had, with that body after them or without it, if the disk tells its bytes. Where it was not asked, it is what a crash might have left before,
+-- on any disk.
+abbrev pub PromotesThroughout : {D N : Type 0} → (D → View) → Bool → (old new : Shelf D N) → Result Bool Reply → Type 0
+PromotesThroughout view tells old new (Ok true) = IsTrue tells → AddsThroughout view old new (body_of promotes)
+PromotesThroughout view tells old new (Ok false) = LeavesAsBefore view old new
+PromotesThroughout view tells old new (Err (reply.DiskFault count)) = IsTrue tells → AddsThroughout view old new (body_of promotes)
+PromotesThroughout view tells old new (Err _) = LeavesAsBefore view old new
 
 -- ---- what is kept of a shelf that follows, with one record more
 

@@ -1,5 +1,4 @@
-ghost use Rattle.std.specs.Prelude.{◌≡◌, IsTrue};
-ghost use Rattle.journal_records.specs.Records.{promotes, body_of};
+ghost use Rattle.std.specs.Prelude.{◌≡◌};
 
 use crate::recording::added;
 use crate::shelf::Shelf;
@@ -12,20 +11,19 @@ use web_disk::Disk;
 
 impl<D: Disk, N> Shelf<D, N> {
     ghost use Rattle.shelf.specs.Events.{CountsOn};
-    ghost use Rattle.shelf.specs.Following.{IsInOrderIfFed, Promotes, AddsThroughout};
+    ghost use Rattle.shelf.specs.Following.{IsInOrderIfFed, Promotes, PromotesThroughout};
 
     /// Makes a shelf that follows one like any other, once this is on the disk: its book is the one of the records that it was fed. A shelf that
     /// does not follow is left alone, which is told by `false`.
     ///
     /// That the disk failed before is told then, a journal that has no room for another record, and that the disk fails. All memory is taken
-    /// before the first call of the disk: want of it changes nothing. Where the disk fails, a crash leaves a shelf that follows or one that does
-    /// not, and this one is fed no more until it is opened again.
+    /// before the first call of the disk: want of it changes nothing. A promotion that is refused is on no disk at any moment. Where the disk
+    /// fails, a crash leaves a shelf that follows or one that does not, and this one is fed no more until it is opened again.
     pub fn promote(&mut self, alloc: Global) -> Result<bool, Reply>
         requires in_order { IsInOrderIfFed D.view D.tells self.old }
         ensures promotes { Promotes D.view D.tells self.old self.new result }
         ensures in_order { IsInOrderIfFed D.view D.tells self.new }
-        ensures any_moment { IsTrue D.tells
-            → AddsThroughout D.view self.old self.new (body_of promotes) }
+        ensures any_moment { PromotesThroughout D.view D.tells self.old self.new result }
         ensures later { CountsOn D.view self.old self.new }
         ensures nonces { self.new.nonces ≡ self.old.nonces }
         ensures rules { self.new.rules ≡ self.old.rules }

@@ -3,22 +3,21 @@ use Rattle.web_disk.specs.View.{LeavesOnly}
 use Rattle.value_bytes.specs.Laws.{AreBytes}
 use Rattle.page_journal.specs.Records.{newest, stored}
 use Rattle.page_journal.specs.Holding.{MayHold}
-use Rattle.page_journal.specs.Settled.{bodies_in, length_of}
+use Rattle.page_journal.specs.Settled.{bodies_in, length_of, view_of}
+use Rattle.page_journal.proofs.Scans.{quiet_none}
 use Rattle.journal_records.specs.Records.{promotes, body_of}
 use Rattle.file_copies.specs.OfFileNotes.declared.note.Note.{Note}
 use Rattle.file_copies.specs.OfFileNotes.Notes.{is_told}
 use Rattle.shelf.specs.declared.follower.Follower.{Follower}
 use Rattle.shelf.specs.Views.{IsInOrder}
-use Rattle.shelf.proofs.Adding.{none_adds, room_adds, then_adds, can_be_fed, settled_fed}
+use Rattle.shelf.proofs.Adding.{as_before, then_adds, can_be_fed, settled_fed}
 use Rattle.shelf.proofs.Promoting.{promoted_shelf}
 use Rattle.shelf.proofs.Still.{order_still}
 use Rattle.shelf.proofs.shelf.Shelf.promote.Goals as goal
 
 pub returns-then-len-gt-MAX_LEN-clause-any_moment : goal.returns-then-len-gt-MAX_LEN-clause-any_moment
-returns-then-len-gt-MAX_LEN-clause-any_moment g c = λ told can.
-    let s = c.args.self.now in
-    let order = c.requires.in_order can in
-    none_adds g.D.Disk.view s.journal (body_of promotes) (settled_fed s c.in-Some.follower c.in-Some.is g.D.Disk.view g.D.Disk.tells order told) order.knows.newest_is (g.met.D.Disk.only_now s.journal.disk)
+returns-then-len-gt-MAX_LEN-clause-any_moment g c =
+    let s = c.args.self.now in (quiet_none (view_of g.D.Disk.view s.journal) (g.met.D.Disk.only_now s.journal.disk)).moments
 
 -- there was no memory for a note
 
@@ -30,10 +29,8 @@ returns-then-is_err-clause-in_order g c = λ can.
     (order_still g.D.Disk.view g.D.Disk.tells s s.journal c.room.new.self (record { settled = λ told settled. settled; format = refl; seen = refl; images = λ image left. left }) refl c.room.ensures.same order order.sound refl c.room.ensures.noted)
 
 pub returns-then-is_err-clause-any_moment : goal.returns-then-is_err-clause-any_moment
-returns-then-is_err-clause-any_moment g c = λ told can.
-    let s = c.args.self.now in
-    let order = c.requires.in_order can in
-    none_adds g.D.Disk.view s.journal (body_of promotes) (settled_fed s c.in-Some.follower c.in-Some.is g.D.Disk.view g.D.Disk.tells order told) order.knows.newest_is (g.met.D.Disk.only_now s.journal.disk)
+returns-then-is_err-clause-any_moment g c =
+    let s = c.args.self.now in (quiet_none (view_of g.D.Disk.view s.journal) (g.met.D.Disk.only_now s.journal.disk)).moments
 
 -- nor for the record
 
@@ -46,11 +43,9 @@ returns-then-is_err-2-clause-in_order g c = λ can.
     (order_still g.D.Disk.view g.D.Disk.tells s c.room-2.new.self c.room.new.self (record { settled = λ told settled. done.settled told; format = done.format; seen = done.seen; images = done.images }) done.len c.room.ensures.same order done.sound done.whole c.room.ensures.noted)
 
 pub returns-then-is_err-2-clause-any_moment : goal.returns-then-is_err-2-clause-any_moment
-returns-then-is_err-2-clause-any_moment g c = λ told can.
+returns-then-is_err-2-clause-any_moment g c =
     let s = c.args.self.now in
-    let order = c.requires.in_order can in
-    room_adds g.D.Disk.view s.journal (body_of promotes) (settled_fed s c.in-Some.follower c.in-Some.is g.D.Disk.view g.D.Disk.tells order told) order.knows.newest_is (g.met.D.Disk.only_now s.journal.disk)
-    c.room-2.new.self c.room-2.ensures.images c.room-2.ensures.time
+    as_before (view_of g.D.Disk.view s.journal) (view_of g.D.Disk.view c.room-2.new.self) (g.met.D.Disk.only_now s.journal.disk) c.room-2.ensures.images c.room-2.ensures.time
 
 -- it was added
 
