@@ -92,7 +92,7 @@ gained view tells before after body told adopts order run =
     }
 
 -- a disk that holds these records was left alone
-left_alone : {D : Type 0} (view : D → View) (old new : Journal D) → IsSettled view old → old.format ≡ newest → NoNewImage (view old.disk) (view new.disk)
+pub left_alone : {D : Type 0} (view : D → View) (old new : Journal D) → IsSettled view old → old.format ≡ newest → NoNewImage (view old.disk) (view new.disk)
     → LeavesOnly (view old.disk) (view new.disk) (view old.disk).images → HasRested (view old.disk) (view new.disk) (bodies_in view old)
 left_alone view old new here now images moments =
     let held : HoldsOnly (view old.disk) (bodies_in view old) =

@@ -8,15 +8,18 @@ use Rattle.web_outside.specs.Causes.{Rose}
 use Rattle.web_outside.specs.Pieces.{AppendsPart}
 use Rattle.web_outside.specs.declared.nonces.Counting.{Counting}
 use Rattle.web_outside.proofs.Writes.{appends_kept, appends_none, appends_then}
-use Rattle.web_disk.specs.View.{View, RackView, AreAmong, LeavesOnly}
+use Rattle.web_disk.specs.View.{View, RackView, AreAmong, LeavesOnly, NoNewImage}
 use Rattle.disk_trio.proofs.Views.{rose_later}
 use Rattle.trio_rack.specs.Trios.{KeepsHome, shelves_of}
 use Rattle.trio_rack.proofs.Homes.{disks_home, shelves_home}
 use Rattle.page_follower.specs.OfShelf.JournalRecords.Records.{body_of, promotes}
 use Rattle.page_journal.specs.Records.{at_rest, newest}
-use Rattle.page_journal.specs.Holding.{MayHold}
+use Rattle.page_journal.specs.Holding.{IsClosed, MayHold}
 use Rattle.page_journal.specs.Settled.{IsSettled, bodies_in}
-use Rattle.page_follower.specs.OfShelf.Following.{AddsThroughout, CanBeFed, IsOpen, Promotes, fallen_in}
+use Rattle.page_journal.proofs.Mending.{leaves_map}
+use Rattle.page_follower.proofs.Adoptions.{left_alone}
+use Rattle.page_follower.specs.Moments.{HasRested}
+use Rattle.page_follower.specs.OfShelf.Following.{AddsThroughout, CanBeFed, IsOpen, LeavesAsBefore, Promotes, PromotesThroughout, fallen_in}
 use Rattle.page_follower.specs.OfShelf.Following as following
 use Rattle.page_follower.specs.OfShelf.Opening.{HoldsAtRest, KeepsRecords, bodies_after}
 use Rattle.replay_spec.specs.Admission.{◌>>=◌}
@@ -33,7 +36,7 @@ use Rattle.server_command.specs.declared.program.Status.{Status}
 use Rattle.server_command.specs.declared.program.Status.TheVariants as status
 use Rattle.server_command.specs.Bare.{AreLent, AsksOne, GivesBack, HasOpened, IsShut, OpensSafely, StaysShut, refused, untaken}
 use Rattle.server_command.specs.Command.{IsDoneUnlessFault}
-use Rattle.server_command.specs.Feeding.{ArePromoted, CannotPromote, HaveComeTo, HavePromoted, IsPromoted, IsUnpromoted, LeavesPromotes, PromotesOne, StopsAtShelf, TellsBehind, TellsPromoted, all_told, cut_short, not_told, promoted_line, promoted_text, stopped, told_behind, unpromoted_for, untold_behind}
+use Rattle.server_command.specs.Feeding.{ArePromoted, CannotPromote, HaveComeTo, HavePromoted, IsPromoted, IsUnpromoted, LeavesPromotes, PromotesOne, PromotesSafely, StopsAtShelf, TellsBehind, TellsPromoted, all_told, cut_short, not_told, promoted_line, promoted_text, stopped, told_behind, unpromoted_for, untold_behind}
 use Rattle.server_command.specs.Output.{memory_line, sinks}
 use Rattle.server_command.specs.Racks.{AreBack, Racks, ShelfFailed, racks_of}
 use Rattle.server_command.specs.Telling.{TellsUnopened}
@@ -96,78 +99,101 @@ module _ {D : Type 0} (view : D → View) (tells told : Bool) (before mid after 
       shelf_failed view (IsTrue told) told before mid after shelf new.journal.disk (view h.taken).faults h.fresh h.takes h.rack_later g
       (let none = h.fresh in omega (arith, none, rose))
 
-  module _ (moments : IsTrue tells → AddsThroughout view s new (body_of promotes)) where
-    unpromoted : (why : Reopen) → CanBeFed s → (IsTrue told → CannotPromote (bodies_after shelf (view h.taken).seen) why)
-        → (IsTrue told → why ≢ reopen.Disk → KeepsRecords shelf [] (view h.taken) (view new.journal.disk))
-        → IsUnpromoted view (IsTrue told) before after shelf why
-    unpromoted why can cannot keeps = record {
+  -- where nothing was written since the opening, a crash leaves the records that were there
+  rested : IsTrue told → NoNewImage (view s.journal.disk) (view new.journal.disk) → LeavesAsBefore view s new
+      → HasRested (view s.journal.disk) (view new.journal.disk) (bodies_after shelf (view h.taken).seen)
+  rested t images moments =
+      subst (HasRested (view s.journal.disk) (view new.journal.disk)) (has_records t)
+      (left_alone view s.journal new.journal (h.readable.settled (knows t)) (opened_now view tells s h.opens) images moments)
+
+  -- these are the records with the one that tells the promotion after them or without it
+  rests_safely : HasRested (view s.journal.disk) (view new.journal.disk) (bodies_after shelf (view h.taken).seen)
+      → PromotesSafely shelf (view h.taken) (view s.journal.disk) (view new.journal.disk)
+  rests_safely p =
+      let bodies = bodies_after shelf (view h.taken).seen in
+      leaves_map (view s.journal.disk) (view new.journal.disk) (IsClosed newest bodies) (MayHold newest bodies (body_of promotes)) (λ image is. inl is) p.moments
+
+  -- nothing was written after the opening
+  still : (why : Reopen) → following.StaysFed view s new → LeavesAsBefore view s new
+      → (IsTrue told → CannotPromote (bodies_after shelf (view h.taken).seen) why) → IsUnpromoted view (IsTrue told) before after shelf why
+  still why p moments cannot = record {
+    taken = h.taken;
+    opened = s.journal.disk;
+    given = new.journal.disk;
+    lent = lent;
+    followed = λ t. sym (h.follows_is t) ∙ p.could.follows_on;
+    cannot = cannot;
+    opens = h.safely;
+    safely = λ t. rests_safely (rested t p.disk.images moments);
+    rests = λ t other. rested t p.disk.images moments;
+    keeps = λ t other. keeps_still shelf [] (view h.taken) (view s.journal.disk) (view new.journal.disk) p.disk.seen p.disk.images (h.keeps t);
+  }
+
+  -- a call of the disk failed as the record was added
+  fell : (count : ℕ) → following.HasFallen view s new count → (IsTrue tells → AddsThroughout view s new (body_of promotes))
+      → IsUnpromoted view (IsTrue told) before after shelf reopen.Disk
+  fell count p moments = record {
+    taken = h.taken;
+    opened = s.journal.disk;
+    given = new.journal.disk;
+    lent = lent;
+    followed = λ t. sym (h.follows_is t) ∙ p.could.follows_on;
+    cannot = λ t. tt;
+    opens = h.safely;
+    safely = λ t. safely t moments p.could;
+    rests = λ t other. absurd (other refl);
+    keeps = λ t other. absurd (other refl);
+  }
+
+  -- what promoting it came to
+  pub promotes_one : (r : Result Bool Reply) → Promotes view tells s new r → PromotesThroughout view tells s new r
+      → PromotesOne view (racks_of told before after) shelf (promoted_for r)
+  promotes_one (Ok true) p run = (
+    g.asked ∙ h.asked,
+    record {
       taken = h.taken;
       opened = s.journal.disk;
       given = new.journal.disk;
       lent = lent;
-      followed = λ t. sym (h.follows_is t) ∙ can.follows_on;
-      cannot = cannot;
+      followed_is = λ t. sym (sym (h.follows_is t) ∙ p.could.follows_on);
       opens = h.safely;
-      safely = λ t. safely t moments can;
-      keeps = keeps;
-    }
-
-    -- nothing was written after the opening
-    still : (why : Reopen) → following.StaysFed view s new → (IsTrue told → CannotPromote (bodies_after shelf (view h.taken).seen) why)
-        → IsUnpromoted view (IsTrue told) before after shelf why
-    still why p cannot =
-        unpromoted why p.could cannot
-        (λ t other. keeps_still shelf [] (view h.taken) (view s.journal.disk) (view new.journal.disk) p.disk.seen p.disk.images (h.keeps t))
-
-    -- what promoting it came to
-    pub promotes_one : (r : Result Bool Reply) → Promotes view tells s new r → PromotesOne view (racks_of told before after) shelf (promoted_for r)
-    promotes_one (Ok true) p = (
-      g.asked ∙ h.asked,
-      record {
-        taken = h.taken;
-        opened = s.journal.disk;
-        given = new.journal.disk;
-        lent = lent;
-        followed_is = λ t. sym (sym (h.follows_is t) ∙ p.could.follows_on);
-        opens = h.safely;
-        safely = λ t on. safely t moments p.could;
-        quiet = λ t no. absurd (let n : ⊥ = cc in n);
-        left = λ t.
-            let down : (book_in view new).down ≡ None = ap (λ b. b.down) p.book ∙ up view tells s h.opens p.could.follows_on in
-            let rest = rests view new.journal (settled view tells new (knows t) p.opened down) (opened_now view tells new p.opened) in
-            subst (λ bs. HoldsAtRest newest bs (view new.journal.disk)) (p.bodies (knows t) ∙ ap (λ bs. bs ++ body_of promotes ∷ []) (has_records t)) rest;
-        lawful = h.lawful;
-      },
-    )
-    promotes_one (Ok false) p =
-        let same : s ≡ new = sym p.same in (
-          g.asked ∙ h.asked,
-          record {
-            taken = h.taken;
-            opened = s.journal.disk;
-            given = new.journal.disk;
-            lent = lent;
-            followed_is = λ t. sym (sym (h.follows_is t) ∙ p.leads);
-            opens = h.safely;
-            safely = λ t on. absurd (let n : ⊥ = cc in n);
-            quiet = λ t no. subst (λ (x : Shelf D Counting). OpensSafely false shelf (view h.taken) (view x.journal.disk)) same (h.safely t);
-            left = λ t. subst (λ (x : Shelf D Counting). KeepsRecords shelf [] (view h.taken) (view x.journal.disk)) same (h.keeps t);
-            lawful = h.lawful;
-          },
-        )
-    promotes_one (Err (reply.Down count)) p = absurd (stands view tells s count h.opens p.follows_on p.fallen)
-    promotes_one (Err (reply.JournalFull n)) p = (
-      λ e. absurd (let no : ⊥ = cc in no),
-      inr (still (reopen.Full n) p.stays (λ t.
-          let is = p.is in
-          let end = (h.readable.settled (knows t)).end in
-          let long = ap (λ bs. length (at_rest bs)) (has_records t) in
-          (omega (arith, is, end, long), p.long))),
-    )
-    promotes_one (Err (reply.DiskFault count)) p =
-        (λ e. failed p.rose, inr (unpromoted reopen.Disk p.could (λ t. tt) (λ t other. absurd (other refl))))
-    promotes_one (Err reply.Memory) p = (λ e. absurd (let no : ⊥ = cc in no), inr (still reopen.Memory p (λ t. tt)))
-    promotes_one (Err r) p = absurd p
+      safely = λ t on. safely t run p.could;
+      quiet = λ t no. absurd (let n : ⊥ = cc in n);
+      left = λ t.
+          let down : (book_in view new).down ≡ None = ap (λ b. b.down) p.book ∙ up view tells s h.opens p.could.follows_on in
+          let rest = rests view new.journal (settled view tells new (knows t) p.opened down) (opened_now view tells new p.opened) in
+          subst (λ bs. HoldsAtRest newest bs (view new.journal.disk)) (p.bodies (knows t) ∙ ap (λ bs. bs ++ body_of promotes ∷ []) (has_records t)) rest;
+      lawful = h.lawful;
+    },
+  )
+  promotes_one (Ok false) p run =
+      let same : s ≡ new = sym p.same in (
+        g.asked ∙ h.asked,
+        record {
+          taken = h.taken;
+          opened = s.journal.disk;
+          given = new.journal.disk;
+          lent = lent;
+          followed_is = λ t. sym (sym (h.follows_is t) ∙ p.leads);
+          opens = h.safely;
+          safely = λ t on. absurd (let n : ⊥ = cc in n);
+          quiet = λ t no. subst (λ (x : Shelf D Counting). OpensSafely false shelf (view h.taken) (view x.journal.disk)) same (h.safely t);
+          left = λ t. subst (λ (x : Shelf D Counting). KeepsRecords shelf [] (view h.taken) (view x.journal.disk)) same (h.keeps t);
+          lawful = h.lawful;
+        },
+      )
+  promotes_one (Err (reply.Down count)) p run = absurd (stands view tells s count h.opens p.follows_on p.fallen)
+  promotes_one (Err (reply.JournalFull n)) p run = (
+    λ e. absurd (let no : ⊥ = cc in no),
+    inr (still (reopen.Full n) p.stays run (λ t.
+        let is = p.is in
+        let end = (h.readable.settled (knows t)).end in
+        let long = ap (λ bs. length (at_rest bs)) (has_records t) in
+        (omega (arith, is, end, long), p.long))),
+  )
+  promotes_one (Err (reply.DiskFault count)) p run = (λ e. failed p.rose, inr (fell count p run))
+  promotes_one (Err reply.Memory) p run = (λ e. absurd (let no : ⊥ = cc in no), inr (still reopen.Memory p run (λ t. tt)))
+  promotes_one (Err r) p run = absurd p
 
 -- a shelf was not opened
 pub shut_one : {D : Type 0} (view : D → View) (rack : Racks) (shelf : ℕ) (why : Reopen) → StaysShut view false rack shelf why
@@ -223,6 +249,7 @@ unpromoted_wider view told first before after shelf why front p = record {
   cannot = p.cannot;
   opens = p.opens;
   safely = p.safely;
+  rests = p.rests;
   keeps = p.keeps;
 }
 

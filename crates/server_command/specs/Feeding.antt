@@ -17,7 +17,7 @@ use Rattle.page_follower.specs.OfShelf.Opening.{HoldsAtRest, KeepsRecords, bodie
 use Rattle.page_follower.specs.OfShelf.Reopening.{IsLawful, bare_bodies}
 use Rattle.page_follower.specs.Feed.{feed_with}
 use Rattle.page_follower.specs.Held.{HasFollowed}
-use Rattle.page_follower.specs.Moments.{HasFed}
+use Rattle.page_follower.specs.Moments.{HasFed, HasRested}
 use Rattle.page_follower.specs.declared.fault.FeedFault.{FeedFault}
 use Rattle.page_follower.specs.declared.fault.FeedFault.TheVariants as feed
 use Rattle.page_follower.specs.declared.fault.FollowEnd.{FollowEnd}
@@ -187,7 +187,8 @@ CannotPromote bodies (reopen.Other place) = ⊥
 CannotPromote bodies (reopen.Full n) = (n ≡ length (at_rest bodies) + 6) × (2 ^ 30 < n)
 CannotPromote bodies reopen.Memory = ⊤
 
--- A shelf was opened and follows, and was not promoted. Unless a call of its disks failed, nothing was lost on them, and nothing added.
+-- A shelf was opened and follows, and was not promoted. Unless a call of its disks failed, nothing was lost on them, and nothing added: a crash at any
+-- moment since the opening leaves the records that stay of what was read, and no other.
 pub record IsUnpromoted {D : Type 0} (view : D → View) (told : Type 0) (before after : RackView) (shelf : ℕ) (why : Reopen) : Type 0 where
   pub taken : D
   pub opened : D
@@ -197,6 +198,7 @@ pub record IsUnpromoted {D : Type 0} (view : D → View) (told : Type 0) (before
   pub cannot : told → CannotPromote (bodies_after shelf (view taken).seen) why
   pub opens : told → OpensSafely false shelf (view taken) (view opened)
   pub safely : told → PromotesSafely shelf (view taken) (view opened) (view given)
+  pub rests : told → why ≢ reopen.Disk → HasRested (view opened) (view given) (bodies_after shelf (view taken).seen)
   pub keeps : told → why ≢ reopen.Disk → KeepsRecords shelf [] (view taken) (view given)
 
 -- Of so many shelves those in front of this one were promoted, or did not follow. Then the disks of this one were asked for, up to one of them or all,

@@ -1,7 +1,7 @@
 use Rattle.std.proofs.Common.{◌≡◌, Ok, Err, sym, subst, rules}
 use Rattle.std.specs.Prelude.{◌&&◌}
 use Rattle.disk_trio.specs.Trio.{trio_view}
-use Rattle.page_follower.specs.OfShelf.Following.{Promotes}
+use Rattle.page_follower.specs.OfShelf.Following.{Promotes, PromotesThroughout}
 use Rattle.server_command.specs.Feeding.{PromotesOne}
 use Rattle.server_command.specs.Racks.{racks_of}
 use Rattle.server_command.proofs.Feeds.{rest}
@@ -24,8 +24,9 @@ returns-in-Ok-promoted-clause-promotes g c =
     let after = g.R.Rack.view c.close_shelf.new.rack in
     let is : c.promote-promoted.result ≡ Ok c.in-Ok-promoted.followed = search rules in
     promotes_one v g.D.Disk.tells told before mid after c.args.number c.in-Ok.shelf c.promote-promoted.new.self (λ t. (both_tell _ _ t).1) c.in-Ok.ensures
-    c.close_shelf.ensures c.promote-promoted.ensures.any_moment (Ok c.in-Ok-promoted.followed)
+    c.close_shelf.ensures (Ok c.in-Ok-promoted.followed)
     (subst (Promotes v g.D.Disk.tells c.in-Ok.shelf c.promote-promoted.new.self) is c.promote-promoted.ensures.promotes)
+    (subst (PromotesThroughout v g.D.Disk.tells c.in-Ok.shelf c.promote-promoted.new.self) is c.promote-promoted.ensures.any_moment)
 
 pub returns-in-Ok-promoted-clause-rest : goal.returns-in-Ok-promoted-clause-rest
 returns-in-Ok-promoted-clause-rest g c =
@@ -42,8 +43,9 @@ returns-in-Err-promoted-clause-promotes g c =
     let is : c.promote-promoted.result ≡ Err c.in-Err-promoted.reply = search rules in
     subst (λ why. PromotesOne v (racks_of told before after) c.args.number (Err why)) (sym c.unpromoted.ensures)
     (promotes_one v g.D.Disk.tells told before mid after c.args.number c.in-Ok.shelf c.promote-promoted.new.self (λ t. (both_tell _ _ t).1) c.in-Ok.ensures
-    c.close_shelf.ensures c.promote-promoted.ensures.any_moment (Err c.in-Err-promoted.reply)
-    (subst (Promotes v g.D.Disk.tells c.in-Ok.shelf c.promote-promoted.new.self) is c.promote-promoted.ensures.promotes))
+    c.close_shelf.ensures (Err c.in-Err-promoted.reply)
+    (subst (Promotes v g.D.Disk.tells c.in-Ok.shelf c.promote-promoted.new.self) is c.promote-promoted.ensures.promotes)
+    (subst (PromotesThroughout v g.D.Disk.tells c.in-Ok.shelf c.promote-promoted.new.self) is c.promote-promoted.ensures.any_moment))
 
 pub returns-in-Err-promoted-clause-rest : goal.returns-in-Err-promoted-clause-rest
 returns-in-Err-promoted-clause-rest g c =
