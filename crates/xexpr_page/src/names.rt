@@ -1,4 +1,4 @@
-ghost use Rattle.std.specs.Prelude.{◌≡◌};
+ghost use Rattle.std.specs.Prelude.{◌≡◌, false};
 ghost use Rattle.std.specs.List.{list_all};
 ghost use Rattle.page_spec.specs.Markup as spec;
 
@@ -72,16 +72,14 @@ fn is_raw_text(name: &str) -> bool
     name == "script" || name == "style"
 }
 
-/// Whether this is the name of an element that may have children.
-pub fn is_element(name: &str) -> bool
+/// Whether a name that is not void is that of an element, which then may have children.
+pub fn may_have_children(name: &str) -> bool
+    requires { spec.is_void name.now ≡ false }
     ensures { result ≡ spec.is_element name.now }
 {
     match name.as_bytes() {
         [first, rest @ ..] => {
-            first.is_ascii_lowercase()
-                && are_element_bytes(rest)
-                && !is_void(name)
-                && !is_raw_text(name)
+            first.is_ascii_lowercase() && are_element_bytes(rest) && !is_raw_text(name)
         }
         [] => false,
     }

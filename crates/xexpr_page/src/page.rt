@@ -1,8 +1,8 @@
-ghost use Rattle.std.specs.Prelude.{◌≡◌, ◌++◌, List, ℕ, Some, OnOk, IfOk};
+ghost use Rattle.std.specs.Prelude.{◌≡◌, ◌++◌, List, ℕ, Some, Err, OnOk, IfOk, false};
 ghost use Rattle.script_value.specs.Val.{list};
 ghost use Rattle.script_value.specs.Views.{meaning, meanings};
 ghost use Rattle.page_spec.specs.Page as spec;
-ghost use Rattle.page_spec.specs.Markup.{end_tag};
+ghost use Rattle.page_spec.specs.Markup.{end_tag, is_void};
 ghost use Rattle.page_spec.specs.Page.{page_of, element_of, children_of};
 ghost use Rattle.xexpr_page.specs.Answers.{Gives, Pushes};
 ghost use Rattle.page_spec.specs.Renders.{Renders};
@@ -11,7 +11,7 @@ ghost use Rattle.xexpr_page.specs.Told.{TellsNoPage};
 
 use crate::escape::{push_attribute_text, push_text};
 use crate::fault::RenderFault;
-use crate::names::{is_attribute, is_element, is_entity, is_void};
+use crate::names::{is_attribute, is_entity, is_void, may_have_children};
 use crate::parts::{attributes_in, split_attributes};
 use crate::shape::is_page;
 use script_value::{Bytes, Str, Value};
@@ -32,10 +32,33 @@ pub fn render(alloc: Global, value: &Value) -> Result<Bytes, RenderFault>
     // What is shown is well formed: each element that is opened is closed by its own end tag, inside the element around it.
     ensures well_formed { IfOk result (λ bytes. IsMarkup bytes) }
 {
-    if !is_page(value) {
-        return Err(RenderFault::NotPage);
+    match written(alloc, value) {
+        Ok(page) => Ok(page),
+        Err(RenderFault::NotPage) => Err(RenderFault::NotPage),
+        Err(RenderFault::Memory) => Err(fault_of(value)),
     }
-    let mut page = Vec::new(alloc);
+}
+
+// Why there is no page where memory ran out while the value was written.
+fn fault_of(value: &Value) -> RenderFault
+    ensures page { Gives (Err result) (page_of (meaning value.now)) }
+    ensures told { TellsNoPage (Err result) (page_of (meaning value.now)) }
+{
+    if is_page(value) {
+        RenderFault::Memory
+    } else {
+        RenderFault::NotPage
+    }
+}
+
+// The bytes that a page begins with room for.
+const ROOM: usize = 512;
+
+// The bytes of the page that a value is, in one walk over it; where memory runs out, the value may be none.
+fn written(alloc: Global, value: &Value) -> Result<Bytes, RenderFault>
+    ensures { Gives result (page_of (meaning value.now)) }
+{
+    let mut page = Vec::with_capacity(alloc, ROOM)?;
     push_page(&mut page, value)?;
     Ok(Bytes::new(page))
 }
@@ -86,13 +109,14 @@ fn push_named(page: &mut Vec<u8>, first: &Value, parts: &[Value]) -> Result<(), 
     }
 }
 
-// Puts an element of this name after the page; its attributes, if there are any, are the first of its parts.
+// Puts an element of this name, which is not void, after the page; its attributes, if there are any, are the first of its parts.
 #[cycle(page)]
 fn push_element(page: &mut Vec<u8>, name: &Str, parts: &[Value]) -> Result<(), RenderFault>
+    requires { is_void name.now ≡ false }
     ensures { Pushes result page.old.items page.new.items (element_of name.now (meanings parts.now)) }
 {
     let (attributes, children) = split_attributes(parts);
-    if !is_element(name.as_str()) {
+    if !may_have_children(name.as_str()) {
         return Err(RenderFault::NotPage);
     }
     push_start(page, name, attributes)?;
@@ -154,9 +178,10 @@ fn push_start(page: &mut Vec<u8>, name: &Str, attributes: &[Value]) -> Result<()
 fn push_end(page: &mut Vec<u8>, name: &Str) -> Result<(), AllocError>
     ensures { OnOk result (page.new.items ≡ page.old.items ++ end_tag name.now) }
 {
-    page.extend_from_slice(b"</")?;
+    page.push(b'<')?;
+    page.push(b'/')?;
     page.extend_from_slice(name.as_str().as_bytes())?;
-    page.extend_from_slice(b">")?;
+    page.push(b'>')?;
     Ok(())
 }
 

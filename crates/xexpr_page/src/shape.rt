@@ -1,10 +1,11 @@
-ghost use Rattle.std.specs.Prelude.{◌≡◌, is_some};
+ghost use Rattle.std.specs.Prelude.{◌≡◌, is_some, false};
 ghost use Rattle.script_value.specs.Val.{list};
 ghost use Rattle.script_value.specs.Views.{meaning, meanings};
+ghost use Rattle.page_spec.specs.Markup.{is_void};
 ghost use Rattle.page_spec.specs.Page as spec;
 ghost use Rattle.page_spec.specs.Page.{page_of, element_of, children_of, attribute_of, attributes_of, pair_in};
 
-use crate::names::{is_attribute, is_element, is_entity, is_void};
+use crate::names::{is_attribute, is_entity, is_void, may_have_children};
 use crate::parts::{attributes_in, split_attributes};
 use script_value::{Str, Value};
 
@@ -49,13 +50,14 @@ fn is_named_page(first: &Value, parts: &[Value]) -> bool
     }
 }
 
-// Whether these parts make an element of this name.
+// Whether these parts make an element of this name, which is not void.
 #[cycle(is_page)]
 fn is_element_page(name: &Str, parts: &[Value]) -> bool
+    requires { is_void name.now ≡ false }
     ensures { result ≡ is_some (element_of name.now (meanings parts.now)) }
 {
     let (attributes, children) = split_attributes(parts);
-    if !is_element(name.as_str()) {
+    if !may_have_children(name.as_str()) {
         return false;
     }
     if !are_attributes(attributes) {
