@@ -4,3 +4,4 @@ pub mod Inside
 pub mod Nested
 pub mod Closed
 pub mod Shaped
+pub mod Plain
