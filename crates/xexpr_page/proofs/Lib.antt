@@ -4,4 +4,5 @@ pub mod Inside
 pub mod Nested
 pub mod Closed
 pub mod Shaped
+pub mod VoidNames
 pub mod Plain

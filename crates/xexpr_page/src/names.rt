@@ -47,22 +47,18 @@ fn are_letters_and_digits(bytes: &[u8]) -> bool
 /// Whether this is the name of a void element, which has no children and no end tag.
 ///
 /// Source: HTML Living Standard, 13.1.2 Elements, void elements.
+#[tactic(auto, using(crate::proofs::VoidNames::void_of_2, crate::proofs::VoidNames::void_of_3, crate::proofs::VoidNames::void_of_4, crate::proofs::VoidNames::void_of_5, crate::proofs::VoidNames::void_of_6, crate::proofs::VoidNames::void_of_no_length))]
 pub fn is_void(name: &str) -> bool
     ensures { result ≡ spec.is_void name.now }
 {
-    name == "area"
-        || name == "base"
-        || name == "br"
-        || name == "col"
-        || name == "embed"
-        || name == "hr"
-        || name == "img"
-        || name == "input"
-        || name == "link"
-        || name == "meta"
-        || name == "source"
-        || name == "track"
-        || name == "wbr"
+    match name.len() {
+        2 => name == "br" || name == "hr",
+        3 => name == "col" || name == "img" || name == "wbr",
+        4 => name == "area" || name == "base" || name == "link" || name == "meta",
+        5 => name == "embed" || name == "input" || name == "track",
+        6 => name == "source",
+        _ => false,
+    }
 }
 
 // A raw text element: its text is no text of the page.
