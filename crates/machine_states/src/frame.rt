@@ -162,11 +162,14 @@ impl Frame {
     }
 }
 
+// The frames beyond its own that a copy has room for: a script that goes on from it pushes more.
+const ROOM: usize = 8;
+
 // Copies of frames, equal to their sources.
 fn clone_frames(alloc: Global, frames: &[Frame]) -> Result<Vec<Frame>, AllocError>
     ensures { IfOk result (λ copies. copies.items ≡ frames.now) }
 {
-    let mut copies = Vec::new(alloc);
+    let mut copies = Vec::with_capacity(alloc, frames.len().saturating_add(ROOM))?;
     for frame in frames {
         copies.push(frame.try_clone(alloc)?)?;
     }
