@@ -9,7 +9,6 @@ use Rattle.script_nodes.specs.declared.script.Node.{Node}
 use Rattle.script_nodes.specs.Calls.{CallsBelow, AllCallBelow, AreBelow}
 use Rattle.script_nodes.specs.Arena.{Arena, IsScript, tree_at, trees_at}
 use Rattle.script_nodes.proofs.Below.{bodies_below}
-use Rattle.replay_spec.proofs.Tests.{equal_self}
 use Rattle.replay_spec.specs.Tape.{finishes, ends, Run, ◌>>=◌, give, answer, choose, charge, url, halt, send_page, enter, leave, shadow, set_cell, add_cell, as_number}
 use Rattle.replay_spec.specs.Eval.{for_each, is_any, is_not_false, Calls, with_task, calls_from, no_calls, calls_of, calls_in, eval, eval_into, eval_while}
 
@@ -54,6 +53,9 @@ chosen b x y e = rw e refl
 passed : (b : Bool) (x y : Body) → b ≡ false → ◌≡◌ {A = Body} (λ vs inside. choose b (x vs inside) (y vs inside)) y
 passed b x y e = rw e refl
 
+is_itself : (n : ℕ) → (n == n) ≡ true
+is_itself n = grind (arith, nat_tests)
+
 is_other : (k n : ℕ) → k < n → (k == n) ≡ false
 is_other k n h = grind (arith, nat_tests)
 
@@ -74,7 +76,7 @@ called_from calls n no_cores h k m b e is = absurd is
 called_from calls n (core c cs) h zero m b e is =
     let all = calls_from calls n (core c cs) in
     let here : m ≡ n = omega arith in
-    rw (here, ← is) (earlier_stay (with_task n (eval calls c) calls) (suc n) cs n (omega arith) ∙ (chosen (n == n) (eval calls c) (calls n) (equal_self n)
+    rw (here, ← is) (earlier_stay (with_task n (eval calls c) calls) (suc n) cs n (omega arith) ∙ (chosen (n == n) (eval calls c) (calls n) (is_itself n)
     ∙ same calls all n (λ k l. sym (earlier_stay calls n (core c cs) k l)) c h.0))
 called_from calls n (core c cs) h (suc k) m b e is = called_from (with_task n (eval calls c) calls) (suc n) cs h.1 k m b (omega arith) is
 
