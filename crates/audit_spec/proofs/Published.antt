@@ -249,7 +249,7 @@ start_published b o up apart runs goes timely =
             let q = comes_to v (present s.script.cells most_fuel) in
             let same : q ≡ m = λ i. comes_to (start_visit b (record { target = t.target; answer = t.answer; number = told.0 i; nonce = told.1 i }) o.script s) (present s.script.cells most_fuel) in
             let admits : admit b t.target ≡ begins o.script s = ap (admit b) at ∙ admits_start b o.script s apart found.1.0 in
-            let change : opens (opening (free_rules life limit b) b v m o.script o.kind) ≡ opens o =
+            let change : opens (opening (free_rules life 1 b) b v m o.script o.kind) ≡ opens o =
             λ i. opens (record { number = told.0 i; nonce = told.1 i; script = o.script; effects = show.did i; left = show.leaves i; kind = o.kind; deadline = due_at i; evicted = sym none i }) in (
               reply_by (shows o.kind) show.bytes (url_for v),
               start_decides (free_rules life 1 b) b t o.script s up admits
