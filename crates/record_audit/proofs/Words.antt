@@ -18,8 +18,6 @@ first_word a b c d e f g =
     else (if not f then Some word.Deadline
     else (if not g then Some word.State else None))))))
 
-module _ (b c d e f g : Bool) where
-
 module _ (a b c d e f g : Bool) where
   number : a ≡ true → b ≡ true → first_word a b c d e f g ≡ Some word.Number
   number x y = rw (x, y) refl
