@@ -1,6 +1,7 @@
 -- How far the search for the end of a head has come.
 use Rattle.std.specs.Prelude.{◌≡◌, ◌≤◌, ◌+◌, ℕ, suc, ◌==◌, List, ◌++◌, length, take, Option, Some, None, slice_index, option_map, if◌then◌else◌}
 use Rattle.std.specs.Option.{option_or}
+use Rattle.memchr.specs.Find.{Nowhere, Passes, is_byte}
 use Rattle.http_forms.specs.Head.{empty_line, lines_end, head_end}
 use Rattle.http_forms.specs.declared.head.Phase.{Phase}
 use Rattle.http_forms.specs.declared.head.Phase.TheVariants as phases
@@ -18,6 +19,10 @@ end_from phases.LineReturn bytes = if slice_index bytes 0 == 10 then Some 1 else
 abbrev pub end_behind : Option Phase → List ℕ → Option ℕ
 end_behind None bytes = Some 1
 end_behind (Some phase) bytes = option_map suc (end_from phase bytes)
+
+-- none of the first so many bytes is a line feed
+abbrev pub LacksLineFeed : List ℕ → ℕ → Type 0
+LacksLineFeed bytes count = Nowhere (Passes (is_byte 10) bytes) 0 count
 
 -- these bytes were passed over: whatever follows them, the head ends where it does from this phase on
 abbrev pub HasPassed : Phase → List ℕ → Type 0

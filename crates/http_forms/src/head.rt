@@ -1,6 +1,8 @@
-ghost use Rattle.std.specs.Prelude.{◌≡◌, ◌≤◌, ◌++◌, ◌∷◌, ℕ, List, length, IfNone, IfSome};
+ghost use Rattle.std.specs.Prelude.{◌≡◌, ◌≤◌, ◌++◌, ◌∷◌, ℕ, List, length, take, IfNone, IfSome};
 ghost use Rattle.http_forms.specs.Head as spec;
-ghost use Rattle.http_forms.specs.Scan.{end_from, end_behind, StandsIn};
+ghost use Rattle.http_forms.specs.Scan.{end_from, end_behind, HasPassed, LacksLineFeed, StandsIn};
+
+use memchr::memchr;
 
 /// The most bytes of a head.
 pub(crate) const MOST_HEAD: usize = 16_384;
@@ -34,6 +36,31 @@ fn step(phase: Phase, byte: u8) -> Option<Phase>
     }
 }
 
+// How many bytes stand before the first line feed: all, where there is none.
+fn line_length(bytes: &[u8]) -> usize
+    ensures lacks { LacksLineFeed bytes.now result }
+    ensures inside { result ≤ length bytes.now }
+{
+    match memchr(b'\n', bytes) {
+        Some(place) => place,
+        None => bytes.len(),
+    }
+}
+
+// The place to go on at: a line is passed over up to its end.
+fn go_on(phase: Phase, bytes: &[u8], place: usize) -> usize
+    requires { place ≤ length bytes.now }
+    ensures passes { HasPassed phase (take place bytes.now) →
+        HasPassed phase (take result bytes.now) }
+    ensures later { place ≤ result }
+    ensures inside { result ≤ length bytes.now }
+{
+    match phase {
+        Phase::Line => place + line_length(&bytes[place..]),
+        Phase::Blank | Phase::BlankReturn | Phase::LineFeed | Phase::LineReturn => place,
+    }
+}
+
 /// Searches bytes that come in pieces for the end of a head, each byte once.
 #[derive(Clone, Copy, Debug, PartialEq, Eq)]
 pub struct HeadScanner {
@@ -60,13 +87,16 @@ impl HeadScanner {
         ensures goes_on { IfNone result ((more : List ℕ) → StandsIn self.new (bytes.now ++ more)) }
         ensures place { IfNone result (self.new.place ≡ length bytes.now) }
     {
-        for byte in &bytes[self.place..] {
-            self.place += 1;
-            match step(self.phase, *byte) {
-                Some(phase) => self.phase = phase,
-                None => return Some(self.place),
-            }
+        let mut phase = self.phase;
+        let mut place = self.place;
+        'lines: while place < bytes.len() {
+            let Some(next) = step(phase, bytes[place]) else {
+                return Some(place + 1);
+            };
+            phase = next;
+            place = go_on(next, bytes, place + 1);
         }
+        *self = HeadScanner { phase, place };
         None
     }
 }

@@ -1,13 +1,17 @@
-use Rattle.std.proofs.Common.{◌<◌, sym, arith, length}
-use Rattle.std.proofs.lemmas.List.{take_rest, length-drop}
-use Rattle.http_forms.proofs.Scanning.{no_end, ends_here}
+use Rattle.std.proofs.Common.{sym, arith}
+use Rattle.http_forms.proofs.Scanning.{no_end, ends_here, passes_one}
 use Rattle.http_forms.proofs.head.HeadScanner.find.Goals as goal
 
-pub returns-in-None-clause-end : goal.returns-in-None-clause-end
-returns-in-None-clause-end c =
-    let inside : c.loop-byte.self.place < length c.args.bytes.now = omega (arith, simp (take_rest, length-drop) at c.loop-byte-test.true) in
-    sym (ends_here c.loop-byte.self.phase c.args.bytes.now c.loop-byte.self.place c.args.self.now.place c.loop-byte.byte-index c.loop-byte.invariant.place inside c.loop-byte.invariant.passed c.in-None.ensures)
+pub lines-preserved : goal.lines-preserved
+lines-preserved c = record {
+  inside = c.go_on-place.ensures.inside;
+  passed = c.go_on-place.ensures.passes (passes_one c.lines.phase c.in-Some.next c.args.bytes.now c.lines.place (omega (arith, c.lines-test.true)) c.lines.invariant.passed c.in-Some.ensures);
+}
+
+pub returns-in_default-clause-end : goal.returns-in_default-clause-end
+returns-in_default-clause-end c =
+    sym (ends_here c.lines.phase c.args.bytes.now c.lines.place (omega (arith, c.lines-test.true)) c.lines.invariant.passed c.in_default.ensures)
 
 pub returns-clause-end : goal.returns-clause-end
 returns-clause-end c =
-    sym (no_end c.loop-byte.self.phase c.args.bytes.now c.loop-byte.self.place (omega (arith, simp (take_rest, length-drop) at c.loop-byte-test.false)) c.loop-byte.invariant.passed)
+    sym (no_end c.lines.phase c.args.bytes.now c.lines.place (omega (arith, c.lines-test.false)) c.lines.invariant.passed)

@@ -1,9 +1,12 @@
-use Rattle.std.proofs.Common.{◌≡◌, ◌+◌, take}
+use Rattle.std.proofs.Common.{◌≤◌, ◌-◌, length, take}
 use Rattle.http_forms.specs.Scan.{HasPassed}
 use Rattle.http_forms.proofs.head.HeadScanner.find.Given as goal
 
-abbrev pub invariant-loop-byte : goal.invariant-loop-byte
-invariant-loop-byte l = record {
-  place : l.self.place ≡ l.initial.self.place + l.byte-index;
-  passed : HasPassed l.self.phase (take l.self.place l.bytes);
+abbrev pub invariant-lines : goal.invariant-lines
+invariant-lines l = record {
+  inside : l.place ≤ length l.bytes;
+  passed : HasPassed l.phase (take l.place l.bytes);
 }
+
+abbrev pub decreases-lines : goal.decreases-lines
+decreases-lines l = length l.bytes - l.place
