@@ -1,0 +1,144 @@
+//! Shelves that follow a feed, and what becomes of it.
+ghost use Rattle.std.specs.Prelude.{◌≡◌, true};
+ghost use Rattle.disk_trio.specs.Trio.{trio_view};
+ghost use Rattle.shelf.specs.Following.{CanBeFed, IsInOrderIfFed, IsReadable};
+ghost use Rattle.shelf.specs.Views.{follows_in};
+
+use crate::feeds::HEAD;
+use crate::openings::{Opening, opened_bare};
+use crate::sums::nothing;
+use page_follower::{FollowEnd, follow};
+use std::alloc::Global;
+use std::test::Fail;
+use test_compactions::files::{Files, files_of};
+use test_shelves::MemoryShelf;
+use web_outside::{TextSink, TextSource};
+
+/// What a feed comes through, and the acknowledgments go through: the reads that fail, the greatest piece of one, and the room for what is written.
+#[derive(Clone, Copy)]
+pub struct Pipes<'a> {
+    pub reads: &'a [u64],
+    pub greatest: usize,
+    pub room: usize,
+}
+
+/// Pipes that never fail.
+pub const FAIR: Pipes<'static> = Pipes {
+    reads: &[],
+    greatest: 4096,
+    room: 4096,
+};
+
+/// What following came to: how it ended, how many records were acknowledged, and what stands on the disks then.
+#[derive(Drop)]
+pub struct Outcome {
+    pub end: FollowEnd,
+    pub acks: u64,
+    pub files: Files,
+}
+
+// The lines that acknowledge so many records.
+fn lines(alloc: Global, acks: u64) -> Result<String, Fail> {
+    let mut lines = String::new(alloc);
+    for number in 0..acks {
+        let number = number.saturating_add(1);
+        lines.push_str(format!(in alloc; "ack {number}\n")?.as_str())?;
+    }
+    Ok(lines)
+}
+
+// How many lines end in a text.
+fn count_of_lines(text: &[u8]) -> u64 {
+    let mut count: u64 = 0;
+    for byte in text {
+        if *byte == b'\n' {
+            count = count.saturating_add(1);
+        }
+    }
+    count
+}
+
+/// How many records a text acknowledges, which has nothing but these lines and at most the front of the next one.
+pub fn acks_in(alloc: Global, text: &[u8]) -> Result<u64, Fail> {
+    let acks = count_of_lines(text);
+    let next = lines(alloc, acks.saturating_add(1))?;
+    if next.as_bytes().starts_with(text) {
+        return Ok(acks);
+    }
+    Err(Fail::from("another line"))
+}
+
+/// How following this feed ends, and how many records are acknowledged.
+pub fn fed(
+    alloc: Global,
+    shelf: &mut MemoryShelf,
+    feed: &[u8],
+    pipes: &Pipes,
+) -> Result<(FollowEnd, u64), Fail>
+    requires readable { IsReadable trio_view true shelf.old }
+    requires can { follows_in shelf.old ≡ true → CanBeFed shelf.old }
+    requires in_order { IsInOrderIfFed trio_view true shelf.old }
+{
+    let reads = pipes.reads.to_vec(alloc)?;
+    let mut source = TextSource::new(feed.to_vec(alloc)?, reads, pipes.greatest.max(1));
+    let mut sink = TextSink::new(alloc, pipes.room, Vec::new(alloc))?;
+    let end = follow(alloc, shelf, &mut source, &mut sink);
+    Ok((end, acks_in(alloc, sink.bytes())?))
+}
+
+/// What it comes to that the shelf of these files follows this feed through such pipes.
+pub fn followed_through(
+    alloc: Global,
+    files: &Files,
+    feed: &[u8],
+    pipes: &Pipes,
+) -> Result<Outcome, Fail> {
+    let mut shelf = opened_bare(alloc, files, Opening::ToFollow)?;
+    let (end, acks) = fed(alloc, &mut shelf, feed, pipes)?;
+    let files = files_of(alloc, shelf)?;
+    Ok(Outcome { end, acks, files })
+}
+
+/// What it comes to that the shelf of these files follows this feed through pipes that never fail.
+pub fn followed(alloc: Global, files: &Files, feed: &[u8]) -> Result<Outcome, Fail> {
+    followed_through(alloc, files, feed, &FAIR)
+}
+
+/// What stands on the disks once a feed was followed to its end, each of its records, of which there are so many, being acknowledged.
+pub fn held(alloc: Global, files: &Files, feed: &[u8], records: u64) -> Result<Files, Fail> {
+    let Outcome { end, acks, files } = followed(alloc, files, feed)?;
+    if (end, acks) == (FollowEnd::Held, records) {
+        return Ok(files);
+    }
+    Err(Fail::from("a feed that is not held"))
+}
+
+/// What stands on the disks of a new follower that holds this feed of four records.
+pub fn follower(alloc: Global, feed: &[u8]) -> Result<Files, Fail> {
+    held(alloc, &nothing(alloc), feed, 4)
+}
+
+/// What stands on the disks of a new follower that was fed nothing.
+pub fn waiting(alloc: Global) -> Result<Files, Fail> {
+    held(alloc, &nothing(alloc), HEAD, 0)
+}
+
+// Promotes a shelf, which has to tell whether it followed; it follows no longer.
+fn expect_promotion(alloc: Global, shelf: &mut MemoryShelf, followed: bool) -> Result<(), Fail>
+    requires { IsInOrderIfFed trio_view true shelf.old }
+{
+    let Ok(told) = shelf.promote(alloc) else {
+        return Err(Fail::from("no promotion"));
+    };
+    if told == followed && !shelf.follows() {
+        return Ok(());
+    }
+    Err(Fail::from("another promotion"))
+}
+
+/// What stands on the disks of these files once they are promoted, which has to tell whether they followed; they follow no longer.
+pub fn promoted(alloc: Global, files: &Files, followed: bool) -> Result<Files, Fail> {
+    let mut shelf = opened_bare(alloc, files, Opening::AsItIs)?;
+    expect_promotion(alloc, &mut shelf, followed)?;
+    files_of(alloc, shelf)
+}
