@@ -82,7 +82,7 @@ returns-in_default-answer_to-clause-step g c scripts =
     let x = there.0 in
     let path = path_of c.args.target.now c.path_and_query.result.0.now d c.path_and_query.ensures.path (sym c.in-Some.ensures.value) in
     let place = place_is (length xs) c.len-count.result k c.args.worker d (c.len-count.ensures ∙ s.shelves.ok.0)
-        (c.shelf_for-place.ensures ∙ ap (λ w. shelf_for c.len-count.result w d) c.from.ensures) in
+    (c.shelf_for-place.ensures ∙ ap (λ w. shelf_for c.len-count.result w d) c.from.ensures) in
     let step = is_event _ (desk_with view scripts (slice_set xs k x) s.tickets) _ _ (Err outcome.Memory) _ no_memory
     (takes _ c.args.worker c.args.target.now d k _ path (ap (λ n. shelf_for n c.args.worker d) (count_is view scripts xs s.tickets) ∙ place) (shelf_there view scripts xs s.tickets k x there.1))
     (refused_step view scripts xs s.tickets k c.args.worker x x d q outcome.Memory (no_answer view x d q))
@@ -115,7 +115,7 @@ returns-in-Err-clause-step g c scripts =
     let here = at_index xs k x x low c.index_mut-shelf.ensures.value in
     let path = path_of c.args.target.now c.path_and_query.result.0.now d c.path_and_query.ensures.path (sym c.in-Some.ensures.value) in
     let place = place_is (length xs) c.len-count.result k c.args.worker d (c.len-count.ensures ∙ s.shelves.ok.0)
-        (c.shelf_for-place.ensures ∙ ap (λ w. shelf_for c.len-count.result w d) c.from.ensures) in
+    (c.shelf_for-place.ensures ∙ ap (λ w. shelf_for c.len-count.result w d) c.from.ensures) in
     let h = happens view x y (take d a) (reply_of e) c.in-Err.ensures.event in
     let asked = with_answer view x y d a q (reply_of e) (c.in-Ok.ensures ∙ ap answer_to c.path_and_query.ensures.query) h in
     is_event _ _ _ _ (Err e) _ (fate_by (reply_of e))
@@ -188,7 +188,7 @@ returns-in-Ok-take-clause-step g c scripts =
     let here = at_index xs k x x low c.index_mut-shelf.ensures.value in
     let path = path_of c.args.target.now c.path_and_query.result.0.now d c.path_and_query.ensures.path (sym c.in-Some.ensures.value) in
     let place = place_is (length xs) c.len-count.result k c.args.worker d (c.len-count.ensures ∙ s.shelves.ok.0)
-        (c.shelf_for-place.ensures ∙ ap (λ w. shelf_for c.len-count.result w d) c.from.ensures) in
+    (c.shelf_for-place.ensures ∙ ap (λ w. shelf_for c.len-count.result w d) c.from.ensures) in
     let h = happens view x y (take d a) (taken t.number t.nonce) c.in-Ok-take.ensures.event in
     let asked = with_answer view x y d a q (taken t.number t.nonce) is h in
     let ticket : ticket_of t ≡ record { target = d; answer = q; number = t.number; nonce = t.nonce } =
@@ -218,7 +218,7 @@ returns-in-Ok-take-clause-fit g c =
     let low : k < length xs = omega (arith, c.if-place-count.false, c.len-count.ensures, s.shelves.ok.0) in
     let here = at_index xs k x x low c.index_mut-shelf.ensures.value in
     let place = place_is (length xs) c.len-count.result k c.args.worker d (c.len-count.ensures ∙ s.shelves.ok.0)
-        (c.shelf_for-place.ensures ∙ ap (λ w. shelf_for c.len-count.result w d) c.from.ensures) in
+    (c.shelf_for-place.ensures ∙ ap (λ w. shelf_for c.len-count.result w d) c.from.ensures) in
     let h = happens view x y (take d a) (taken t.number t.nonce) c.in-Ok-take.ensures.event in
     let it = took c.refused_is_unchanged.ensures view x y d a (taken t.number t.nonce) h in
     let target : target_of t.target ≡ d = ap (λ (z : next.Ticket). z.target) c.in-Ok-take.ensures.ticket in
@@ -241,7 +241,7 @@ returns-in-Ok-take-clause-own g c own =
     let low : k < length xs = omega (arith, c.if-place-count.false, c.len-count.ensures, s.shelves.ok.0) in
     let here = at_index xs k x x low c.index_mut-shelf.ensures.value in
     let place = place_is (length xs) c.len-count.result k c.args.worker d (c.len-count.ensures ∙ s.shelves.ok.0)
-        (c.shelf_for-place.ensures ∙ ap (λ w. shelf_for c.len-count.result w d) c.from.ensures) in
+    (c.shelf_for-place.ensures ∙ ap (λ w. shelf_for c.len-count.result w d) c.from.ensures) in
     let h = happens view x y (take d a) (taken t.number t.nonce) c.in-Ok-take.ensures.event in
     let it = took c.refused_is_unchanged.ensures view x y d a (taken t.number t.nonce) h in
     let target : target_of t.target ≡ d = ap (λ (z : next.Ticket). z.target) c.in-Ok-take.ensures.ticket in
