@@ -12,10 +12,11 @@ use script_nodes::Setup;
 use shelf::Rules;
 use std::alloc::Global;
 use std::test::Fail;
-use test_compactions::files::{Files, disks_of, files_of};
+use test_compactions::files::{Files, disks_of, left_by};
 use test_compactions::old::files_with;
 use test_compactions::visits::{Told, Visit, expect_visits};
 use test_shelves::{MemoryShelf, SUM, setup, tried_under};
+use web_disk::Wreck;
 
 /// A sum is asked for and told.
 pub const VISITS: &[Visit] = &[
@@ -80,6 +81,19 @@ pub fn sums_setup(alloc: Global) -> Result<Setup, Fail>
     setup(alloc, &[("sum", SUM)])
 }
 
+// A crash after which all that was written is there.
+const LOSES_NOTHING: Wreck = Wreck {
+    reached: u64::MAX,
+    fill: 0,
+    short: false,
+};
+
+/// What stands on the disks of a shelf, which is closed.
+pub fn left_on_disks(shelf: MemoryShelf) -> Files {
+    let (disks, _nonces) = shelf.close();
+    left_by(disks, LOSES_NOTHING)
+}
+
 /// What stands on the disks of the shelf of these files after visits.
 pub fn visited_with(
     alloc: Global,
@@ -92,8 +106,10 @@ pub fn visited_with(
     requires range { AreInRange rules }
 {
     let mut shelf = opened(alloc, files, setup, rules)?;
-    expect_visits(alloc, &mut shelf, visits)?;
-    files_of(alloc, shelf)
+    let answered = expect_visits(alloc, &mut shelf, visits);
+    let files = left_on_disks(shelf);
+    answered?;
+    Ok(files)
 }
 
 /// What stands on the disks of the shelf of these files after visits, with the setup of the script that tells sums.
