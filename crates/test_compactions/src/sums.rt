@@ -6,7 +6,7 @@ ghost use Rattle.disk_trio.specs.Trio.{trio_view};
 ghost use Rattle.shelf.specs.Ranges.{AreInRange};
 ghost use Rattle.shelf.specs.Views.{IsInOrder};
 
-use crate::files::{Files, disks_of, files_of};
+use crate::files::{Files, disks_of, left_by};
 use crate::old::files_with;
 use crate::visits::{Told, Visit, expect_visits};
 use script_nodes::Setup;
@@ -14,6 +14,7 @@ use shelf::Rules;
 use std::alloc::Global;
 use std::test::Fail;
 use test_shelves::{MemoryShelf, SUM, setup, tried_under};
+use web_disk::Wreck;
 
 /// The shelf 0.
 pub const RULES: Rules = Rules {
@@ -73,6 +74,19 @@ pub fn opened(
     }
 }
 
+// A crash after which all that was written is there.
+const LOSES_NOTHING: Wreck = Wreck {
+    reached: u64::MAX,
+    fill: 0,
+    short: false,
+};
+
+/// What stands on the disks of a shelf, which is closed.
+pub fn left_on_disks(shelf: MemoryShelf) -> Files {
+    let (disks, _nonces) = shelf.close();
+    left_by(disks, LOSES_NOTHING)
+}
+
 /// What stands on the disks of the shelf of these files after visits.
 pub fn visited_with(
     alloc: Global,
@@ -85,6 +99,8 @@ pub fn visited_with(
     requires range { AreInRange rules }
 {
     let mut shelf = opened(alloc, files, setup, rules)?;
-    expect_visits(alloc, &mut shelf, visits)?;
-    files_of(alloc, shelf)
+    let answered = expect_visits(alloc, &mut shelf, visits);
+    let files = left_on_disks(shelf);
+    answered?;
+    Ok(files)
 }

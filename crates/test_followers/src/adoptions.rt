@@ -4,10 +4,9 @@ ghost use Rattle.disk_trio.specs.Trio.{trio_view};
 ghost use Rattle.shelf.specs.Following.{IsInOrderIfFed};
 
 use crate::feeds::{bodies_in, feed_of, feed_with, first_of};
-use crate::followed::{follower, held, waiting};
+use crate::followed::{held, sums_follower, waiting};
 use crate::openings::{Opening, RULES, opened_bare, tried_bare};
-use crate::sums::{bare, leader, sums_feed};
-use disk_trio::Disks;
+use crate::sums::{bare, leader};
 use script_value::Reply;
 use shelf::{AdoptFault, BeginFault};
 use std::alloc::Global;
@@ -15,7 +14,7 @@ use std::test::Fail;
 use test_compactions::files::{Files, Place, Trouble, Wrong, disks_of, left_by};
 use test_compactions::sums::nothing;
 use test_shelves::{MemoryShelf, put_away};
-use web_disk::{MemoryDisk, Wreck};
+use web_disk::Wreck;
 
 /// The disks of a shelf.
 pub const PLACES: &[Place] = &[Place::First, Place::Second, Place::Root];
@@ -83,6 +82,11 @@ fn answer(
 // A record that no journal has, and one that each has after its first one.
 const NO_RECORD: &[u8] = b"\x0a";
 
+// The records that tell that a shelf follows, and no longer.
+const FOLLOW: &[u8] = b"\x08";
+
+const PROMOTED: &[u8] = b"\x09";
+
 const A_SWEEP: &[u8] = b"\x05\x07\0\0\0\0\0\0\0";
 
 // That a shelf leads is told before what is asked of the record.
@@ -104,15 +108,14 @@ fn a_shelf_that_leads_is_fed_nothing(rt: HostRuntime) -> Result<(), Fail> {
 #[test]
 fn a_record_outside_its_place_is_refused(rt: HostRuntime) -> Result<(), Fail> {
     let alloc = rt.alloc();
-    let files = follower(alloc, &sums_feed(alloc)?)?;
+    let files = sums_follower(alloc)?;
     let outside: Result<(), AdoptFault> = Err(AdoptFault::Outside);
     let bodies = bodies_in(alloc, &files.a)?;
-    let first = bodies.first().ok_or("no record")?;
+    let first = bodies.first().ok_or("no record")?.as_slice();
     for opening in [Opening::AsItIs, Opening::ToFollow] {
-        assert_eq!(rt; answer(alloc, &files, opening, NO_RECORD)?, outside);
-        assert_eq!(rt; answer(alloc, &files, opening, b"\x08")?, outside);
-        assert_eq!(rt; answer(alloc, &files, opening, b"\x09")?, outside);
-        assert_eq!(rt; answer(alloc, &files, opening, first)?, outside);
+        for body in [NO_RECORD, FOLLOW, PROMOTED, first] {
+            assert_eq!(rt; answer(alloc, &files, opening, body)?, outside);
+        }
         assert_eq!(rt; answer(alloc, &files, opening, A_SWEEP)?, Ok(()));
     }
     Ok(())
@@ -167,23 +170,33 @@ fn adopt_all(alloc: Global, shelf: &mut MemoryShelf, bodies: &[Vec<u8>]) -> Resu
     Ok(Went::Ended)
 }
 
-// How feeding the shelf of these files went, one of whose disks is wrong; and what is left of the disks.
+/// This value, where a failed disk kept a shelf from being opened; refuses another fault.
+pub fn if_disk_failed<T: Copy>(fault: BeginFault, value: T) -> Result<T, Fail> {
+    match fault {
+        BeginFault::DiskFault => Ok(value),
+        _ => Err(Fail::from("another fault")),
+    }
+}
+
+// How feeding the shelf of these files went, one of whose disks is wrong; and what such a crash leaves of the disks.
 fn fed_despite(
     alloc: Global,
     files: &Files,
     bodies: &[Vec<u8>],
     wrong: Wrong,
-) -> Result<(Went, Disks<MemoryDisk>), Fail> {
+    wreck: Wreck,
+) -> Result<(Went, Files), Fail> {
     let disks = disks_of(alloc, files, Some(wrong))?;
-    match tried_bare(alloc, disks, Opening::ToFollow, RULES) {
+    let (went, disks) = match tried_bare(alloc, disks, Opening::ToFollow, RULES) {
         Ok(mut shelf) => {
-            let went = adopt_all(alloc, &mut shelf, bodies)?;
+            let went = adopt_all(alloc, &mut shelf, bodies);
             let (disks, _nonces) = shelf.close();
-            Ok((went, disks))
+            (went, disks)
         }
-        Err((BeginFault::DiskFault, disks)) => Ok((Went::Unopened, disks)),
-        Err(_) => Err(Fail::from("another fault")),
-    }
+        Err((fault, disks)) => (if_disk_failed(fault, Went::Unopened), disks),
+    };
+    let left = left_by(disks, wreck);
+    Ok((went?, left))
 }
 
 // How many records of these are held on such files: at most all, and they are the first ones.
@@ -246,8 +259,7 @@ fn count_crash(
     wreck: Wreck,
     counts: &mut Counts,
 ) -> Result<Went, Fail> {
-    let (went, disks) = fed_despite(alloc, files, bodies, wrong)?;
-    let left = left_by(disks, wreck);
+    let (went, left) = fed_despite(alloc, files, bodies, wrong, wreck)?;
     let count = held_of(alloc, &left, bodies)?;
     if !may_hold(went, count, bodies.len()) {
         return Err(Fail::from("a record was lost, or came from nowhere"));

@@ -1,8 +1,8 @@
 //! Each way in which following a feed ends before the feed does.
 
-use crate::feeds::{HEAD, ROLES, bodies_in, feed_of, front, with_record};
+use crate::feeds::{HEAD, ROLES, bodies_in, front, has_no_records, with_record};
 use crate::followed::{
-    Outcome, Pipes, followed, followed_through, follower, held, promoted, waiting,
+    Outcome, Pipes, followed, followed_through, follower, held, promoted, promoted_unfed, waiting,
 };
 use crate::sums::{PLACES, bare, leader, sums_feed};
 use page_follower::{FeedFault, FollowEnd};
@@ -70,8 +70,10 @@ fn a_leader_takes_no_feed(rt: HostRuntime) -> Result<(), Fail> {
     assert!(rt; takes_none(alloc, &leader(alloc)?, &feed)?);
     let files = promoted(alloc, &follower(alloc, &feed)?, true)?;
     assert!(rt; takes_none(alloc, &files, &feed)?, "promoted");
-    let files = promoted(alloc, &waiting(alloc)?, true)?;
-    assert!(rt; takes_none(alloc, &files, &feed)?, "fed nothing");
+    assert!(rt;
+        takes_none(alloc, &promoted_unfed(alloc)?, &feed)?,
+        "fed nothing"
+    );
     Ok(())
 }
 
@@ -129,25 +131,27 @@ fn ended_untold(
     Ok((end, acks))
 }
 
+// The room for acknowledgments, and the end.
+const ROOMS: &[(usize, (FollowEnd, u64))] = &[
+    (0, (FollowEnd::Unwritten, 0)),
+    (5, (FollowEnd::Unwritten, 0)),
+    (6, (FollowEnd::Unwritten, 1)),
+    (17, (FollowEnd::Unwritten, 2)),
+    (23, (FollowEnd::Unwritten, 3)),
+    (24, (FollowEnd::Held, 4)),
+];
+
 // An acknowledgment has six bytes. The record whose line cannot be written is held.
 #[test]
 fn a_line_that_cannot_be_written_is_told(rt: HostRuntime) -> Result<(), Fail> {
     let alloc = rt.alloc();
     let feed = sums_feed(alloc)?;
     let whole = follower(alloc, &feed)?;
-    for (room, acks) in [(0, 0), (5, 0), (6, 1), (17, 2), (23, 3)] {
-        let untold = (FollowEnd::Unwritten, acks);
-        assert_eq!(rt;
-            ended_untold(alloc, &nothing(alloc), &feed, room)?,
-            untold,
-            "{room}"
-        );
-        assert_eq!(rt; ended_untold(alloc, &whole, &feed, room)?, untold, "{room}");
+    let empty = nothing(alloc);
+    for (room, end) in ROOMS {
+        assert_eq!(rt; ended_untold(alloc, &empty, &feed, *room)?, *end, "{room}");
+        assert_eq!(rt; ended_untold(alloc, &whole, &feed, *room)?, *end, "{room}");
     }
-    assert_eq!(rt;
-        ended_untold(alloc, &nothing(alloc), &feed, 24)?,
-        (FollowEnd::Held, 4)
-    );
     Ok(())
 }
 
@@ -196,21 +200,28 @@ fn with_second(alloc: Global, feed: &[u8], length: usize, more: &[u8]) -> Result
     with_record(alloc, front(before, 300), &body)
 }
 
+// The end where the second record differs.
+const SECOND_DIFFERS: (FollowEnd, u64) = (FollowEnd::Other { place: 300 }, 1);
+
+// How many bytes of the second body stand in the feed, what stands after them, and the end.
+const LENGTHS: &[(usize, &[u8], (FollowEnd, u64))] = &[
+    (0, b"", SECOND_DIFFERS),
+    (1, b"", SECOND_DIFFERS),
+    (98, b"", SECOND_DIFFERS),
+    (99, b"", (FollowEnd::Held, 2)),
+    (99, b"\0", SECOND_DIFFERS),
+];
+
 // The second body has 99 bytes. A record that has less than these, or more after them, differs from it.
 #[test]
 fn a_record_of_another_length_differs(rt: HostRuntime) -> Result<(), Fail> {
     let alloc = rt.alloc();
     let feed = sums_feed(alloc)?;
     let files = follower(alloc, &feed)?;
-    let differs = (FollowEnd::Other { place: 300 }, 1);
-    for length in [0, 1, 98] {
-        let other = with_second(alloc, &feed, length, b"")?;
-        assert_eq!(rt; refused(alloc, &files, &other)?, differs, "{length}");
+    for (length, more, end) in LENGTHS {
+        let other = with_second(alloc, &feed, *length, more)?;
+        assert_eq!(rt; refused(alloc, &files, &other)?, *end, "{length}");
     }
-    let same = with_second(alloc, &feed, 99, b"")?;
-    assert_eq!(rt; refused(alloc, &files, &same)?, (FollowEnd::Held, 2));
-    let longer = with_second(alloc, &feed, 99, b"\0")?;
-    assert_eq!(rt; refused(alloc, &files, &longer)?, differs);
     Ok(())
 }
 
@@ -251,7 +262,6 @@ fn a_record_that_has_no_place_is_told(rt: HostRuntime) -> Result<(), Fail> {
     let alloc = rt.alloc();
     let feed = sums_feed(alloc)?;
     let files = follower(alloc, &feed)?;
-    let empty = waiting(alloc)?;
     for body in NO_RECORDS {
         let longer = with_record(alloc, &feed, body)?;
         assert_eq!(rt;
@@ -260,10 +270,18 @@ fn a_record_that_has_no_place_is_told(rt: HostRuntime) -> Result<(), Fail> {
             "{body:?}"
         );
     }
+    Ok(())
+}
+
+// A feed does not tell whether a shelf follows.
+#[test]
+fn a_record_of_a_role_has_no_place(rt: HostRuntime) -> Result<(), Fail> {
+    let alloc = rt.alloc();
+    let files = waiting(alloc)?;
     for body in ROLES {
         let first = with_record(alloc, HEAD, body)?;
         assert_eq!(rt;
-            refused(alloc, &empty, &first)?,
+            refused(alloc, &files, &first)?,
             (FollowEnd::Record { place: 8 }, 0),
             "{body:?}"
         );
@@ -320,10 +338,17 @@ fn a_shorter_feed_takes_nothing_away(rt: HostRuntime) -> Result<(), Fail> {
 #[test]
 fn a_journal_without_records_has_a_feed(rt: HostRuntime) -> Result<(), Fail> {
     let alloc = rt.alloc();
-    assert_eq!(rt; feed_of(alloc, &nothing(alloc))?.as_slice(), HEAD);
-    assert_eq!(rt; feed_of(alloc, &waiting(alloc)?)?.as_slice(), HEAD);
+    assert!(rt; has_no_records(alloc, &nothing(alloc))?);
+    assert!(rt; has_no_records(alloc, &waiting(alloc)?)?);
+    assert!(rt; has_no_records(alloc, &bare(alloc)?)?);
+    Ok(())
+}
+
+// A journal without records is told that its shelf follows, as an empty one is.
+#[test]
+fn a_journal_without_records_follows(rt: HostRuntime) -> Result<(), Fail> {
+    let alloc = rt.alloc();
     let without = bare(alloc)?;
-    assert_eq!(rt; feed_of(alloc, &without)?.as_slice(), HEAD);
     let files = held(alloc, &without, HEAD, 0)?;
     assert_eq!(rt;
         files.a.as_slice(),

@@ -6,15 +6,14 @@ ghost use Rattle.disk_trio.specs.Trio.{trio_view};
 ghost use Rattle.shelf.specs.Views.{IsInOrder};
 
 use crate::feeds::feed_in;
-use crate::followed::{follower, held, waiting};
+use crate::followed::{held, sums_follower, waiting};
 use crate::openings::RULES;
-use crate::sums::sums_feed;
 use script_nodes::Setup;
 use script_value::Reply;
 use std::alloc::Global;
 use std::test::Fail;
-use test_compactions::files::{Files, files_of};
-use test_compactions::sums::{nothing, opened, sums_setup};
+use test_compactions::files::Files;
+use test_compactions::sums::{left_on_disks, nothing, opened, sums_setup};
 use test_compactions::visits::swept;
 use test_shelves::{MemoryShelf, answered, datum, setup};
 
@@ -92,8 +91,10 @@ fn asked(alloc: Global, files: &Files, setup: &Setup, clock: u64) -> Result<File
     requires { IsReadSetup (scripts_of setup.now) }
 {
     let mut shelf = opened(alloc, files, setup, RULES)?;
-    expect_following(alloc, &mut shelf, clock)?;
-    files_of(alloc, shelf)
+    let follows = expect_following(alloc, &mut shelf, clock);
+    let files = left_on_disks(shelf);
+    follows?;
+    Ok(files)
 }
 
 // Whether the shelf of these files, of each of two setups, does nothing but to tell that it follows.
@@ -106,8 +107,7 @@ fn does_nothing(alloc: Global, files: &Files, clock: u64) -> Result<bool, Fail> 
 #[test]
 fn a_shelf_that_follows_does_nothing_else(rt: HostRuntime) -> Result<(), Fail> {
     let alloc = rt.alloc();
-    let feed = sums_feed(alloc)?;
-    assert!(rt; does_nothing(alloc, &follower(alloc, &feed)?, 0)?);
+    assert!(rt; does_nothing(alloc, &sums_follower(alloc)?, 0)?);
     assert!(rt; does_nothing(alloc, &waiting(alloc)?, 0)?, "fed nothing");
     Ok(())
 }
@@ -123,8 +123,10 @@ fn swept_files(alloc: Global, setup: &Setup) -> Result<Files, Fail>
     requires { IsReadSetup (scripts_of setup.now) }
 {
     let mut shelf = opened(alloc, &nothing(alloc), setup, RULES)?;
-    let _none = swept(alloc, &mut shelf, 50)?;
-    files_of(alloc, shelf)
+    let swept = swept(alloc, &mut shelf, 50);
+    let files = left_on_disks(shelf);
+    let _none = swept?;
+    Ok(files)
 }
 
 #[test]

@@ -112,3 +112,9 @@ pub fn feed_in(alloc: Global, file: &[u8]) -> Result<Vec<u8>, Fail> {
     let bodies = bodies_in(alloc, file)?;
     feed_with(alloc, bodies.as_slice())
 }
+
+/// Whether the feed of these files is its head alone.
+pub fn has_no_records(alloc: Global, files: &Files) -> Result<bool, Fail> {
+    let feed = feed_of(alloc, files)?;
+    Ok(feed.as_slice() == HEAD)
+}

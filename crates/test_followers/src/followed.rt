@@ -6,11 +6,12 @@ ghost use Rattle.shelf.specs.Views.{follows_in};
 
 use crate::feeds::HEAD;
 use crate::openings::{Opening, opened_bare};
+use crate::sums::sums_feed;
 use page_follower::{FollowEnd, follow};
 use std::alloc::Global;
 use std::test::Fail;
-use test_compactions::files::{Files, files_of};
-use test_compactions::sums::nothing;
+use test_compactions::files::Files;
+use test_compactions::sums::{left_on_disks, nothing};
 use test_shelves::MemoryShelf;
 use web_outside::{TextSink, TextSource};
 
@@ -94,8 +95,9 @@ pub fn followed_through(
     pipes: &Pipes,
 ) -> Result<Outcome, Fail> {
     let mut shelf = opened_bare(alloc, files, Opening::ToFollow)?;
-    let (end, acks) = fed(alloc, &mut shelf, feed, pipes)?;
-    let files = files_of(alloc, shelf)?;
+    let fed = fed(alloc, &mut shelf, feed, pipes);
+    let files = left_on_disks(shelf);
+    let (end, acks) = fed?;
     Ok(Outcome { end, acks, files })
 }
 
@@ -116,6 +118,12 @@ pub fn held(alloc: Global, files: &Files, feed: &[u8], records: u64) -> Result<F
 /// What stands on the disks of a new follower that holds this feed of four records.
 pub fn follower(alloc: Global, feed: &[u8]) -> Result<Files, Fail> {
     held(alloc, &nothing(alloc), feed, 4)
+}
+
+/// What stands on the disks of a new follower of the journal of sums.
+pub fn sums_follower(alloc: Global) -> Result<Files, Fail> {
+    let feed = sums_feed(alloc)?;
+    follower(alloc, &feed)
 }
 
 /// What stands on the disks of a new follower that was fed nothing.
@@ -139,6 +147,14 @@ fn expect_promotion(alloc: Global, shelf: &mut MemoryShelf, followed: bool) -> R
 /// What stands on the disks of these files once they are promoted, which has to tell whether they followed; they follow no longer.
 pub fn promoted(alloc: Global, files: &Files, followed: bool) -> Result<Files, Fail> {
     let mut shelf = opened_bare(alloc, files, Opening::AsItIs)?;
-    expect_promotion(alloc, &mut shelf, followed)?;
-    files_of(alloc, shelf)
+    let promoted = expect_promotion(alloc, &mut shelf, followed);
+    let files = left_on_disks(shelf);
+    promoted?;
+    Ok(files)
+}
+
+/// What stands on the disks of a new follower that was fed nothing and is promoted.
+pub fn promoted_unfed(alloc: Global) -> Result<Files, Fail> {
+    let files = waiting(alloc)?;
+    promoted(alloc, &files, true)
 }

@@ -5,18 +5,18 @@ ghost use Rattle.setup_reader.specs.Texts.{IsReadSetup};
 ghost use Rattle.disk_trio.specs.Trio.{trio_view};
 ghost use Rattle.shelf.specs.Views.{IsInOrder};
 
-use crate::feeds::{bodies_in, feed_of, feed_with};
-use crate::followed::{followed, follower, held, promoted};
+use crate::feeds::{HEAD, bodies_in, feed_of, feed_with};
+use crate::followed::{followed, held, promoted, sums_follower};
 use crate::openings::{Opening, RULES, opened_bare};
-use crate::sums::{SEVEN, sums_feed, visited};
+use crate::sums::{SEVEN, visited};
 use page_follower::FollowEnd;
 use script_nodes::Setup;
 use std::alloc::Global;
 use std::test::Fail;
-use test_compactions::files::{Files, files_of};
+use test_compactions::files::Files;
 use test_compactions::old::{ANSWERS, SCRIPTS, file_of, files_with};
 use test_compactions::records::{DRAWN, FORMAT_1, FORMAT_2, FORMAT_3, RENEWED};
-use test_compactions::sums::{VISITS, nothing, opened, sums_setup, visited_with};
+use test_compactions::sums::{VISITS, left_on_disks, nothing, opened, sums_setup, visited_with};
 use test_compactions::visits::{Told, Visit, compacted, expect_visits};
 use test_shelves::{MemoryShelf, setup};
 
@@ -68,7 +68,7 @@ fn newest_file(files: &Files) -> &[u8] {
 // What stands on the disks of these files once they were opened without a setup.
 fn reopened(alloc: Global, files: &Files) -> Result<Files, Fail> {
     let shelf = opened_bare(alloc, files, Opening::AsItIs)?;
-    files_of(alloc, shelf)
+    Ok(left_on_disks(shelf))
 }
 
 // Refuses a journal of an older format whose feed does not tell each of its pages.
@@ -104,8 +104,16 @@ fn compacted_behind(
     requires { IsReadSetup (scripts_of setup.now) }
 {
     let mut shelf = opened(alloc, files, setup, RULES)?;
-    let _length = visited_and_compacted(alloc, &mut shelf, visits)?;
-    files_of(alloc, shelf)
+    let length = visited_and_compacted(alloc, &mut shelf, visits);
+    let files = left_on_disks(shelf);
+    let _length = length?;
+    Ok(files)
+}
+
+// What stands on the disks of the shelf of these files after visits and a compaction, with the setup of the script that tells sums.
+fn compacted_sums(alloc: Global, files: &Files, visits: &[Visit]) -> Result<Files, Fail> {
+    let setup = sums_setup(alloc)?;
+    compacted_behind(alloc, files, &setup, visits)
 }
 
 // How long the file is that a compaction makes after these visits.
@@ -136,9 +144,8 @@ fn a_compacted_journal_is_followed(rt: HostRuntime) -> Result<(), Fail> {
 #[test]
 fn a_compaction_ends_following(rt: HostRuntime) -> Result<(), Fail> {
     let alloc = rt.alloc();
-    let files = follower(alloc, &sums_feed(alloc)?)?;
-    let setup = sums_setup(alloc)?;
-    let short = compacted_behind(alloc, &nothing(alloc), &setup, VISITS)?;
+    let files = sums_follower(alloc)?;
+    let short = compacted_sums(alloc, &nothing(alloc), VISITS)?;
     let after = followed(alloc, &files, &feed_of(alloc, &short)?)?;
     assert_eq!(rt;
         (after.end, after.acks),
@@ -216,7 +223,7 @@ fn a_journal_of_two_setups_is_followed(rt: HostRuntime) -> Result<(), Fail> {
 #[test]
 fn a_follower_is_followed(rt: HostRuntime) -> Result<(), Fail> {
     let alloc = rt.alloc();
-    let once = follower(alloc, &sums_feed(alloc)?)?;
+    let once = sums_follower(alloc)?;
     let twice = follower_of(alloc, &once, 4)?;
     assert_eq!(rt; twice.a.as_slice(), once.a.as_slice());
     expect_goes_on(alloc, &twice, 4, &sums_setup(alloc)?, SEVEN)
@@ -226,7 +233,7 @@ fn a_follower_is_followed(rt: HostRuntime) -> Result<(), Fail> {
 #[test]
 fn a_promoted_shelf_is_followed(rt: HostRuntime) -> Result<(), Fail> {
     let alloc = rt.alloc();
-    let once = follower(alloc, &sums_feed(alloc)?)?;
+    let once = sums_follower(alloc)?;
     let twice = follower_of(alloc, &once, 4)?;
     let longer = visited(alloc, &promoted(alloc, &once, true)?, SEVEN)?;
     let _next = held(alloc, &twice, &feed_of(alloc, &longer)?, 5)?;
@@ -238,13 +245,11 @@ fn a_promoted_shelf_is_followed(rt: HostRuntime) -> Result<(), Fail> {
 #[test]
 fn a_promoted_shelf_is_compacted(rt: HostRuntime) -> Result<(), Fail> {
     let alloc = rt.alloc();
-    let setup = sums_setup(alloc)?;
-    let feed = sums_feed(alloc)?;
-    let files = promoted(alloc, &follower(alloc, &feed)?, true)?;
-    let short = compacted_behind(alloc, &files, &setup, &[])?;
-    let led = compacted_behind(alloc, &nothing(alloc), &setup, VISITS)?;
-    assert_eq!(rt; newest_file(&short), newest_file(&led));
-    assert_eq!(rt; followed(alloc, &short, &feed)?.end, FollowEnd::Promoted);
+    let files = promoted(alloc, &sums_follower(alloc)?, true)?;
+    let short = compacted_sums(alloc, &files, &[])?;
+    let led = compacted_sums(alloc, &nothing(alloc), VISITS)?;
+    assert!(rt; newest_file(&short) == newest_file(&led));
+    assert!(rt; followed(alloc, &short, HEAD)?.end == FollowEnd::Promoted);
     let _visited = visited(alloc, &short, SEVEN)?;
     Ok(())
 }

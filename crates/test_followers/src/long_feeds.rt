@@ -5,9 +5,8 @@ ghost use Rattle.shelf.specs.Following.{CanBeFed, IsInOrderIfFed, IsReadable};
 ghost use Rattle.shelf.specs.Views.{follows_in};
 
 use crate::feeds::HEAD;
-use crate::followed::{acks_in, follower};
+use crate::followed::{acks_in, sums_follower};
 use crate::openings::{Opening, opened_bare};
-use crate::sums::sums_feed;
 use page_follower::{FeedFault, FollowEnd, follow};
 use std::alloc::Global;
 use std::test::Fail;
@@ -124,7 +123,7 @@ fn front_with(alloc: Global, length: u32) -> Result<Vec<u8>, Fail> {
 #[test]
 fn a_feed_has_at_most_1073741824_bytes(rt: HostRuntime) -> Result<(), Fail> {
     let alloc = rt.alloc();
-    let files = follower(alloc, &sums_feed(alloc)?)?;
+    let files = sums_follower(alloc)?;
     let most = front_with(alloc, 1_073_741_812)?;
     assert_eq!(rt;
         ended(alloc, &files, &most, 2_000_000_000)?,

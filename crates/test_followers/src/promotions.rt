@@ -3,10 +3,11 @@ ghost use Rattle.script_nodes.specs.Views.{scripts_of};
 ghost use Rattle.setup_reader.specs.Texts.{IsReadSetup};
 ghost use Rattle.shelf.specs.Ranges.{AreInRange};
 
-use crate::feeds::{HEAD, feed_of, front};
-use crate::followed::{follower, promoted, waiting};
+use crate::feeds::{feed_of, front, has_no_records};
+use crate::followed::{promoted, promoted_unfed, sums_follower, waiting};
 use crate::openings::{OTHER_RULES, Opening, RULES, tried_bare};
-use crate::sums::{SEVEN, leader, sums_feed, visited};
+use crate::sums::{SEVEN, leader, visited};
+use disk_trio::Disks;
 use script_nodes::Setup;
 use shelf::{BeginFault, Rules};
 use std::alloc::Global;
@@ -14,7 +15,8 @@ use std::test::Fail;
 use test_compactions::files::{Files, disks_of};
 use test_compactions::old::files_with;
 use test_compactions::sums::{VISITS, nothing, sums_setup, visited_with};
-use test_shelves::{setup, tried_under};
+use test_shelves::{MemoryShelf, put_away, setup, tried_under};
+use web_disk::MemoryDisk;
 
 // The header of a file.
 const HEADER: &[u8] = b"KSWEB\0\0\x06";
@@ -34,6 +36,12 @@ fn joined(alloc: Global, parts: &[&[u8]]) -> Result<Vec<u8>, Fail> {
     Ok(bytes)
 }
 
+// Whether the first file consists of these parts.
+fn is_made_of(alloc: Global, files: &Files, parts: &[&[u8]]) -> Result<bool, Fail> {
+    let wanted = joined(alloc, parts)?;
+    Ok(files.a == wanted)
+}
+
 // What follows the header of a file.
 fn behind_header(file: &[u8]) -> Result<&[u8], Fail> {
     Ok(file.strip_prefix(HEADER).ok_or("another header")?)
@@ -49,31 +57,32 @@ fn before_gate(file: &[u8]) -> &[u8] {
 fn a_follower_has_the_records_of_its_leader(rt: HostRuntime) -> Result<(), Fail> {
     let alloc = rt.alloc();
     let leader = leader(alloc)?;
-    let files = follower(alloc, &sums_feed(alloc)?)?;
-    let wanted = joined(alloc, &[HEADER, FOLLOW, behind_header(&leader.a)?])?;
-    assert_eq!(rt; files.a.as_slice(), wanted.as_slice());
+    let files = sums_follower(alloc)?;
+    let records = behind_header(&leader.a)?;
+    assert!(rt; is_made_of(alloc, &files, &[HEADER, FOLLOW, records])?);
     Ok(())
 }
 
-// Behind its records stands that it was promoted, once, which is not in its feed.
+// Whether promoting these files adds one record, which their feed has not, and promoting them once more nothing.
+fn is_promoted_once(alloc: Global, files: &Files) -> Result<bool, Fail> {
+    let feed = feed_of(alloc, files)?;
+    let once = promoted(alloc, files, true)?;
+    let twice = promoted(alloc, &once, false)?;
+    let parts: [&[u8]; 3] = [before_gate(&files.a), PROMOTION, b"\0"];
+    Ok(is_made_of(alloc, &twice, &parts)? && twice.a == once.a && feed_of(alloc, &twice)? == feed)
+}
+
 #[test]
 fn a_follower_is_promoted_once(rt: HostRuntime) -> Result<(), Fail> {
     let alloc = rt.alloc();
-    let feed = sums_feed(alloc)?;
-    let files = follower(alloc, &feed)?;
-    let wanted = joined(alloc, &[before_gate(&files.a), PROMOTION, b"\0"])?;
-    let once = promoted(alloc, &files, true)?;
-    let twice = promoted(alloc, &once, false)?;
-    assert_eq!(rt; once.a.as_slice(), wanted.as_slice());
-    assert_eq!(rt; twice.a.as_slice(), wanted.as_slice());
-    assert_eq!(rt; feed_of(alloc, &twice)?.as_slice(), feed.as_slice());
+    assert!(rt; is_promoted_once(alloc, &sums_follower(alloc)?)?);
     Ok(())
 }
 
 #[test]
 fn a_promoted_shelf_goes_on(rt: HostRuntime) -> Result<(), Fail> {
     let alloc = rt.alloc();
-    let files = promoted(alloc, &follower(alloc, &sums_feed(alloc)?)?, true)?;
+    let files = promoted(alloc, &sums_follower(alloc)?, true)?;
     let once = visited(alloc, &files, SEVEN)?;
     let _twice = visited(alloc, &once, SEVEN)?;
     Ok(())
@@ -100,13 +109,11 @@ fn begun(alloc: Global, files: &Files) -> Result<Files, Fail> {
 #[test]
 fn a_shelf_that_was_fed_nothing_is_promoted(rt: HostRuntime) -> Result<(), Fail> {
     let alloc = rt.alloc();
-    let alone = joined(alloc, &[HEADER, FOLLOW, b"\0"])?;
     let files = begun(alloc, &waiting(alloc)?)?;
-    assert_eq!(rt; files.a.as_slice(), alone.as_slice());
-    let both = joined(alloc, &[HEADER, FOLLOW, PROMOTION, b"\0"])?;
+    assert!(rt; is_made_of(alloc, &files, &[HEADER, FOLLOW, b"\0"])?);
     let files = promoted(alloc, &files, true)?;
-    assert_eq!(rt; files.a.as_slice(), both.as_slice());
-    assert_eq!(rt; feed_of(alloc, &files)?.as_slice(), HEAD);
+    assert!(rt; is_made_of(alloc, &files, &[HEADER, FOLLOW, PROMOTION, b"\0"])?);
+    assert!(rt; has_no_records(alloc, &files)?);
     Ok(())
 }
 
@@ -115,14 +122,10 @@ fn a_shelf_that_was_fed_nothing_is_promoted(rt: HostRuntime) -> Result<(), Fail>
 fn a_shelf_that_was_fed_nothing_goes_on(rt: HostRuntime) -> Result<(), Fail> {
     let alloc = rt.alloc();
     let leader = leader(alloc)?;
-    let wanted = joined(
-        alloc,
-        &[HEADER, FOLLOW, PROMOTION, behind_header(&leader.a)?],
-    )?;
-    let files = visited(alloc, &promoted(alloc, &waiting(alloc)?, true)?, VISITS)?;
-    assert_eq!(rt; files.a.as_slice(), wanted.as_slice());
-    let feed = sums_feed(alloc)?;
-    assert_eq!(rt; feed_of(alloc, &files)?.as_slice(), feed.as_slice());
+    let files = visited(alloc, &promoted_unfed(alloc)?, VISITS)?;
+    let parts: [&[u8]; 4] = [HEADER, FOLLOW, PROMOTION, behind_header(&leader.a)?];
+    assert!(rt; is_made_of(alloc, &files, &parts)?);
+    assert!(rt; feed_of(alloc, &files)? == feed_of(alloc, &leader)?);
     Ok(())
 }
 
@@ -134,13 +137,12 @@ const OTHER_SETUP: &[u8] = b"\x01\x10\0\0\0\x06\x01\0\0\0\x01\0\0\0a\x02\0\0\0'a
 fn another_setup_is_told_to_a_promoted_shelf(rt: HostRuntime) -> Result<(), Fail> {
     let alloc = rt.alloc();
     let other = setup(alloc, &[("a", "'a")])?;
-    let files = follower(alloc, &sums_feed(alloc)?)?;
+    let files = sums_follower(alloc)?;
     let same = renewed(alloc, &files, &other)?;
-    assert_eq!(rt; same.a.as_slice(), files.a.as_slice());
+    assert!(rt; same.a == files.a);
     let files = promoted(alloc, &same, true)?;
-    let wanted = joined(alloc, &[before_gate(&files.a), OTHER_SETUP])?;
     let longer = renewed(alloc, &files, &other)?;
-    assert_eq!(rt; longer.a.as_slice(), wanted.as_slice());
+    assert!(rt; is_made_of(alloc, &longer, &[before_gate(&files.a), OTHER_SETUP])?);
     Ok(())
 }
 
@@ -149,6 +151,19 @@ fn renewed(alloc: Global, files: &Files, setup: &Setup) -> Result<Files, Fail>
     requires { IsReadSetup (scripts_of setup.now) }
 {
     visited_with(alloc, files, setup, &[], RULES)
+}
+
+// Why no shelf was opened.
+fn fault_of(
+    opened: Result<MemoryShelf, (BeginFault, Disks<MemoryDisk>)>,
+) -> Result<BeginFault, Fail> {
+    match opened {
+        Ok(shelf) => {
+            put_away(shelf);
+            Err(Fail::from("opened"))
+        }
+        Err((fault, _disks)) => Ok(fault),
+    }
 }
 
 // Why no shelf under these rules is opened on these files, with this setup.
@@ -161,10 +176,7 @@ fn begin_fault(
     requires read { IsReadSetup (scripts_of setup.now) }
     requires range { AreInRange rules }
 {
-    match tried_under(alloc, disks_of(alloc, files, None)?, setup, rules)? {
-        Ok(_) => Err(Fail::from("opened")),
-        Err((fault, _disks)) => Ok(fault),
-    }
+    fault_of(tried_under(alloc, disks_of(alloc, files, None)?, setup, rules)?)
 }
 
 // Why none is opened on them without a setup.
@@ -176,10 +188,7 @@ fn bare_fault(
 ) -> Result<BeginFault, Fail>
     requires { AreInRange rules }
 {
-    match tried_bare(alloc, disks_of(alloc, files, None)?, opening, rules) {
-        Ok(_) => Err(Fail::from("opened")),
-        Err((fault, _disks)) => Ok(fault),
-    }
+    fault_of(tried_bare(alloc, disks_of(alloc, files, None)?, opening, rules))
 }
 
 // Whether this is why no shelf under these rules is opened on these files, with the setup of sums or without one.
@@ -203,11 +212,10 @@ fn is_another(alloc: Global, files: &Files, place: u64) -> Result<bool, Fail> {
 fn another_shelf_is_told_where_the_first_setup_stands(rt: HostRuntime) -> Result<(), Fail> {
     let alloc = rt.alloc();
     assert!(rt; is_another(alloc, &leader(alloc)?, 8)?);
-    let files = follower(alloc, &sums_feed(alloc)?)?;
+    let files = sums_follower(alloc)?;
     assert!(rt; is_another(alloc, &files, 14)?);
     assert!(rt; is_another(alloc, &promoted(alloc, &files, true)?, 14)?);
-    let files = begun(alloc, &promoted(alloc, &waiting(alloc)?, true)?)?;
-    assert!(rt; is_another(alloc, &files, 20)?);
+    assert!(rt; is_another(alloc, &begun(alloc, &promoted_unfed(alloc)?)?, 20)?);
     Ok(())
 }
 

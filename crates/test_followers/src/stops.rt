@@ -4,12 +4,11 @@ ghost use Rattle.disk_trio.specs.Trio.{trio_view};
 ghost use Rattle.shelf.specs.Following.{CanBeFed, IsInOrderIfFed, IsReadable};
 ghost use Rattle.shelf.specs.Views.{follows_in};
 
-use crate::adoptions::{PLACES, WRECKS};
+use crate::adoptions::{PLACES, WRECKS, if_disk_failed};
 use crate::feeds::{bodies_in, feed_of, feed_with, first_of};
-use crate::followed::{FAIR, fed, follower, held, promoted};
+use crate::followed::{FAIR, fed, held, promoted, sums_follower};
 use crate::openings::{Opening, RULES, opened_bare, tried_bare};
 use crate::sums::{SEVEN, bare, sums_feed, visited};
-use disk_trio::Disks;
 use page_follower::FollowEnd;
 use script_value::Reply;
 use shelf::BeginFault;
@@ -17,7 +16,7 @@ use std::alloc::Global;
 use std::test::Fail;
 use test_compactions::files::{Files, Place, Trouble, Wrong, disks_of, left_by};
 use test_shelves::{MemoryShelf, put_away};
-use web_disk::MemoryDisk;
+use web_disk::Wreck;
 
 // Each disk makes fewer calls until a shelf that follows has come to the end of a feed of four records, or is promoted.
 const MOST_CALLS: u64 = 100;
@@ -35,22 +34,25 @@ fn acked(alloc: Global, shelf: &mut MemoryShelf, feed: &[u8]) -> Result<u64, Fai
     }
 }
 
-// How many records of the feed were acknowledged that a journal without records follows, one of whose disks is wrong; and what is left of these.
+// How many records of the feed were acknowledged that a journal without records follows, one of whose disks is wrong; and what such a crash leaves of
+// its disks.
 fn acked_despite(
     alloc: Global,
     feed: &[u8],
     wrong: Wrong,
-) -> Result<(u64, Disks<MemoryDisk>), Fail> {
+    wreck: Wreck,
+) -> Result<(u64, Files), Fail> {
     let disks = disks_of(alloc, &bare(alloc)?, Some(wrong))?;
-    match tried_bare(alloc, disks, Opening::ToFollow, RULES) {
+    let (acks, disks) = match tried_bare(alloc, disks, Opening::ToFollow, RULES) {
         Ok(mut shelf) => {
-            let acks = acked(alloc, &mut shelf, feed)?;
+            let acks = acked(alloc, &mut shelf, feed);
             let (disks, _nonces) = shelf.close();
-            Ok((acks, disks))
+            (acks, disks)
         }
-        Err((BeginFault::DiskFault, disks)) => Ok((0, disks)),
-        Err(_) => Err(Fail::from("another fault")),
-    }
+        Err((fault, disks)) => (if_disk_failed(fault, 0), disks),
+    };
+    let left = left_by(disks, wreck);
+    Ok((acks?, left))
 }
 
 // Whether at least as many records of the feed are held on these files as were acknowledged, and at most one more; the feed goes on from there.
@@ -67,8 +69,7 @@ fn are_held(alloc: Global, files: &Files, feed: &[u8], acks: u64) -> Result<bool
 fn acked_and_held(alloc: Global, feed: &[u8], wrong: Wrong) -> Result<u64, Fail> {
     let mut most: u64 = 0;
     for wreck in WRECKS {
-        let (acks, disks) = acked_despite(alloc, feed, wrong)?;
-        let left = left_by(disks, *wreck);
+        let (acks, left) = acked_despite(alloc, feed, wrong, *wreck)?;
         if !are_held(alloc, &left, feed, acks)? {
             return Err(Fail::from("a record that was acknowledged is gone"));
         }
@@ -126,22 +127,24 @@ fn promote(alloc: Global, shelf: &mut MemoryShelf) -> Result<Went, Fail>
     }
 }
 
-// How promoting the shelf of these files went, one of whose disks is wrong; and what is left of the disks.
+// How promoting the shelf of these files went, one of whose disks is wrong; and what such a crash leaves of the disks.
 fn promoted_despite(
     alloc: Global,
     files: &Files,
     wrong: Wrong,
-) -> Result<(Went, Disks<MemoryDisk>), Fail> {
+    wreck: Wreck,
+) -> Result<(Went, Files), Fail> {
     let disks = disks_of(alloc, files, Some(wrong))?;
-    match tried_bare(alloc, disks, Opening::AsItIs, RULES) {
+    let (went, disks) = match tried_bare(alloc, disks, Opening::AsItIs, RULES) {
         Ok(mut shelf) => {
-            let went = promote(alloc, &mut shelf)?;
+            let went = promote(alloc, &mut shelf);
             let (disks, _nonces) = shelf.close();
-            Ok((went, disks))
+            (went, disks)
         }
-        Err((BeginFault::DiskFault, disks)) => Ok((Went::Unopened, disks)),
-        Err(_) => Err(Fail::from("another fault")),
-    }
+        Err((fault, disks)) => (if_disk_failed(fault, Went::Unopened), disks),
+    };
+    let left = left_by(disks, wreck);
+    Ok((went?, left))
 }
 
 // Whether the shelf of these files follows.
@@ -173,8 +176,7 @@ fn may_follow(went: Went, follows: bool) -> bool {
 fn promoted_whole(alloc: Global, files: &Files, wrong: Wrong) -> Result<bool, Fail> {
     let mut told = false;
     for wreck in WRECKS {
-        let (went, disks) = promoted_despite(alloc, files, wrong)?;
-        let left = left_by(disks, *wreck);
+        let (went, left) = promoted_despite(alloc, files, wrong, *wreck)?;
         if !may_follow(went, goes_on(alloc, &left)?) {
             return Err(Fail::from("a promotion in part"));
         }
@@ -201,7 +203,7 @@ fn expect_whole(alloc: Global, files: &Files, place: Place, trouble: Trouble) ->
 #[test]
 fn a_promotion_that_stops_happened_or_not(rt: HostRuntime) -> Result<(), Fail> {
     let alloc = rt.alloc();
-    let files = follower(alloc, &sums_feed(alloc)?)?;
+    let files = sums_follower(alloc)?;
     for place in PLACES {
         expect_whole(alloc, &files, *place, Trouble::Stops)?;
         expect_whole(alloc, &files, *place, Trouble::Fails)?;
