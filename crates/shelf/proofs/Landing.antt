@@ -96,7 +96,7 @@ told_with t (Finishes f) = tt
 script_there : (l : Library) (b : spec.Book) (t : Ticket) (d : Destination) (s : eval.Segment) (c : spec.Change) → b.scripts ≡ l.setup → HasItsScript l t d → IsChangeBy t s d c → has_script (length b.scripts) c ≡ true
 script_there l b t (start name) s (spec.opens o) setup has is =
     let within = slice_get_within l.setup t.start has.named has.present in
-    let place : o.script ≡ t.start = ap (λ (x : spec.Opening). x.script) is.1.1 in
+    let place : o.script ≡ t.start = ap (λ (x : spec.Opening). x.script) is in
     let many : length b.scripts ≡ length l.setup = ap (λ (ss : List Named). length ss) setup in
     grind (arith, nat_tests, within, place, many)
 script_there l b t (start name) s (spec.extends x) setup has is = refl

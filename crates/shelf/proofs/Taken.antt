@@ -55,13 +55,13 @@ use Rattle.shelf.proofs.Told.{spelled_told}
 -- ---- the number of a ticket's change
 
 pub is_of : (t : Ticket) (s : eval.Segment) (d : Destination) (c : spec.Change) → IsChangeBy t s d c → IsOf t.number c
-is_of t s (start name) (spec.opens o) h = ap (λ (x : spec.Opening). x.number) h.1.1
+is_of t s (start name) (spec.opens o) h = ap (λ (x : spec.Opening). x.number) h
 is_of t s (start name) (spec.extends x) h = absurd h
 is_of t s (start name) (spec.ends e) h = absurd h
 is_of t s (start name) (spec.finishes f) h = absurd h
 is_of t s (start name) (spec.sweeps tick) h = absurd h
 is_of t s (page name n) (spec.opens o) h = absurd h
-is_of t s (page name n) (spec.extends x) h = ap (λ (y : spec.Extension). y.number) h.1.1.1
+is_of t s (page name n) (spec.extends x) h = ap (λ (y : spec.Extension). y.number) h
 is_of t s (page name n) (spec.ends e) h = ap (λ (y : spec.Ending). y.number) h
 is_of t s (page name n) (spec.finishes f) h = ap (λ (y : spec.Finish). y.number) h
 is_of t s (page name n) (spec.sweeps tick) h = absurd h
