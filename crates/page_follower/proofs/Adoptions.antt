@@ -210,7 +210,7 @@ less_to_read (Some x) n before after is nearer within = absurd (cc)
 
 -- ---- the whole feed
 
--- what was done with a feed behind its head, where the records that are held were compared: following went on, or not
+-- what was done with a feed after its head, where the records that are held were compared: following went on, or not
 pub fed_all : {D : Type 0} (view : D → View) (begun between new : Progress) (before read after : D) (held holds : List (List ℕ)) (b : Option FollowEnd)
     (e : FollowEnd) → between.ending ≡ b → HasRested (view before) (view read) held → HasCompared begun between (feed_of held) → new.ending ≡ Some e
     → ((b ≡ None → ⊥) → (new ≡ between) × (holds ≡ held) × (after ≡ read))

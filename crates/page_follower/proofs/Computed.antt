@@ -68,7 +68,7 @@ by_compare bytes held same rest h mid new end.Memory o fits all s c is = absurd 
 
 -- ---- ends after them
 
--- what is told where following ended behind the records that are held
+-- what is told where following ended after the records that are held
 abbrev Adopted : (bytes : List ℕ) → (held fed_before more holds : List (List ℕ)) → (offer : Offer) → (mid new : Progress) → Outcome → Type 0
 Adopted bytes held fed_before more holds offer mid new o =
     (new.sink ≡ mid.sink) × (holds ≡ held ++ more)

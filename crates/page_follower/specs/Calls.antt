@@ -67,7 +67,7 @@ FeedsRest reads sees view old before new after =
     → Adopting view (progress reads sees old) (progress reads sees new) before.journal.disk after.journal.disk
     (bodies_in view before.journal) (bodies_in view after.journal) new.ending
 
--- What a comparer did with the feed of a shelf behind the feed's head.
+-- What a comparer did with the feed of a shelf after the feed's head.
 abbrev pub FeedsAll : {S O D N : Type 0} → (S → SourceView) → (O → SinkView) → (D → View) → (old : Comparer S O) → (before : Shelf D N)
     → (new : Comparer S O) → (after : Shelf D N) → FollowEnd → Type 0
 FeedsAll reads sees view old before new after ending =

@@ -37,7 +37,7 @@ abbrev pub AdmitsEach : (admits : List (List ℕ) → List ℕ → Bool) → (so
 AdmitsEach admits so_far [] = ⊤
 AdmitsEach admits so_far (body ∷ more) = (admits so_far body ≡ true) × AdmitsEach admits (so_far ++ body ∷ []) more
 
--- the record that was offered cannot stand behind these, where following ended for that
+-- the record that was offered cannot stand after these, where following ended for that
 abbrev pub RefusesNext : (admits : List (List ℕ) → List ℕ → Bool) → (so_far : List (List ℕ)) → Offer → Outcome → Type 0
 RefusesNext admits so_far offer o =
     (place : ℕ) (body : List ℕ) → o ≡ refused_at place → offer ≡ refused_record body → admits so_far body ≡ false

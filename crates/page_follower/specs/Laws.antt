@@ -26,7 +26,7 @@ CutFeedsHoldTheFirst =
 
 -- From the moment on at which records were acknowledged, a crash leaves these after those that the disk held before, and after them the first of
 -- those that came later; so one now does. So it is for each number of them: there was a disk and an output when they and no others had been
--- acknowledged. A crash at any moment before that left those that were held before, and behind them the first of all. A record that was refused is
+-- acknowledged. A crash at any moment before that left those that were held before, and after them the first of all. A record that was refused is
 -- none of them.
 abbrev pub AcknowledgedRecordsAreHeld : {D : Type 0} → (D → View) → Type 0
 AcknowledgedRecordsAreHeld {D} view =

@@ -34,7 +34,7 @@ AreFed {D} view held old sink acks (body ∷ more) told new =
     (mid : D) × (between : SinkView) × HasGained (view old) (view mid) held body × IsAcked sink between (acks + 1)
     × AreFed view (held ++ body ∷ []) mid between (acks + 1) more told new
 
--- The record that was offered behind others and not acknowledged. There was none; or it was refused, and the disk was not asked to write it; or the
+-- The record that was offered after others and not acknowledged. There was none; or it was refused, and the disk was not asked to write it; or the
 -- disk was asked to write it, whatever came of that.
 pub data Offer : Type 0 where
   no_record : Offer
@@ -69,7 +69,7 @@ Moments = (sink : SinkView) → (acks : ℕ) → (more : List (List ℕ)) → (t
 
 -- ---- what a crash finds
 
--- the record that may be in flight behind others: the one that the disk was asked to write, if there is one, alone
+-- the record that may be in flight after others: the one that the disk was asked to write, if there is one, alone
 abbrev pub in_flight : Offer → List (List ℕ)
 in_flight no_record = []
 in_flight (refused_record body) = []
