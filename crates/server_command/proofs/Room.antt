@@ -85,7 +85,7 @@ room_fits rules b r inside (Some c) short =
 stopped_fits : (rules : Rules) (b : Book) (gone : List ℕ) (v : Visit) (s : Segment) (o : Outcome) → b.length ≤ 2 ^ 30 → Fits rules b (stopped rules b gone v s o)
 stopped_fits rules b gone v s (tape.paged how bytes) short =
     let reply = reply_by how bytes (url_for v) in
-    let change = change_by (b.clock + rules.life) gone v s v.origin how in
+    let change = change_by rules b gone v s v.origin how in
     unless_fits rules b (full rules how v.origin (length b.instances)) (with_room rules b reply s.entered change)
     (λ e. room_fits rules b reply s.entered change short)
 stopped_fits rules b gone v s (tape.faulted f) short = tt
