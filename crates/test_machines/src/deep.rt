@@ -3,13 +3,14 @@ ghost use Rattle.std.specs.Prelude.{◌≡◌, ◌<◌, ◌^◌};
 use core_syntax::expand;
 use instance_cells::Cells;
 use script_nodes::Script;
-use script_value::{Str, Value};
+use script_value::{Str, TxName, Value};
 use send_suspend::{Origin, Outcome, Segment, Steps, run_segment};
 use sexp_reader::read_all;
 use std::alloc::{AllocError, Global};
 use std::marker::Brand;
 use std::sync::ledger::{Blank, Ledger};
 use std::test::Fail;
+use transactions::inside;
 
 // A page within so many bindings, each in the body of the one before.
 fn nested(alloc: Global, depth: u32) -> Result<String, AllocError> {
@@ -128,6 +129,33 @@ fn ends(alloc: Global, text: &str, fuel: u32) -> Result<bool, Fail> {
         Outcome::Ended(_) => true,
         _ => false,
     })
+}
+
+// The transactions that a script's first page is inside.
+fn names_inside(alloc: Global, text: &str) -> Result<Vec<TxName>, Fail> {
+    let script = expand(alloc, read_all(alloc, text.as_bytes())?.as_slice())?;
+    let run = started(alloc, &script, 1_000)?;
+    match &run.outcome {
+        Outcome::Shown { state, .. } => Ok(inside(alloc, state)?),
+        _ => Err(Fail::from("no page that waits")),
+    }
+}
+
+#[test]
+fn a_page_is_inside_the_transactions_that_are_open_around_it(rt: HostRuntime) -> Result<(), Fail> {
+    let text =
+        "(isolate (begin (isolate 1) (isolate (send/suspend (lambda (k-url) '(p \"in\"))))))";
+    let outer = TxName {
+        ticket: 0,
+        entry: 0,
+    };
+    let inner = TxName {
+        ticket: 0,
+        entry: 2,
+    };
+    let names = names_inside(rt.alloc(), text)?;
+    assert_eq!(rt; names.as_slice(), [outer, inner].as_slice());
+    Ok(())
 }
 
 #[test]
