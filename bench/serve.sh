@@ -4,16 +4,19 @@
 # 1, 8 and 64 clients that keep their links (clients.c) ask four workers over four shelves, for what is unknown and for
 # visits, four of each shelf, in memory and with a journal, beside four bare loops that keep their links, up to 100 requests
 # a link as `serve` does. Beside the visits with a journal stand bare loops of write, sync, write, sync of as many bytes
-# (sync_loop.c), one for each client and four at most. Of each column it prints what part of its loops' figure it is, and over
-# how many connections the visits came. At last 64 links are held open and idle, and visitors come (idle_links.c): where one
-# waits for 50 milliseconds or more, it fails. The first word says how many requests one client sends, 1,000 if it is not
-# given, the second how many those that keep their links, 20,000. No part of the gate. Needs curl, cc, and a date that knows
+# (sync_loop.c), one for each client and four at most. That is done in rounds, each of all columns one after the other, since
+# figures of one client differ by half from one second to the next: where its thread and a worker's run decides. Printed are
+# the median of each column, what part of its loops' median it is, and over how many connections the visits came in the last
+# round. At last 64 links are held open and idle, and visitors come (idle_links.c): where one waits for 50 milliseconds or
+# more, it fails. The first word says how many requests one client sends, 1,000 if it is not given, the second how many those
+# that keep their links, 20,000, the third how many rounds, five. No part of the gate. Needs curl, cc, and a date that knows
 # %N.
 
 here=$(CDPATH='' cd -- "$(dirname -- "$0")/.." && pwd) || exit 1
 work=$(mktemp -d "${TMPDIR:-/tmp}/hovgyelit-serve.XXXXXX") || exit 1
 server=
 kept=${2:-20000}
+rounds=${3:-5}
 trap '[ -z "$server" ] || kill "$server" 2>/dev/null; rm -rf "$work"' EXIT
 trap 'exit 1' HUP INT TERM
 
@@ -149,7 +152,29 @@ echo /servlets/other >"$work/unknown"
 "$work/bare_loop" 1000000 4 100 2>"$work/there" &
 bare_loops=$!
 there=$(address_in "$work/there") || exit 1
-echo "requests a second over kept links, $kept requests, four workers, four shelves"
+# The medians of the five columns of a file.
+medians() {
+    for column in 1 2 3 4 5; do
+        cut -d' ' -f"$column" "$1" | sort -n | sed -n "$(((rounds + 1) / 2))p"
+    done | paste -s -d' '
+}
+
+# One round of so many clients.
+round() {
+    unknown=$(kept_rate "$in_memory" "$1" "$work/unknown") || exit 1
+    memory=$(kept_rate "$in_memory" "$1" "$work/visits_in_memory") || exit 1
+    read -r _ _ _ memory_links <"$work/said"
+    before=$(journal_bytes)
+    journal=$(kept_rate "$host" "$1" "$work/visits") || exit 1
+    record=$((($(journal_bytes) - before + kept / 2) / kept))
+    bare=$(kept_rate "$there" "$1" "$work/unknown") || exit 1
+    read -r _ _ _ bare_links <"$work/said"
+    files=$(($1 < 4 ? $1 : 4))
+    syncs=$("$work/sync_loop" "$work/synced" "$((kept / files))" "$record" "$files") || fail "the sync loops ended badly"
+    echo "$unknown $memory $journal $bare $syncs" >>"$work/rounds"
+}
+
+echo "requests a second over kept links, $kept requests, four workers, four shelves, medians of $rounds rounds"
 echo "clients  unknown  visits in memory  visits with a journal  bare loops  sync loops"
 start_server -
 in_memory=$host
@@ -160,18 +185,12 @@ start_server "$work/journal"
 visits
 : >"$work/parts"
 for clients in 1 8 64; do
-    unknown=$(kept_rate "$in_memory" "$clients" "$work/unknown") || exit 1
-    memory=$(kept_rate "$in_memory" "$clients" "$work/visits_in_memory") || exit 1
-    read -r _ _ _ memory_links <"$work/said"
-    before=$(journal_bytes)
-    journal=$(kept_rate "$host" "$clients" "$work/visits") || exit 1
-    record=$((($(journal_bytes) - before + kept / 2) / kept))
-    bare=$(kept_rate "$there" "$clients" "$work/unknown") || exit 1
-    read -r _ _ _ bare_links <"$work/said"
-    files=$((clients < 4 ? clients : 4))
-    syncs=$("$work/sync_loop" "$work/synced" "$((kept / files))" "$record" "$files") || fail "the sync loops ended badly"
-    printf '%7s %8s %17s %22s %11s %11s\n' "$clients" "$unknown" "$memory" "$journal" "$bare" "$syncs"
-    echo "$clients $unknown $memory $journal $bare $syncs $memory_links $bare_links" >>"$work/parts"
+    : >"$work/rounds"
+    for _ in $(seq "$rounds"); do round "$clients"; done
+    figures=$(medians "$work/rounds")
+    # shellcheck disable=SC2086 # five words
+    printf '%7s %8s %17s %22s %11s %11s\n' "$clients" $figures
+    echo "$clients $figures $memory_links $bare_links" >>"$work/parts"
 done
 awk '{
     printf "%s clients: unknown %.2f and visits in memory %.2f of the bare loops, visits with a journal %.2f of the sync loops\n",
