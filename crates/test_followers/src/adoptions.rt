@@ -3,10 +3,10 @@ ghost use Rattle.std.specs.Prelude.{true};
 ghost use Rattle.disk_trio.specs.Trio.{trio_view};
 ghost use Rattle.shelf.specs.Following.{IsInOrderIfFed};
 
-use crate::feeds::{bodies_in, feed_of, feed_with, first_of};
-use crate::followed::{held, sums_follower, waiting};
+use crate::feeds::{bodies_in, feed_of, feed_with, first_of, is_feed_with};
+use crate::followed::{expect_held, sums_follower, waiting};
 use crate::openings::{Opening, RULES, opened_bare, tried_bare};
-use crate::sums::{bare, leader};
+use crate::sums::{bare, leader, sums_bodies};
 use script_value::Reply;
 use shelf::{AdoptFault, BeginFault};
 use std::alloc::Global;
@@ -89,35 +89,62 @@ const PROMOTED: &[u8] = b"\x09";
 
 const A_SWEEP: &[u8] = b"\x05\x07\0\0\0\0\0\0\0";
 
+// Whether a shelf of these files, opened so, answers this to a record.
+fn answers(
+    alloc: Global,
+    files: &Files,
+    opening: Opening,
+    body: &[u8],
+    wanted: Result<(), AdoptFault>,
+) -> Result<bool, Fail> {
+    Ok(answer(alloc, files, opening, body)? == wanted)
+}
+
+// Whether a shelf of these files, opened so, tells that it leads to a record that no journal has, and to a sweep.
+fn leads(alloc: Global, files: Files, opening: Opening) -> Result<bool, Fail> {
+    let told = answers(alloc, &files, opening, NO_RECORD, Err(AdoptFault::Leader))?;
+    let swept = answers(alloc, &files, opening, A_SWEEP, Err(AdoptFault::Leader))?;
+    Ok(told && swept)
+}
+
 // That a shelf leads is told before what is asked of the record.
 #[test]
 fn a_shelf_that_leads_is_fed_nothing(rt: HostRuntime) -> Result<(), Fail> {
     let alloc = rt.alloc();
-    let leads: Result<(), AdoptFault> = Err(AdoptFault::Leader);
-    let files = leader(alloc)?;
-    for body in [NO_RECORD, A_SWEEP] {
-        assert_eq!(rt; answer(alloc, &files, Opening::ToFollow, body)?, leads);
-        assert_eq!(rt;
-            answer(alloc, &nothing(alloc), Opening::AsItIs, body)?,
-            leads
-        );
-    }
+    assert!(rt; leads(alloc, leader(alloc)?, Opening::ToFollow)?);
+    assert!(rt; leads(alloc, nothing(alloc), Opening::AsItIs)?);
     Ok(())
+}
+
+// Whether a shelf of these files, opened so, refuses this record and those that have no place after others, and takes a sweep.
+fn takes_a_sweep_alone(
+    alloc: Global,
+    files: &Files,
+    opening: Opening,
+    first: &[u8],
+) -> Result<bool, Fail> {
+    for body in [NO_RECORD, FOLLOW, PROMOTED, first] {
+        if !answers(alloc, files, opening, body, Err(AdoptFault::Outside))? {
+            return Ok(false);
+        }
+    }
+    answers(alloc, files, opening, A_SWEEP, Ok(()))
+}
+
+// Whether a shelf of these files refuses the first of their records, and those that have no place, however it is opened.
+fn refuses_its_first(alloc: Global, files: &Files, bodies: &[Vec<u8>]) -> Result<bool, Fail> {
+    let first = bodies.first().ok_or("no record")?.as_slice();
+    let as_it_is = takes_a_sweep_alone(alloc, files, Opening::AsItIs, first)?;
+    let to_follow = takes_a_sweep_alone(alloc, files, Opening::ToFollow, first)?;
+    Ok(as_it_is && to_follow)
 }
 
 #[test]
 fn a_record_outside_its_place_is_refused(rt: HostRuntime) -> Result<(), Fail> {
     let alloc = rt.alloc();
     let files = sums_follower(alloc)?;
-    let outside: Result<(), AdoptFault> = Err(AdoptFault::Outside);
     let bodies = bodies_in(alloc, &files.a)?;
-    let first = bodies.first().ok_or("no record")?.as_slice();
-    for opening in [Opening::AsItIs, Opening::ToFollow] {
-        for body in [NO_RECORD, FOLLOW, PROMOTED, first] {
-            assert_eq!(rt; answer(alloc, &files, opening, body)?, outside);
-        }
-        assert_eq!(rt; answer(alloc, &files, opening, A_SWEEP)?, Ok(()));
-    }
+    assert!(rt; refuses_its_first(alloc, &files, &bodies)?);
     Ok(())
 }
 
@@ -199,18 +226,23 @@ fn fed_despite(
     Ok((went?, left))
 }
 
-// How many records of these are held on such files: at most all, and they are the first ones.
-fn held_of(alloc: Global, files: &Files, bodies: &[Vec<u8>]) -> Result<usize, Fail> {
-    let feed = feed_of(alloc, files)?;
+// How many of these bodies a feed has: at most all, and they are the first ones.
+fn count_in(alloc: Global, feed: &[u8], bodies: &[Vec<u8>]) -> Result<usize, Fail> {
     for (count, _) in bodies.iter().enumerate() {
-        if feed == feed_with(alloc, first_of(bodies, count))? {
+        if is_feed_with(alloc, feed, first_of(bodies, count))? {
             return Ok(count);
         }
     }
-    if feed == feed_with(alloc, bodies)? {
+    if is_feed_with(alloc, feed, bodies)? {
         return Ok(bodies.len());
     }
     Err(Fail::from("other records"))
+}
+
+// How many records of these are held on such files.
+fn held_of(alloc: Global, files: &Files, bodies: &[Vec<u8>]) -> Result<usize, Fail> {
+    let feed = feed_of(alloc, files)?;
+    count_in(alloc, &feed, bodies)
 }
 
 // Whether so many records may be held after feeding that went so.
@@ -249,8 +281,23 @@ impl Counts {
     }
 }
 
-// Counts how feeding went after which such a crash came, and tells it. What is held then is what was adopted, or one record more; the whole feed goes
-// on from there.
+// Refuses files that do not hold the feed of these bodies once they are fed it.
+fn expect_all(alloc: Global, files: &Files, bodies: &[Vec<u8>]) -> Result<(), Fail> {
+    let feed = feed_with(alloc, bodies)?;
+    expect_held(alloc, files, &feed, bodies.len() as u64)
+}
+
+// How many records are held on the files that feeding left, which went so: what was adopted, or one record more; the whole feed goes on from there.
+fn held_after(alloc: Global, left: &Files, bodies: &[Vec<u8>], went: Went) -> Result<usize, Fail> {
+    let count = held_of(alloc, left, bodies)?;
+    if !may_hold(went, count, bodies.len()) {
+        return Err(Fail::from("a record was lost, or came from nowhere"));
+    }
+    expect_all(alloc, left, bodies)?;
+    Ok(count)
+}
+
+// Counts how feeding went after which such a crash came, and tells it.
 fn count_crash(
     alloc: Global,
     files: &Files,
@@ -260,12 +307,7 @@ fn count_crash(
     counts: &mut Counts,
 ) -> Result<Went, Fail> {
     let (went, left) = fed_despite(alloc, files, bodies, wrong, wreck)?;
-    let count = held_of(alloc, &left, bodies)?;
-    if !may_hold(went, count, bodies.len()) {
-        return Err(Fail::from("a record was lost, or came from nowhere"));
-    }
-    let feed = feed_with(alloc, bodies)?;
-    let _whole = held(alloc, &left, &feed, bodies.len() as u64)?;
+    let count = held_after(alloc, &left, bodies, went)?;
     counts.count(went, more_held(went, count));
     Ok(went)
 }
@@ -310,7 +352,7 @@ fn count_calls(
 
 // How feeding goes where a call of one of the disks is wrong, each of those in turn, and after each of these crashes.
 fn counted(alloc: Global, files: &Files, trouble: Trouble) -> Result<Counts, Fail> {
-    let bodies = bodies_in(alloc, &leader(alloc)?.a)?;
+    let bodies = sums_bodies(alloc)?;
     let mut counts = Counts {
         unopened: 0,
         fell: 0,

@@ -6,7 +6,7 @@ ghost use Rattle.disk_trio.specs.Trio.{trio_view};
 ghost use Rattle.shelf.specs.Views.{IsInOrder};
 
 use crate::feeds::feed_in;
-use crate::followed::{held, sums_follower, waiting};
+use crate::followed::{new_follower, sums_follower, waiting};
 use crate::openings::RULES;
 use script_nodes::Setup;
 use script_value::Reply;
@@ -15,7 +15,7 @@ use std::test::Fail;
 use test_compactions::files::Files;
 use test_compactions::sums::{left_on_disks, nothing, opened, sums_setup};
 use test_compactions::visits::swept;
-use test_shelves::{MemoryShelf, answered, datum, setup};
+use test_shelves::{MemoryShelf, SUM, answered, datum, setup};
 
 // A start, pages that are there and that are not, names of no script, and another shelf's page.
 const PATHS: &[&str] = &[
@@ -97,24 +97,51 @@ fn asked(alloc: Global, files: &Files, setup: &Setup, clock: u64) -> Result<File
     Ok(files)
 }
 
+// Whether the shelf of these files, of this setup, does nothing but to tell that it follows.
+fn stays(alloc: Global, files: &Files, setup: &Setup, clock: u64) -> Result<bool, Fail>
+    requires { IsReadSetup (scripts_of setup.now) }
+{
+    let left = asked(alloc, files, setup, clock)?;
+    Ok(left.a == files.a && left.b.is_empty() && left.root == files.root)
+}
+
+// Whether the shelf of these files, of these scripts, does nothing but to tell that it follows.
+fn stays_with(
+    alloc: Global,
+    files: &Files,
+    scripts: &[(&str, &str)],
+    clock: u64,
+) -> Result<bool, Fail> {
+    let setup = setup(alloc, scripts)?;
+    stays(alloc, files, &setup, clock)
+}
+
 // Whether the shelf of these files, of each of two setups, does nothing but to tell that it follows.
-fn does_nothing(alloc: Global, files: &Files, clock: u64) -> Result<bool, Fail> {
-    let once = asked(alloc, files, &sums_setup(alloc)?, clock)?;
-    let twice = asked(alloc, files, &setup(alloc, &[("a", "'a")])?, clock)?;
-    Ok(once.a == files.a && twice.a == files.a && once.b.is_empty() && once.root == files.root)
+fn does_nothing(alloc: Global, files: Files, clock: u64) -> Result<bool, Fail> {
+    let sums = stays_with(alloc, &files, &[("sum", SUM)], clock)?;
+    let other = stays_with(alloc, &files, &[("a", "'a")], clock)?;
+    Ok(sums && other)
 }
 
 #[test]
 fn a_shelf_that_follows_does_nothing_else(rt: HostRuntime) -> Result<(), Fail> {
     let alloc = rt.alloc();
-    assert!(rt; does_nothing(alloc, &sums_follower(alloc)?, 0)?);
-    assert!(rt; does_nothing(alloc, &waiting(alloc)?, 0)?, "fed nothing");
+    assert!(rt; does_nothing(alloc, sums_follower(alloc)?, 0)?);
+    assert!(rt; does_nothing(alloc, waiting(alloc)?, 0)?, "fed nothing");
     Ok(())
 }
 
 // The feed of a shelf of sums that was swept at 50, with two records.
 fn swept_feed(alloc: Global) -> Result<Vec<u8>, Fail> {
-    let files = swept_files(alloc, &sums_setup(alloc)?)?;
+    let setup = sums_setup(alloc)?;
+    swept_feed_with(alloc, &setup)
+}
+
+// The feed of a shelf of this setup that was swept at 50.
+fn swept_feed_with(alloc: Global, setup: &Setup) -> Result<Vec<u8>, Fail>
+    requires { IsReadSetup (scripts_of setup.now) }
+{
+    let files = swept_files(alloc, setup)?;
     feed_in(alloc, &files.a)
 }
 
@@ -129,10 +156,15 @@ fn swept_files(alloc: Global, setup: &Setup) -> Result<Files, Fail>
     Ok(files)
 }
 
+// What stands on the disks of a new follower of a shelf of sums that was swept at 50.
+fn swept_follower(alloc: Global) -> Result<Files, Fail> {
+    let feed = swept_feed(alloc)?;
+    new_follower(alloc, &feed, 2)
+}
+
 #[test]
 fn a_follower_has_the_clock_of_its_leader(rt: HostRuntime) -> Result<(), Fail> {
     let alloc = rt.alloc();
-    let files = held(alloc, &nothing(alloc), &swept_feed(alloc)?, 2)?;
-    assert!(rt; does_nothing(alloc, &files, 50)?);
+    assert!(rt; does_nothing(alloc, swept_follower(alloc)?, 50)?);
     Ok(())
 }

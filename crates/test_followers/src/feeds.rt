@@ -113,8 +113,25 @@ pub fn feed_in(alloc: Global, file: &[u8]) -> Result<Vec<u8>, Fail> {
     feed_with(alloc, bodies.as_slice())
 }
 
+/// Whether a feed is that of these bodies.
+pub fn is_feed_with(alloc: Global, feed: &[u8], bodies: &[Vec<u8>]) -> Result<bool, Fail> {
+    let other = feed_with(alloc, bodies)?;
+    Ok(other.as_slice() == feed)
+}
+
+/// Whether this is the feed of these files.
+pub fn has_feed(alloc: Global, files: &Files, feed: &[u8]) -> Result<bool, Fail> {
+    let other = feed_of(alloc, files)?;
+    Ok(other.as_slice() == feed)
+}
+
+/// Whether these files have the feed of the others.
+pub fn has_feed_of(alloc: Global, files: &Files, others: &Files) -> Result<bool, Fail> {
+    let feed = feed_of(alloc, others)?;
+    has_feed(alloc, files, &feed)
+}
+
 /// Whether the feed of these files is its head alone.
 pub fn has_no_records(alloc: Global, files: &Files) -> Result<bool, Fail> {
-    let feed = feed_of(alloc, files)?;
-    Ok(feed.as_slice() == HEAD)
+    has_feed(alloc, files, HEAD)
 }

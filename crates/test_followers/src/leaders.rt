@@ -1,14 +1,16 @@
 //! Feeds of journals that were compacted, of an older format, and of several setups; and what a follower of each goes on with once it is promoted.
-ghost use Rattle.std.specs.Prelude.{true};
+ghost use Rattle.std.specs.Prelude.{true, IfOk};
 ghost use Rattle.script_nodes.specs.Views.{scripts_of};
 ghost use Rattle.setup_reader.specs.Texts.{IsReadSetup};
 ghost use Rattle.disk_trio.specs.Trio.{trio_view};
 ghost use Rattle.shelf.specs.Views.{IsInOrder};
 
-use crate::feeds::{HEAD, bodies_in, feed_of, feed_with};
-use crate::followed::{followed, held, promoted, sums_follower};
+use crate::feeds::{bodies_in, feed_of, feed_with, has_feed};
+use crate::followed::{
+    followed, held, new_follower, promoted, promoted_sums, refused, sums_follower,
+};
 use crate::openings::{Opening, RULES, opened_bare};
-use crate::sums::{SEVEN, visited};
+use crate::sums::{SEVEN, expect_seven, sums_feed, visited};
 use page_follower::FollowEnd;
 use script_nodes::Setup;
 use std::alloc::Global;
@@ -20,16 +22,51 @@ use test_compactions::sums::{VISITS, left_on_disks, nothing, opened, sums_setup,
 use test_compactions::visits::{Told, Visit, compacted, expect_visits};
 use test_shelves::{MemoryShelf, setup};
 
+// What stands on the disks of these files once they are fed the feed of a leader, of so many records.
+fn fed_of(alloc: Global, files: &Files, leader: &Files, records: u64) -> Result<Files, Fail> {
+    let feed = feed_of(alloc, leader)?;
+    held(alloc, files, &feed, records)
+}
+
+// Whether another feeding left these files as they were, of which this is the feed.
+fn is_kept(alloc: Global, files: &Files, before: &Files, feed: &[u8]) -> Result<bool, Fail> {
+    Ok(files.a == before.a && has_feed(alloc, files, feed)?)
+}
+
+// What stands on the disks of a follower of this feed, of so many records, once it was fed it again, which changes nothing.
+fn fed_again(alloc: Global, once: &Files, feed: &[u8], records: u64) -> Result<Files, Fail> {
+    let twice = held(alloc, once, feed, records)?;
+    if is_kept(alloc, &twice, once, feed)? {
+        return Ok(twice);
+    }
+    Err(Fail::from("another feed"))
+}
+
+// What stands on the disks of a new follower of this feed, of so many records, once it was fed it twice.
+fn fed_twice(alloc: Global, feed: &[u8], records: u64) -> Result<Files, Fail> {
+    let once = new_follower(alloc, feed, records)?;
+    fed_again(alloc, &once, feed, records)
+}
+
 // What stands on the disks of a new follower of the shelf of these files, which has so many records. Its feed is its leader's, and after another
 // feeding it is still.
 fn follower_of(alloc: Global, leader: &Files, records: u64) -> Result<Files, Fail> {
     let feed = feed_of(alloc, leader)?;
-    let once = held(alloc, &nothing(alloc), &feed, records)?;
-    let twice = held(alloc, &once, &feed, records)?;
-    if once.a == twice.a && feed_of(alloc, &twice)? == feed {
-        return Ok(twice);
-    }
-    Err(Fail::from("another feed"))
+    fed_twice(alloc, &feed, records)
+}
+
+// What stands on the disks of a new follower of the shelf of these files, which has so many records, once it is promoted.
+fn promoted_of(alloc: Global, leader: &Files, records: u64) -> Result<Files, Fail> {
+    let files = follower_of(alloc, leader, records)?;
+    promoted(alloc, &files, true)
+}
+
+// Refuses files whose shelf, of this setup, does not go on with these visits.
+fn expect_visited(alloc: Global, files: &Files, setup: &Setup, visits: &[Visit]) -> Result<(), Fail>
+    requires { IsReadSetup (scripts_of setup.now) }
+{
+    let _visited = visited_with(alloc, files, setup, visits, RULES)?;
+    Ok(())
 }
 
 // Refuses a leader of these files and so many records, a new follower of which does not go on with these visits once it is promoted.
@@ -42,9 +79,14 @@ fn expect_goes_on(
 ) -> Result<(), Fail>
     requires { IsReadSetup (scripts_of setup.now) }
 {
-    let files = promoted(alloc, &follower_of(alloc, leader, records)?, true)?;
-    let _visited = visited_with(alloc, &files, setup, visits, RULES)?;
-    Ok(())
+    let files = promoted_of(alloc, leader, records)?;
+    expect_visited(alloc, &files, setup, visits)
+}
+
+// Refuses a leader of sums of these files and so many records, a new follower of which does not go on with the visits after its leader's.
+fn expect_sums_go_on(alloc: Global, leader: &Files, records: u64) -> Result<(), Fail> {
+    let setup = sums_setup(alloc)?;
+    expect_goes_on(alloc, leader, records, &setup, SEVEN)
 }
 
 // A journal of this format with these records after the first one, and how many records it has once it is of the newest format.
@@ -71,18 +113,49 @@ fn reopened(alloc: Global, files: &Files) -> Result<Files, Fail> {
     Ok(left_on_disks(shelf))
 }
 
+// What stands on the disks of a journal of this format, with these records after the first one.
+fn old_files(alloc: Global, format: u8, parts: &[&[&[u8]]]) -> Result<Files, Fail> {
+    Ok(files_with(alloc, file_of(alloc, format, SCRIPTS, parts)?))
+}
+
+// Whether the feed of these files is that of these bodies.
+fn tells(alloc: Global, files: &Files, bodies: &[Vec<u8>]) -> Result<bool, Fail> {
+    let feed = feed_with(alloc, bodies)?;
+    has_feed(alloc, files, &feed)
+}
+
+// How many records a migrated journal has, which the feed of the old one has to tell.
+fn records_of(alloc: Global, old: &Files, migrated: &Files) -> Result<u64, Fail> {
+    let bodies = bodies_in(alloc, newest_file(migrated))?;
+    if tells(alloc, old, &bodies)? {
+        return Ok(bodies.len() as u64);
+    }
+    Err(Fail::from("another feed than the migrated file's"))
+}
+
+// Refuses a journal of so many records whose follower does not go on with each of the pages of an older format.
+fn expect_answers(alloc: Global, files: &Files, records: u64) -> Result<(), Fail> {
+    let setup = setup(alloc, SCRIPTS)?;
+    expect_goes_on(alloc, files, records, &setup, ANSWERS)
+}
+
+// Refuses a journal, as it was and migrated, whose feed does not tell each of its pages.
+fn expect_both_followed(alloc: Global, old: &Files, migrated: &Files) -> Result<(), Fail> {
+    let records = records_of(alloc, old, migrated)?;
+    expect_answers(alloc, old, records)?;
+    expect_answers(alloc, migrated, records)
+}
+
+// Refuses files of an older format whose feed does not tell each of their pages.
+fn expect_old_followed(alloc: Global, old: &Files) -> Result<(), Fail> {
+    let migrated = reopened(alloc, old)?;
+    expect_both_followed(alloc, old, &migrated)
+}
+
 // Refuses a journal of an older format whose feed does not tell each of its pages.
 fn expect_followed(alloc: Global, format: u8, parts: &[&[&[u8]]]) -> Result<(), Fail> {
-    let setup = setup(alloc, SCRIPTS)?;
-    let old = files_with(alloc, file_of(alloc, format, SCRIPTS, parts)?);
-    let migrated = reopened(alloc, &old)?;
-    let bodies = bodies_in(alloc, newest_file(&migrated))?;
-    let records = bodies.len() as u64;
-    if feed_of(alloc, &old)? != feed_with(alloc, &bodies)? {
-        return Err(Fail::from("another feed than the migrated file's"));
-    }
-    expect_goes_on(alloc, &old, records, &setup, ANSWERS)?;
-    expect_goes_on(alloc, &migrated, records, &setup, ANSWERS)
+    let old = old_files(alloc, format, parts)?;
+    expect_old_followed(alloc, &old)
 }
 
 #[test]
@@ -94,8 +167,8 @@ fn journals_of_older_formats_are_followed(rt: HostRuntime) -> Result<(), Fail> {
     Ok(())
 }
 
-// What stands on the disks of the shelf of these files behind visits and a compaction.
-fn compacted_behind(
+// What stands on the disks of the shelf of these files after visits and a compaction.
+fn compacted_after(
     alloc: Global,
     files: &Files,
     setup: &Setup,
@@ -113,7 +186,12 @@ fn compacted_behind(
 // What stands on the disks of the shelf of these files after visits and a compaction, with the setup of the script that tells sums.
 fn compacted_sums(alloc: Global, files: &Files, visits: &[Visit]) -> Result<Files, Fail> {
     let setup = sums_setup(alloc)?;
-    compacted_behind(alloc, files, &setup, visits)
+    compacted_after(alloc, files, &setup, visits)
+}
+
+// What stands on the disks of a leader of sums that is compacted after its visits.
+fn compacted_leader(alloc: Global) -> Result<Files, Fail> {
+    compacted_sums(alloc, &nothing(alloc), VISITS)
 }
 
 // How long the file is that a compaction makes after these visits.
@@ -128,30 +206,51 @@ fn visited_and_compacted(
     compacted(alloc, shelf)
 }
 
-// A compaction leaves out the last visit. Behind the first record stands the number that is drawn next.
+// The record that tells that three numbers were drawn.
+const THREE_DRAWN: &[u8] = b"\x07\x03\0\0\0\0\0\0\0";
+
+// Whether the second one of some bodies is this one.
+fn is_second(bodies: &[Vec<u8>], body: &[u8]) -> bool {
+    match bodies.get(1) {
+        Some(second) => second.as_slice() == body,
+        None => false,
+    }
+}
+
+// How many records a file has whose second one has this body.
+fn records_with_second(alloc: Global, file: &[u8], body: &[u8]) -> Result<u64, Fail> {
+    let bodies = bodies_in(alloc, file)?;
+    if is_second(&bodies, body) {
+        return Ok(bodies.len() as u64);
+    }
+    Err(Fail::from("another second record"))
+}
+
+// A compaction leaves out the last visit. After the first record stands the number that is drawn next.
 #[test]
 fn a_compacted_journal_is_followed(rt: HostRuntime) -> Result<(), Fail> {
     let alloc = rt.alloc();
-    let setup = sums_setup(alloc)?;
-    let files = compacted_behind(alloc, &nothing(alloc), &setup, VISITS)?;
-    let bodies = bodies_in(alloc, newest_file(&files))?;
-    let drawn = bodies.get(1).ok_or("no second record")?;
-    assert_eq!(rt; drawn.as_slice(), b"\x07\x03\0\0\0\0\0\0\0".as_slice());
-    expect_goes_on(alloc, &files, bodies.len() as u64, &setup, SEVEN)
+    let files = compacted_leader(alloc)?;
+    let records = records_with_second(alloc, newest_file(&files), THREE_DRAWN)?;
+    expect_sums_go_on(alloc, &files, records)
 }
 
-// A follower holds the records of its leader's older file: it does not go on with the newer one.
+// The feed of a leader of sums that is compacted after its visits.
+fn compacted_feed(alloc: Global) -> Result<Vec<u8>, Fail> {
+    let files = compacted_leader(alloc)?;
+    feed_of(alloc, &files)
+}
+
+// A follower holds the records of its leader's older file: it does not go on with the newer one, and nothing of it is written.
 #[test]
 fn a_compaction_ends_following(rt: HostRuntime) -> Result<(), Fail> {
     let alloc = rt.alloc();
     let files = sums_follower(alloc)?;
-    let short = compacted_sums(alloc, &nothing(alloc), VISITS)?;
-    let after = followed(alloc, &files, &feed_of(alloc, &short)?)?;
+    let feed = compacted_feed(alloc)?;
     assert_eq!(rt;
-        (after.end, after.acks),
+        refused(alloc, &files, &feed)?,
         (FollowEnd::Other { place: 300 }, 1)
     );
-    assert_eq!(rt; after.files.a.as_slice(), files.a.as_slice());
     Ok(())
 }
 
@@ -189,35 +288,70 @@ const PAGES: &[Visit] = &[
     },
 ];
 
+// The setup of this version of the script.
+fn version_setup(alloc: Global, version: usize) -> Result<Setup, Fail>
+    ensures { IfOk result (λ s. IsReadSetup (scripts_of s)) }
+{
+    match VERSIONS.get(version) {
+        Some(text) => setup(alloc, &[("s", text)]),
+        None => Err(Fail::from("no such version")),
+    }
+}
+
 // What stands on the disks of these files after a start of this version.
 fn started(alloc: Global, files: &Files, version: usize) -> Result<Files, Fail> {
-    let (Some(text), Some(start)) = (VERSIONS.get(version), STARTS.get(version)) else {
-        return Err(Fail::from("no such version"));
-    };
-    let setup = setup(alloc, &[("s", text)])?;
+    let start = STARTS.get(version).ok_or("no such start")?;
+    let setup = version_setup(alloc, version)?;
     visited_with(alloc, files, &setup, &[*start], RULES)
 }
 
-// What stands on the disks of a promoted follower of the first of these, once it was fed the other one too, which has four records.
-fn fed_twice(alloc: Global, first: &Files, both: &Files) -> Result<Files, Fail> {
+// What stands on the disks of a new follower of the first of these, once it was fed the other one too, which has four records.
+fn fed_both(alloc: Global, first: &Files, both: &Files) -> Result<Files, Fail> {
     let early = follower_of(alloc, first, 2)?;
-    let late = held(alloc, &early, &feed_of(alloc, both)?, 4)?;
+    fed_of(alloc, &early, both, 4)
+}
+
+// What stands on the disks of such a follower, fed both, once it is promoted.
+fn promoted_fed_both(alloc: Global, first: &Files, both: &Files) -> Result<Files, Fail> {
+    let late = fed_both(alloc, first, both)?;
     promoted(alloc, &late, true)
 }
 
-// The feed of a leader is longer behind another setup. Its follower has each: promoted, it goes on with both, and tells no setup when it is opened
+// Whether opening the shelf of these files with this setup tells no setup.
+fn has_setup(alloc: Global, files: &Files, setup: &Setup) -> Result<bool, Fail>
+    requires { IsReadSetup (scripts_of setup.now) }
+{
+    let opened = visited_with(alloc, files, setup, &[], RULES)?;
+    Ok(opened.a == files.a)
+}
+
+// Whether the shelf of these files has the second setup.
+fn has_second_setup(alloc: Global, files: &Files) -> Result<bool, Fail> {
+    let second = version_setup(alloc, 1)?;
+    has_setup(alloc, files, &second)
+}
+
+// Whether a promoted follower of both of these has the second setup.
+fn follower_has_second_setup(alloc: Global, first: &Files, both: &Files) -> Result<bool, Fail> {
+    let files = promoted_fed_both(alloc, first, both)?;
+    has_second_setup(alloc, &files)
+}
+
+// Refuses files a new follower of which does not go on with the pages of both versions.
+fn expect_pages(alloc: Global, both: &Files) -> Result<(), Fail> {
+    let second = version_setup(alloc, 1)?;
+    expect_goes_on(alloc, both, 4, &second, PAGES)
+}
+
+// The feed of a leader is longer after another setup. Its follower has each: promoted, it goes on with both, and tells no setup when it is opened
 // with the second one.
 #[test]
 fn a_journal_of_two_setups_is_followed(rt: HostRuntime) -> Result<(), Fail> {
     let alloc = rt.alloc();
-    let text = VERSIONS.get(1).ok_or("no second version")?;
-    let second = setup(alloc, &[("s", text)])?;
     let first = started(alloc, &nothing(alloc), 0)?;
     let both = started(alloc, &first, 1)?;
-    let files = fed_twice(alloc, &first, &both)?;
-    let opened = visited_with(alloc, &files, &second, &[], RULES)?;
-    assert_eq!(rt; opened.a.as_slice(), files.a.as_slice());
-    expect_goes_on(alloc, &both, 4, &second, PAGES)
+    assert!(rt; follower_has_second_setup(alloc, &first, &both)?);
+    expect_pages(alloc, &both)
 }
 
 #[test]
@@ -225,8 +359,32 @@ fn a_follower_is_followed(rt: HostRuntime) -> Result<(), Fail> {
     let alloc = rt.alloc();
     let once = sums_follower(alloc)?;
     let twice = follower_of(alloc, &once, 4)?;
-    assert_eq!(rt; twice.a.as_slice(), once.a.as_slice());
-    expect_goes_on(alloc, &twice, 4, &sums_setup(alloc)?, SEVEN)
+    assert!(rt; twice.a == once.a);
+    expect_sums_go_on(alloc, &twice, 4)
+}
+
+// What stands on the disks of these files, which follow, once they are promoted and a visit was answered after it.
+fn led_on(alloc: Global, files: &Files) -> Result<Files, Fail> {
+    let leads = promoted(alloc, files, true)?;
+    visited(alloc, &leads, SEVEN)
+}
+
+// Refuses a leader of five records whose follower, of four of them, does not go on with its feed.
+fn expect_fed_on(alloc: Global, follower: &Files, leader: &Files) -> Result<(), Fail> {
+    let _next = fed_of(alloc, follower, leader, 5)?;
+    Ok(())
+}
+
+// Refuses a leader of five records, once one of the four that these files have, what followed which does not go on with its feed.
+fn expect_followed_on(alloc: Global, once: &Files, longer: &Files) -> Result<(), Fail> {
+    let twice = follower_of(alloc, once, 4)?;
+    expect_fed_on(alloc, &twice, longer)
+}
+
+// Refuses a leader of five records a new follower of which is not followed.
+fn expect_followed_anew(alloc: Global, longer: &Files) -> Result<(), Fail> {
+    let third = follower_of(alloc, longer, 5)?;
+    expect_sums_go_on(alloc, &third, 5)
 }
 
 // What followed it before goes on, and so does a new follower.
@@ -234,22 +392,41 @@ fn a_follower_is_followed(rt: HostRuntime) -> Result<(), Fail> {
 fn a_promoted_shelf_is_followed(rt: HostRuntime) -> Result<(), Fail> {
     let alloc = rt.alloc();
     let once = sums_follower(alloc)?;
-    let twice = follower_of(alloc, &once, 4)?;
-    let longer = visited(alloc, &promoted(alloc, &once, true)?, SEVEN)?;
-    let _next = held(alloc, &twice, &feed_of(alloc, &longer)?, 5)?;
-    let third = follower_of(alloc, &longer, 5)?;
-    expect_goes_on(alloc, &third, 5, &sums_setup(alloc)?, SEVEN)
+    let longer = led_on(alloc, &once)?;
+    expect_followed_on(alloc, &once, &longer)?;
+    expect_followed_anew(alloc, &longer)
+}
+
+// What stands on the disks of a new follower of sums that is promoted, and then compacted.
+fn compacted_promoted(alloc: Global) -> Result<Files, Fail> {
+    let files = promoted_sums(alloc)?;
+    compacted_sums(alloc, &files, &[])
+}
+
+// Whether the newest file of these is that of a leader that is compacted.
+fn is_compacted_leader(alloc: Global, files: &Files) -> Result<bool, Fail> {
+    let led = compacted_leader(alloc)?;
+    Ok(newest_file(files) == newest_file(&led))
+}
+
+// Whether following this feed ends at once since the shelf of these files leads.
+fn leads(alloc: Global, files: &Files, feed: &[u8]) -> Result<bool, Fail> {
+    let outcome = followed(alloc, files, feed)?;
+    Ok(outcome.told() == (FollowEnd::Promoted, 0))
+}
+
+// Whether the shelf of these files takes no feed, such as that of sums.
+fn takes_no_feed(alloc: Global, files: &Files) -> Result<bool, Fail> {
+    let feed = sums_feed(alloc)?;
+    leads(alloc, files, &feed)
 }
 
 // A promoted shelf is compacted as any other: the records that tell what it was are gone, and it takes no feed.
 #[test]
 fn a_promoted_shelf_is_compacted(rt: HostRuntime) -> Result<(), Fail> {
     let alloc = rt.alloc();
-    let files = promoted(alloc, &sums_follower(alloc)?, true)?;
-    let short = compacted_sums(alloc, &files, &[])?;
-    let led = compacted_sums(alloc, &nothing(alloc), VISITS)?;
-    assert!(rt; newest_file(&short) == newest_file(&led));
-    assert!(rt; followed(alloc, &short, HEAD)?.end == FollowEnd::Promoted);
-    let _visited = visited(alloc, &short, SEVEN)?;
-    Ok(())
+    let short = compacted_promoted(alloc)?;
+    assert!(rt; is_compacted_leader(alloc, &short)?);
+    assert!(rt; takes_no_feed(alloc, &short)?);
+    expect_seven(alloc, &short)
 }

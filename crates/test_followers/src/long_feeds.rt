@@ -1,18 +1,13 @@
 //! The greatest length of a feed.
-ghost use Rattle.std.specs.Prelude.{◌≡◌, true};
-ghost use Rattle.disk_trio.specs.Trio.{trio_view};
-ghost use Rattle.shelf.specs.Following.{CanBeFed, IsInOrderIfFed, IsReadable};
-ghost use Rattle.shelf.specs.Views.{follows_in};
-
 use crate::feeds::HEAD;
-use crate::followed::{acks_in, sums_follower};
+use crate::followed::{fed_from, sums_follower};
 use crate::openings::{Opening, opened_bare};
-use page_follower::{FeedFault, FollowEnd, follow};
+use page_follower::{FeedFault, FollowEnd};
 use std::alloc::Global;
 use std::test::Fail;
 use test_compactions::files::Files;
-use test_shelves::{MemoryShelf, put_away};
-use web_outside::{Failed, Source, TextSink};
+use test_shelves::put_away;
+use web_outside::{Failed, Source};
 
 /// An input of a front and a block again and again after it, up to a length.
 #[derive(Drop)]
@@ -92,24 +87,9 @@ fn followed_by(
     source: &mut LongSource,
 ) -> Result<(FollowEnd, u64), Fail> {
     let mut shelf = opened_bare(alloc, files, Opening::ToFollow)?;
-    let told = fed_from(alloc, &mut shelf, source);
+    let told = fed_from(alloc, &mut shelf, source, 100);
     put_away(shelf);
     told
-}
-
-// How following such a feed ends, and how many records are acknowledged.
-fn fed_from(
-    alloc: Global,
-    shelf: &mut MemoryShelf,
-    source: &mut LongSource,
-) -> Result<(FollowEnd, u64), Fail>
-    requires readable { IsReadable trio_view true shelf.old }
-    requires can { follows_in shelf.old ≡ true → CanBeFed shelf.old }
-    requires in_order { IsInOrderIfFed trio_view true shelf.old }
-{
-    let mut sink = TextSink::new(alloc, 100, Vec::new(alloc))?;
-    let end = follow(alloc, shelf, source, &mut sink);
-    Ok((end, acks_in(alloc, sink.bytes())?))
 }
 
 // The front of a feed whose first record has this length.
@@ -119,28 +99,50 @@ fn front_with(alloc: Global, length: u32) -> Result<Vec<u8>, Fail> {
     Ok(front)
 }
 
+// The length of the first record, that of the feed, how following it ends without an acknowledgment, and how many bytes were read.
+const LONG_FEEDS: &[(u32, u64, FollowEnd, u64)] = &[
+    (
+        1_073_741_812,
+        2_000_000_000,
+        FollowEnd::Other { place: 8 },
+        1_073_741_824,
+    ),
+    (
+        1_073_741_813,
+        1_073_741_824,
+        FollowEnd::Feed(FeedFault::Cut { place: 8 }),
+        1_073_741_824,
+    ),
+    (
+        1_073_741_813,
+        1_073_741_825,
+        FollowEnd::Feed(FeedFault::Long),
+        1_073_741_825,
+    ),
+];
+
+// How following a feed of this length ends whose first record is so long.
+fn ended_with(
+    alloc: Global,
+    files: &Files,
+    record: u32,
+    length: u64,
+) -> Result<(FollowEnd, u64, u64), Fail> {
+    let front = front_with(alloc, record)?;
+    ended(alloc, files, &front, length)
+}
+
 // The first record ends in the byte 2^30 of the feed, or after it.
 #[test]
 fn a_feed_has_at_most_1073741824_bytes(rt: HostRuntime) -> Result<(), Fail> {
     let alloc = rt.alloc();
     let files = sums_follower(alloc)?;
-    let most = front_with(alloc, 1_073_741_812)?;
-    assert_eq!(rt;
-        ended(alloc, &files, &most, 2_000_000_000)?,
-        (FollowEnd::Other { place: 8 }, 0, 1_073_741_824)
-    );
-    let more = front_with(alloc, 1_073_741_813)?;
-    assert_eq!(rt;
-        ended(alloc, &files, &more, 1_073_741_824)?,
-        (
-            FollowEnd::Feed(FeedFault::Cut { place: 8 }),
-            0,
-            1_073_741_824
-        )
-    );
-    assert_eq!(rt;
-        ended(alloc, &files, &more, 1_073_741_825)?,
-        (FollowEnd::Feed(FeedFault::Long), 0, 1_073_741_825)
-    );
+    for (record, length, end, read) in LONG_FEEDS {
+        assert_eq!(rt;
+            ended_with(alloc, &files, *record, *length)?,
+            (*end, 0, *read),
+            "{length}"
+        );
+    }
     Ok(())
 }

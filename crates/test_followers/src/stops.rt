@@ -5,10 +5,11 @@ ghost use Rattle.shelf.specs.Following.{CanBeFed, IsInOrderIfFed, IsReadable};
 ghost use Rattle.shelf.specs.Views.{follows_in};
 
 use crate::adoptions::{PLACES, WRECKS, if_disk_failed};
-use crate::feeds::{bodies_in, feed_of, feed_with, first_of};
+use crate::feeds::{bodies_in, feed_of, first_of, is_feed_with};
 use crate::followed::{FAIR, fed, held, promoted, sums_follower};
 use crate::openings::{Opening, RULES, opened_bare, tried_bare};
-use crate::sums::{SEVEN, bare, sums_feed, visited};
+use crate::sums::{bare, expect_seven, sums_feed};
+use disk_trio::Disks;
 use page_follower::FollowEnd;
 use script_value::Reply;
 use shelf::BeginFault;
@@ -16,7 +17,7 @@ use std::alloc::Global;
 use std::test::Fail;
 use test_compactions::files::{Files, Place, Trouble, Wrong, disks_of, left_by};
 use test_shelves::{MemoryShelf, put_away};
-use web_disk::Wreck;
+use web_disk::{MemoryDisk, Wreck};
 
 // Each disk makes fewer calls until a shelf that follows has come to the end of a feed of four records, or is promoted.
 const MOST_CALLS: u64 = 100;
@@ -34,6 +35,12 @@ fn acked(alloc: Global, shelf: &mut MemoryShelf, feed: &[u8]) -> Result<u64, Fai
     }
 }
 
+// The disks of a journal without records, one of which is wrong.
+fn bare_disks(alloc: Global, wrong: Wrong) -> Result<Disks<MemoryDisk>, Fail> {
+    let files = bare(alloc)?;
+    disks_of(alloc, &files, Some(wrong))
+}
+
 // How many records of the feed were acknowledged that a journal without records follows, one of whose disks is wrong; and what such a crash leaves of
 // its disks.
 fn acked_despite(
@@ -42,7 +49,7 @@ fn acked_despite(
     wrong: Wrong,
     wreck: Wreck,
 ) -> Result<(u64, Files), Fail> {
-    let disks = disks_of(alloc, &bare(alloc)?, Some(wrong))?;
+    let disks = bare_disks(alloc, wrong)?;
     let (acks, disks) = match tried_bare(alloc, disks, Opening::ToFollow, RULES) {
         Ok(mut shelf) => {
             let acks = acked(alloc, &mut shelf, feed);
@@ -55,25 +62,41 @@ fn acked_despite(
     Ok((acks?, left))
 }
 
+// Whether a feed has so many of these bodies, the first ones, or one more.
+fn has_first(alloc: Global, feed: &[u8], bodies: &[Vec<u8>], count: usize) -> Result<bool, Fail> {
+    if is_feed_with(alloc, feed, first_of(bodies, count))? {
+        return Ok(true);
+    }
+    is_feed_with(alloc, feed, first_of(bodies, count.saturating_add(1)))
+}
+
+// The bodies of the records of these files once they were fed this feed, which goes on from there.
+fn whole_bodies(alloc: Global, files: &Files, feed: &[u8]) -> Result<Vec<Vec<u8>>, Fail> {
+    let whole = held(alloc, files, feed, 4)?;
+    bodies_in(alloc, &whole.a)
+}
+
 // Whether at least as many records of the feed are held on these files as were acknowledged, and at most one more; the feed goes on from there.
 fn are_held(alloc: Global, files: &Files, feed: &[u8], acks: u64) -> Result<bool, Fail> {
     let known = feed_of(alloc, files)?;
-    let whole = held(alloc, files, feed, 4)?;
-    let bodies = bodies_in(alloc, &whole.a)?;
-    let least = feed_with(alloc, first_of(&bodies, acks as usize))?;
-    let most = feed_with(alloc, first_of(&bodies, (acks as usize).saturating_add(1)))?;
-    Ok(known == least || known == most)
+    let bodies = whole_bodies(alloc, files, feed)?;
+    has_first(alloc, &known, &bodies, acks as usize)
+}
+
+// How many records were acknowledged before such a crash; refuses one that loses any of them.
+fn acked_and_kept(alloc: Global, feed: &[u8], wrong: Wrong, wreck: Wreck) -> Result<u64, Fail> {
+    let (acks, left) = acked_despite(alloc, feed, wrong, wreck)?;
+    if are_held(alloc, &left, feed, acks)? {
+        return Ok(acks);
+    }
+    Err(Fail::from("a record that was acknowledged is gone"))
 }
 
 // How many records are acknowledged with this call wrong; refuses a crash after such a feeding that loses one of them.
 fn acked_and_held(alloc: Global, feed: &[u8], wrong: Wrong) -> Result<u64, Fail> {
     let mut most: u64 = 0;
     for wreck in WRECKS {
-        let (acks, left) = acked_despite(alloc, feed, wrong, *wreck)?;
-        if !are_held(alloc, &left, feed, acks)? {
-            return Err(Fail::from("a record that was acknowledged is gone"));
-        }
-        most = most.max(acks);
+        most = most.max(acked_and_kept(alloc, feed, wrong, *wreck)?);
     }
     Ok(most)
 }
@@ -159,11 +182,11 @@ fn follows(alloc: Global, files: &Files) -> Result<bool, Fail> {
 fn goes_on(alloc: Global, files: &Files) -> Result<bool, Fail> {
     let still = follows(alloc, files)?;
     let whole = promoted(alloc, files, still)?;
-    let _visited = visited(alloc, &whole, SEVEN)?;
+    expect_seven(alloc, &whole)?;
     Ok(still)
 }
 
-// Whether a shelf may follow behind a promotion that went so.
+// Whether a shelf may follow after a promotion that went so.
 fn may_follow(went: Went, follows: bool) -> bool {
     match went {
         Went::Unopened => follows,
@@ -172,14 +195,25 @@ fn may_follow(went: Went, follows: bool) -> bool {
     }
 }
 
-// Whether a shelf of these files is promoted with this call wrong; refuses a crash after which one that was promoted follows, or one that was not leads.
+// How promoting went before such a crash; refuses one after which a shelf that was promoted follows, or one that was not leads.
+fn promoted_and_kept(
+    alloc: Global,
+    files: &Files,
+    wrong: Wrong,
+    wreck: Wreck,
+) -> Result<Went, Fail> {
+    let (went, left) = promoted_despite(alloc, files, wrong, wreck)?;
+    if may_follow(went, goes_on(alloc, &left)?) {
+        return Ok(went);
+    }
+    Err(Fail::from("a promotion in part"))
+}
+
+// Whether a shelf of these files is promoted with this call wrong; refuses a crash that leaves a promotion in part.
 fn promoted_whole(alloc: Global, files: &Files, wrong: Wrong) -> Result<bool, Fail> {
     let mut told = false;
     for wreck in WRECKS {
-        let (went, left) = promoted_despite(alloc, files, wrong, *wreck)?;
-        if !may_follow(went, goes_on(alloc, &left)?) {
-            return Err(Fail::from("a promotion in part"));
-        }
+        let went = promoted_and_kept(alloc, files, wrong, *wreck)?;
         told = matches!(went, Went::Promoted);
     }
     Ok(told)
