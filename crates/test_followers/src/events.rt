@@ -29,15 +29,28 @@ const PATHS: &[&str] = &[
     "/servlets/sum;1*0*0*0000000000000000",
 ];
 
+// Whether an answer tells that the shelf follows.
+fn tells_following(reply: &Reply) -> bool {
+    matches!(reply, Reply::Following)
+}
+
+// Whether a visit of this path is answered that the shelf follows.
+fn is_put_off(alloc: Global, shelf: &mut MemoryShelf, path: &str) -> Result<bool, Fail>
+    requires { IsInOrder trio_view true shelf.old }
+    ensures { IsInOrder trio_view true shelf.new }
+{
+    let reply = answered(alloc, shelf, path, datum(alloc, "()")?)?;
+    Ok(tells_following(&reply))
+}
+
 // Refuses a shelf that answers one of these visits in another way.
 fn expect_no_visits(alloc: Global, shelf: &mut MemoryShelf) -> Result<(), Fail>
     requires { IsInOrder trio_view true shelf.old }
     ensures { IsInOrder trio_view true shelf.new }
 {
     'visits: for path in PATHS {
-        match answered(alloc, shelf, path, datum(alloc, "()")?)? {
-            Reply::Following => {}
-            _ => return Err(Fail::from("a visit of a shelf that follows")),
+        if !is_put_off(alloc, shelf, path)? {
+            return Err(Fail::from("a visit of a shelf that follows"));
         }
     }
     Ok(())

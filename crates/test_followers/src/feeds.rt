@@ -30,16 +30,21 @@ pub fn first_of(bodies: &[Vec<u8>], count: usize) -> &[Vec<u8>] {
     &bodies[..count.min(bodies.len())]
 }
 
+// What was written to a sink, all of which has to be handed on.
+fn all_handed(alloc: Global, sink: &TextSink) -> Result<Vec<u8>, Fail> {
+    if sink.handed() != sink.bytes() {
+        return Err(Fail::from("a feed that is not handed on"));
+    }
+    Ok(sink.bytes().to_vec(alloc)?)
+}
+
 // The feed of a shelf's records, which has to be written and handed on.
 fn sent(alloc: Global, shelf: &mut MemoryShelf) -> Result<Vec<u8>, Fail>
     requires { IsReadable trio_view true shelf.old }
 {
     let mut sink = TextSink::new(alloc, ROOM, Vec::new(alloc))?;
     export(shelf, &mut sink)?;
-    if sink.handed() != sink.bytes() {
-        return Err(Fail::from("a feed that is not handed on"));
-    }
-    Ok(sink.bytes().to_vec(alloc)?)
+    all_handed(alloc, &sink)
 }
 
 /// The feed of the shelf of these files.
@@ -82,6 +87,14 @@ pub fn with_record(alloc: Global, feed: &[u8], body: &[u8]) -> Result<Vec<u8>, F
     Ok(longer)
 }
 
+// Puts a body after others, but for those that tell whether a shelf follows.
+fn push_body(alloc: Global, bodies: &mut Vec<Vec<u8>>, body: &[u8]) -> Result<(), Fail> {
+    if !ROLES.contains(&body) {
+        bodies.push(body.to_vec(alloc)?)?;
+    }
+    Ok(())
+}
+
 /// The bodies of the records of a file, in order, but for those that tell whether the shelf follows.
 pub fn bodies_in(alloc: Global, file: &[u8]) -> Result<Vec<Vec<u8>>, Fail> {
     let mut bodies = Vec::new(alloc);
@@ -90,9 +103,7 @@ pub fn bodies_in(alloc: Global, file: &[u8]) -> Result<Vec<Vec<u8>>, Fail> {
         let Some(body) = body_at(file, place) else {
             return Ok(bodies);
         };
-        if !ROLES.contains(&body) {
-            bodies.push(body.to_vec(alloc)?)?;
-        }
+        push_body(alloc, &mut bodies, body)?;
         place = place.saturating_add(5).saturating_add(body.len());
     }
     Ok(bodies)

@@ -64,12 +64,18 @@ fn is_same(files: &Files, others: &Files) -> bool {
     files.a == others.a && files.b == others.b && files.root == others.root
 }
 
+// Puts the line that acknowledges the record of this number after others.
+fn push_line(alloc: Global, lines: &mut String, number: u64) -> Result<(), Fail> {
+    let line = format!(in alloc; "ack {number}\n")?;
+    lines.push_str(line.as_str())?;
+    Ok(())
+}
+
 // The lines that acknowledge so many records.
 fn lines(alloc: Global, acks: u64) -> Result<String, Fail> {
     let mut lines = String::new(alloc);
     for number in 0..acks {
-        let number = number.saturating_add(1);
-        lines.push_str(format!(in alloc; "ack {number}\n")?.as_str())?;
+        push_line(alloc, &mut lines, number.saturating_add(1))?;
     }
     Ok(lines)
 }

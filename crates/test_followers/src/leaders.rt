@@ -311,7 +311,7 @@ fn fed_both(alloc: Global, first: &Files, both: &Files) -> Result<Files, Fail> {
     fed_of(alloc, &early, both, 4)
 }
 
-// What stands on the disks of such a follower, fed both, once it is promoted.
+// What stands on the disks of a follower of the first of these, fed the other one too, once it is promoted.
 fn promoted_fed_both(alloc: Global, first: &Files, both: &Files) -> Result<Files, Fail> {
     let late = fed_both(alloc, first, both)?;
     promoted(alloc, &late, true)
@@ -369,19 +369,19 @@ fn led_on(alloc: Global, files: &Files) -> Result<Files, Fail> {
     visited(alloc, &leads, SEVEN)
 }
 
-// Refuses a leader of five records whose follower, of four of them, does not go on with its feed.
+// Refuses a leader of five records whose feed a follower of four of them does not go on with.
 fn expect_fed_on(alloc: Global, follower: &Files, leader: &Files) -> Result<(), Fail> {
     let _next = fed_of(alloc, follower, leader, 5)?;
     Ok(())
 }
 
-// Refuses a leader of five records, once one of the four that these files have, what followed which does not go on with its feed.
+// Refuses a leader of five records that a follower of these files, which have four of them, does not go on with.
 fn expect_followed_on(alloc: Global, once: &Files, longer: &Files) -> Result<(), Fail> {
     let twice = follower_of(alloc, once, 4)?;
     expect_fed_on(alloc, &twice, longer)
 }
 
-// Refuses a leader of five records a new follower of which is not followed.
+// Refuses a leader of five records that a new follower does not go on with.
 fn expect_followed_anew(alloc: Global, longer: &Files) -> Result<(), Fail> {
     let third = follower_of(alloc, longer, 5)?;
     expect_sums_go_on(alloc, &third, 5)
