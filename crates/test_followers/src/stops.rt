@@ -12,7 +12,6 @@ use crate::sums::{bare, expect_seven, sums_feed};
 use disk_trio::Disks;
 use page_follower::FollowEnd;
 use script_value::Reply;
-use shelf::BeginFault;
 use std::alloc::Global;
 use std::test::Fail;
 use test_compactions::files::{Files, Place, Trouble, Wrong, disks_of, left_by};
