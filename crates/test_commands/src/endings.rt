@@ -1,6 +1,8 @@
 //! How a run ends: by its words, by its input and by its output.
 
-use crate::outside::{CHECK, FAIR, FULL, Machine, Outside, PLAY, STUCK, comes_to, ran};
+use crate::outside::{
+    CHECK, FAIR, FULL, Machine, Outcome, Outside, PLAY, STUCK, comes_to, ran, status_over,
+};
 use crate::servings::SERVE;
 use crate::texts::input_of;
 use crate::transcripts::{SUMS_PRINTED, sums};
@@ -28,7 +30,7 @@ const NO_STEPS: &[&str] = &[
 
 // Whether a run of these steps ends after two of them.
 fn ends_at_the_third<R: Machine>(rt: &R, steps: &str) -> Result<bool, Fail> {
-    let input = input_of(rt.alloc(), &[("sum", "'a")], steps)?;
+    let input = input_of(rt.alloc(), ("sum", "'a"), steps)?;
     let told = (4, "1 404 unknown\n2 taken 0\nerror 4 3\n");
     comes_to(rt, PLAY, input.as_bytes(), &FAIR, told)
 }
@@ -82,17 +84,27 @@ fn a_failing_read_ends_with_5(rt: HostRuntime) -> Result<(), Fail> {
     Ok(())
 }
 
-// Whether the visits of a sum end with status 6, and with a front of what they print, where the write of this number fails.
-fn leaves_a_front<R: Machine>(rt: &R, failing: u64) -> Result<bool, Fail> {
+// Whether a run ended with status 6, and with a front of what these visits print.
+fn is_front(outcome: &Outcome) -> bool {
+    let text = outcome.text.as_str();
+    outcome.status == 6 && text.len() < SUMS_PRINTED.len() && SUMS_PRINTED.starts_with(text)
+}
+
+// Whether the visits of a sum end so over this outside.
+fn sums_leave_a_front<R: Machine>(rt: &R, outside: &Outside) -> Result<bool, Fail> {
     let input = sums(rt.alloc())?;
+    let outcome = ran(rt, PLAY, input.as_bytes(), outside)?;
+    Ok(is_front(&outcome))
+}
+
+// Whether they end so where the write of this number fails.
+fn leaves_a_front<R: Machine>(rt: &R, failing: u64) -> Result<bool, Fail> {
     let writes = [failing];
     let outside = Outside {
         writes: &writes,
         ..FAIR
     };
-    let outcome = ran(rt, PLAY, input.as_bytes(), &outside)?;
-    let is_less = outcome.text.len() < SUMS_PRINTED.len();
-    Ok(outcome.status == 6 && is_less && SUMS_PRINTED.starts_with(outcome.text.as_str()))
+    sums_leave_a_front(rt, &outside)
 }
 
 // An output with room for twenty bytes.
@@ -129,8 +141,7 @@ const ERRORS: &[Run] = &[
 
 // The status of a run whose output hands nothing on.
 fn stuck_at<R: Machine>(rt: &R, words: &[&str], input: &str) -> Result<u8, Fail> {
-    let outcome = ran(rt, words, input.as_bytes(), &STUCK)?;
-    Ok(outcome.status)
+    status_over(rt, words, input.as_bytes(), &STUCK)
 }
 
 #[test]
@@ -189,15 +200,27 @@ const LONG: Outside<'static> = Outside {
 
 const LONG_AND_FULL: Outside<'static> = Outside { room: 0, ..LONG };
 
+// Words, how the outside treats a run of an input that is too long, and what it writes.
+const REFUSED: &[(&[&str], Outside<'static>, &str)] = &[
+    (PLAY, LONG, "error 11 long\n"),
+    (CHECK, LONG, "error 11 long\n"),
+    (SERVE, LONG, "error 11 long\n"),
+    (PLAY, LONG_AND_FULL, ""),
+];
+
+// Whether this input is too long for each command, and one that is a byte shorter is not.
+fn is_too_long<R: Machine>(rt: &R, input: &[u8], shorter: &[u8]) -> Result<bool, Fail> {
+    for (words, outside, text) in REFUSED {
+        if !comes_to(rt, words, input, outside, (11, *text))? {
+            return Ok(false);
+        }
+    }
+    comes_to(rt, PLAY, shorter, &LONG, (3, "error 3 setup 0 section\n"))
+}
+
 #[test]
 fn a_long_input_is_refused(rt: HostRuntime) -> Result<(), Fail> {
     let long = vec![in rt.alloc(); b' '; 16_777_217]?;
-    for words in [PLAY, CHECK, SERVE] {
-        let told = (11, "error 11 long\n");
-        assert!(rt; comes_to(&rt, words, &long, &LONG, told)?, "{words:?}");
-    }
-    assert!(rt; comes_to(&rt, PLAY, &long, &LONG_AND_FULL, (11, ""))?);
-    let told = (3, "error 3 setup 0 section\n");
-    assert!(rt; comes_to(&rt, PLAY, &long[1..], &LONG, told)?);
+    assert!(rt; is_too_long(&rt, &long, &long[1..])?);
     Ok(())
 }

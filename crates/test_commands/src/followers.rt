@@ -1,24 +1,14 @@
 //! A leader's journal in files, whose feed a follower takes, which is then promoted.
 
 use crate::outside::{
-    FAIR, FULL, Machine, Outside, STUCK, UNREAD, Written, comes_to, emptied, outcome_of, ran,
+    FAIR, FULL, Machine, Outside, STUCK, UNREAD, Written, comes_to, emptied, outcome_of, stands_in,
+    status_over,
 };
-use crate::servings::{ALL, served, told_on};
+use crate::servings::{ALL, are_told, served};
 use crate::streets::{A_START, AN_ANSWER, QUIET, Street};
-use crate::transcripts::{SUM, first_sums, sums_of_two};
+use crate::transcripts::{SUM, play_first_sums, play_sums_of_two};
 use std::fs;
 use std::test::Fail;
-
-// Plays an input over an empty folder.
-fn play_into<R: Machine>(rt: &R, folder: &str, input: &str) -> Result<(), Fail> {
-    emptied(rt, folder)?;
-    let words = &["hovgyelit", "play", "--journal", folder, "--shelves", "2"];
-    let outcome = ran(rt, words, input.as_bytes(), &FAIR)?;
-    if outcome.status == 0 {
-        return Ok(());
-    }
-    Err(Fail::from("a journal that is not played"))
-}
 
 // The feed of a shelf, for which no input is read.
 fn feed_of<R: Machine>(rt: &R, folder: &str, shelf: &str) -> Result<Vec<u8>, Fail> {
@@ -34,11 +24,16 @@ fn feed_of<R: Machine>(rt: &R, folder: &str, shelf: &str) -> Result<Vec<u8>, Fai
     Err(Fail::from("no feed"))
 }
 
-// The feed of the first sums, which are played over an empty folder.
-fn feed_of_sums<R: Machine>(rt: &R, folder: &str) -> Result<Vec<u8>, Fail> {
-    let input = first_sums(rt.alloc())?;
-    play_into(rt, folder, input.as_str())?;
-    feed_of(rt, folder, "0")
+// Whether a shelf has this feed.
+fn has_feed<R: Machine>(rt: &R, folder: &str, shelf: &str, feed: &[u8]) -> Result<bool, Fail> {
+    let own = feed_of(rt, folder, shelf)?;
+    Ok(own.as_slice() == feed)
+}
+
+// Whether the feed of the first shelf has so many bytes.
+fn has_feed_of<R: Machine>(rt: &R, folder: &str, length: usize) -> Result<bool, Fail> {
+    let feed = feed_of(rt, folder, "0")?;
+    Ok(feed.len() == length)
 }
 
 // Whether following this feed comes to this.
@@ -102,8 +97,7 @@ fn is_served<R: Machine>(
         folder,
     ];
     let ending = served(rt, words, script, street)?;
-    let text = told_on(&ending, 0);
-    Ok(text.starts_with(told.0) && text.ends_with(told.1))
+    Ok(are_told(&ending, &[told]))
 }
 
 // Whether that answer is told this over a folder.
@@ -117,28 +111,103 @@ const SEVEN: (&str, &str) = ("HTTP/1.1 200 ", "\r\n\r\n<p>7</p>");
 
 const FOUR: &str = "ack 1\nack 2\nack 3\nack 4\n";
 
+// How each feed begins.
+const HEAD: &[u8] = b"KSFEED\0\x06";
+
+// What is done with the journals of a folder, and what comes of it.
+enum Step {
+    // The feed has so many bytes, and begins as each does.
+    Has(usize),
+    // A shelf follows the feed.
+    Follow(&'static str, (u8, &'static str)),
+    // The first shelf follows the first so many bytes of the feed.
+    FollowFront(usize, (u8, &'static str)),
+    // The first shelf follows the feed over such an outside.
+    FollowOver(Outside<'static>, (u8, &'static str)),
+    // The first shelf is exported, and has the same feed.
+    IsFed,
+    // The first shelf is exported, and its feed has so many bytes.
+    IsFedBytes(usize),
+    // The first shelf is audited.
+    Audit(&'static str),
+    // So many shelves are promoted.
+    Promote(&'static str, &'static str),
+    // The last answer of the first sums is served.
+    Answer((&'static str, &'static str)),
+}
+
+// Whether that comes of a step over this folder and this feed.
+fn comes_of<R: Machine>(rt: &R, folder: &str, feed: &[u8], step: &Step) -> Result<bool, Fail> {
+    match step {
+        Step::Has(length) => Ok(feed.len() == *length && feed.starts_with(HEAD)),
+        Step::Follow(shelf, told) => is_followed(rt, folder, shelf, feed, *told),
+        Step::FollowFront(length, told) => {
+            let front = &feed[..(*length).min(feed.len())];
+            is_followed(rt, folder, "0", front, *told)
+        }
+        Step::FollowOver(outside, told) => {
+            let words = &["hovgyelit", "follow", "--journal", folder];
+            comes_to(rt, words, feed, outside, *told)
+        }
+        Step::IsFed => has_feed(rt, folder, "0", feed),
+        Step::IsFedBytes(length) => has_feed_of(rt, folder, *length),
+        Step::Audit(told) => is_audited(rt, folder, told),
+        Step::Promote(shelves, told) => is_promoted(rt, folder, shelves, (0, *told)),
+        Step::Answer(told) => is_answered(rt, folder, *told),
+    }
+}
+
+// How many of these steps, which begin with an empty folder, come to what they say before one does not.
+fn count_done<R: Machine>(
+    rt: &R,
+    folder: &str,
+    feed: &[u8],
+    steps: &[Step],
+) -> Result<usize, Fail> {
+    emptied(rt, folder)?;
+    for (count, step) in steps.iter().enumerate() {
+        if !comes_of(rt, folder, feed, step)? {
+            return Ok(count);
+        }
+    }
+    Ok(steps.len())
+}
+
+// How many of them come to that over the feed of a leader's shelf.
+fn count_fed<R: Machine>(
+    rt: &R,
+    leader: &str,
+    shelf: &str,
+    follower: &str,
+    steps: &[Step],
+) -> Result<usize, Fail> {
+    let feed = feed_of(rt, leader, shelf)?;
+    count_done(rt, follower, &feed, steps)
+}
+
+const A_PROMOTION: &[Step] = &[
+    Step::Has(614),
+    Step::Follow("0", (0, FOUR)),
+    Step::Follow("0", (0, FOUR)),
+    Step::IsFed,
+    Step::Answer(FOLLOWING),
+    Step::Audit("shelf 0 ok 5\n"),
+    Step::Promote("1", "shelf 0 promoted\n"),
+    Step::Promote("1", "shelf 0 leader\n"),
+    Step::Audit("shelf 0 ok 6\n"),
+    Step::Answer(SEVEN),
+    Step::Follow("0", (13, "error 13 0 promoted\n")),
+];
+
 #[test]
 fn a_follower_is_promoted_and_goes_on(rt: HostRuntime) -> Result<(), Fail> {
-    let feed = feed_of_sums(&rt, "leader-of-sums")?;
-    assert_eq!(rt; feed.len(), 614);
-    assert!(rt; feed.starts_with(b"KSFEED\0\x06"));
-    emptied(&rt, "follower-of-sums")?;
-    assert!(rt; is_followed(&rt, "follower-of-sums", "0", &feed, (0, FOUR))?);
-    assert!(rt; is_followed(&rt, "follower-of-sums", "0", &feed, (0, FOUR))?);
-    assert_eq!(rt;
-        feed_of(&rt, "follower-of-sums", "0")?.as_slice(),
-        feed.as_slice()
-    );
-    assert!(rt; is_answered(&rt, "follower-of-sums", FOLLOWING)?);
-    assert!(rt; is_audited(&rt, "follower-of-sums", "shelf 0 ok 5\n")?);
-    assert!(rt; is_promoted(&rt, "follower-of-sums", "1", (0, "shelf 0 promoted\n"))?);
-    assert!(rt; is_promoted(&rt, "follower-of-sums", "1", (0, "shelf 0 leader\n"))?);
-    assert!(rt; is_audited(&rt, "follower-of-sums", "shelf 0 ok 6\n")?);
-    assert!(rt; is_answered(&rt, "follower-of-sums", SEVEN)?);
-    let told = (13, "error 13 0 promoted\n");
-    assert!(rt; is_followed(&rt, "follower-of-sums", "0", &feed, told)?);
-    emptied(&rt, "leader-of-sums")?;
-    emptied(&rt, "follower-of-sums")
+    let leader = "leader-of-sums";
+    let follower = "follower-of-sums";
+    play_first_sums(&rt, leader, "2")?;
+    let done = count_fed(&rt, leader, "0", follower, A_PROMOTION)?;
+    assert_eq!(rt; done, A_PROMOTION.len());
+    emptied(&rt, leader)?;
+    emptied(&rt, follower)
 }
 
 // A byte of a feed, the other one that stands in its place, and what following comes to on disks that hold so many of the feed's first bytes.
@@ -186,9 +255,8 @@ fn is_refused<R: Machine>(
     change: &Change,
 ) -> Result<bool, Fail> {
     let mut other = feed.to_vec(rt.alloc())?;
-    match other.get_mut(change.byte) {
-        Some(byte) => *byte = change.other,
-        None => return Err(Fail::from("no such byte")),
+    if let Some(byte) = other.get_mut(change.byte) {
+        *byte = change.other;
     }
     is_followed(rt, folder, "0", &other, change.told)
 }
@@ -196,57 +264,74 @@ fn is_refused<R: Machine>(
 // Whether following such a feed comes to this on disks that hold a front of the feed, and nothing else.
 fn is_refused_behind<R: Machine>(rt: &R, feed: &[u8], change: &Change) -> Result<bool, Fail> {
     let folder = "refused-feeds";
-    if change.held > feed.len() {
-        return Err(Fail::from("another feed"));
-    }
+    let front = &feed[..change.held.min(feed.len())];
     emptied(rt, folder)?;
     let words = &["hovgyelit", "follow", "--journal", folder];
-    let front = ran(rt, words, &feed[..change.held], &FAIR)?;
-    let refused = is_refused(rt, folder, feed, change)?;
+    let status = status_over(rt, words, front, &FAIR)?;
+    let is_told = is_refused(rt, folder, feed, change)?;
     emptied(rt, folder)?;
-    Ok(front.status == 0 && refused)
+    Ok(status == 0 && is_told)
+}
+
+// Refuses a feed whose changes are not told so.
+fn expect_changes<R: Machine>(rt: &R, feed: &[u8]) -> Result<(), Fail> {
+    for change in CHANGES {
+        if !is_refused_behind(rt, feed, change)? {
+            return Err(Fail::from(change.told.1));
+        }
+    }
+    Ok(())
+}
+
+// Whether a leader does not follow its own feed, whose changes are told so.
+fn is_no_follower<R: Machine>(rt: &R, leader: &str) -> Result<bool, Fail> {
+    let feed = feed_of(rt, leader, "0")?;
+    expect_changes(rt, &feed)?;
+    is_followed(rt, leader, "0", &feed, (13, "error 13 0 promoted\n"))
 }
 
 #[test]
 fn another_feed_is_told_at_its_place(rt: HostRuntime) -> Result<(), Fail> {
-    let feed = feed_of_sums(&rt, "leader-of-others")?;
-    for change in CHANGES {
-        assert!(rt; is_refused_behind(&rt, &feed, change)?, "{}", change.told.1);
-    }
-    let told = (13, "error 13 0 promoted\n");
-    assert!(rt; is_followed(&rt, "leader-of-others", "0", &feed, told)?);
-    emptied(&rt, "leader-of-others")
+    let leader = "leader-of-others";
+    play_first_sums(&rt, leader, "2")?;
+    assert!(rt; is_no_follower(&rt, leader)?);
+    emptied(&rt, leader)
 }
+
+const CUTS: &[Step] = &[
+    Step::FollowFront(0, (13, "error 13 0 cut\n")),
+    Step::FollowFront(354, (13, "ack 1\nerror 13 300 cut\n")),
+    Step::IsFedBytes(300),
+    Step::Follow("0", (0, FOUR)),
+];
 
 #[test]
 fn a_feed_that_is_cut_is_told_at_its_place(rt: HostRuntime) -> Result<(), Fail> {
-    let feed = feed_of_sums(&rt, "leader-of-cuts")?;
-    let front = &feed[..354.min(feed.len())];
-    emptied(&rt, "follower-of-cuts")?;
-    let told = (13, "error 13 0 cut\n");
-    assert!(rt; is_followed(&rt, "follower-of-cuts", "0", b"", told)?);
-    let told = (13, "ack 1\nerror 13 300 cut\n");
-    assert!(rt; is_followed(&rt, "follower-of-cuts", "0", front, told)?);
-    assert_eq!(rt; feed_of(&rt, "follower-of-cuts", "0")?.len(), 300);
-    assert!(rt; is_followed(&rt, "follower-of-cuts", "0", &feed, (0, FOUR))?);
-    emptied(&rt, "leader-of-cuts")?;
-    emptied(&rt, "follower-of-cuts")
+    let leader = "leader-of-cuts";
+    let follower = "follower-of-cuts";
+    play_first_sums(&rt, leader, "2")?;
+    let done = count_fed(&rt, leader, "0", follower, CUTS)?;
+    assert_eq!(rt; done, CUTS.len());
+    emptied(&rt, leader)?;
+    emptied(&rt, follower)
 }
+
+const A_SECOND_SHELF: &[Step] = &[
+    Step::Follow("0", (13, "error 13 8 record\n")),
+    Step::Follow("1", (0, FOUR)),
+    Step::Promote("3", "shelf 0 promoted\nshelf 1 promoted\nshelf 2 leader\n"),
+];
 
 // Each shelf has a feed and a follower of its own; those of two are promoted in order.
 #[test]
 fn each_shelf_has_its_follower(rt: HostRuntime) -> Result<(), Fail> {
-    let input = sums_of_two(rt.alloc())?;
-    play_into(&rt, "leader-of-two", input.as_str())?;
-    let second = feed_of(&rt, "leader-of-two", "1")?;
-    emptied(&rt, "follower-of-two")?;
-    let told = (13, "error 13 8 record\n");
-    assert!(rt; is_followed(&rt, "follower-of-two", "0", &second, told)?);
-    assert!(rt; is_followed(&rt, "follower-of-two", "1", &second, (0, FOUR))?);
-    let told = "shelf 0 promoted\nshelf 1 promoted\nshelf 2 leader\n";
-    assert!(rt; is_promoted(&rt, "follower-of-two", "3", (0, told))?);
-    emptied(&rt, "leader-of-two")?;
-    emptied(&rt, "follower-of-two")
+    let leader = "leader-of-two";
+    let follower = "follower-of-two";
+    play_sums_of_two(&rt, leader)?;
+    let done = count_fed(&rt, leader, "1", follower, A_SECOND_SHELF)?;
+    assert_eq!(rt; done, A_SECOND_SHELF.len());
+    emptied(&rt, leader)?;
+    emptied(&rt, follower)
 }
 
 // An empty folder has shelves without records: each is left a leader.
@@ -254,10 +339,7 @@ fn each_shelf_has_its_follower(rt: HostRuntime) -> Result<(), Fail> {
 fn nothing_has_an_empty_feed(rt: HostRuntime) -> Result<(), Fail> {
     let folder = "leader-of-nothing";
     emptied(&rt, folder)?;
-    assert_eq!(rt;
-        feed_of(&rt, folder, "15")?.as_slice(),
-        b"KSFEED\0\x06".as_slice()
-    );
+    assert!(rt; has_feed(&rt, folder, "15", HEAD)?);
     assert!(rt; is_promoted(&rt, folder, "2", (0, "shelf 0 leader\nshelf 1 leader\n"))?);
     emptied(&rt, folder)
 }
@@ -293,25 +375,35 @@ const CUT_OFF: Outside<'static> = Outside {
 // An output with room for one acknowledgment.
 const SHORT: Outside<'static> = Outside { room: 6, ..FAIR };
 
+const FAILURES: &[Step] = &[
+    Step::FollowOver(UNREAD, (5, "error 5 read\n")),
+    Step::FollowOver(CUT_OFF, (5, "error 5 read\n")),
+    Step::FollowOver(STUCK, (6, "ack 1\n")),
+    Step::FollowOver(SHORT, (6, "ack 1\n")),
+    Step::IsFedBytes(403),
+];
+
+// The status of a command that reads nothing, and whose output, which may be no text, hands nothing on.
+fn stuck_at<R: Machine>(rt: &R, words: &[&str]) -> Result<u8, Fail> {
+    let outcome = outcome_of(rt, words, b"", &STUCK)?;
+    Ok(outcome.status)
+}
+
 #[test]
 fn an_outside_that_fails_is_told(rt: HostRuntime) -> Result<(), Fail> {
-    let feed = feed_of_sums(&rt, "leader-of-failures")?;
-    let follow = &["hovgyelit", "follow", "--journal", "follower-of-failures"];
-    emptied(&rt, "follower-of-failures")?;
-    assert!(rt; comes_to(&rt, follow, &feed, &UNREAD, (5, "error 5 read\n"))?);
-    assert!(rt; comes_to(&rt, follow, &feed, &CUT_OFF, (5, "error 5 read\n"))?);
-    assert!(rt; comes_to(&rt, follow, &feed, &STUCK, (6, "ack 1\n"))?);
-    assert!(rt; comes_to(&rt, follow, &feed, &SHORT, (6, "ack 1\n"))?);
-    assert_eq!(rt; feed_of(&rt, "follower-of-failures", "0")?.len(), 403);
-    let export = &["hovgyelit", "export", "--journal", "leader-of-failures"];
-    let promote = &["hovgyelit", "promote", "--journal", "follower-of-failures"];
+    let leader = "leader-of-failures";
+    let follower = "follower-of-failures";
+    play_first_sums(&rt, leader, "2")?;
+    let done = count_fed(&rt, leader, "0", follower, FAILURES)?;
+    assert_eq!(rt; done, FAILURES.len());
+    let export = &["hovgyelit", "export", "--journal", leader];
+    let promote = &["hovgyelit", "promote", "--journal", follower];
     for words in [export, promote] {
         assert!(rt; comes_to(&rt, words, b"", &FULL, (6, ""))?, "{words:?}");
+        assert_eq!(rt; stuck_at(&rt, words)?, 6, "{words:?}");
     }
-    assert_eq!(rt; outcome_of(&rt, export, b"", &STUCK)?.status, 6);
-    assert_eq!(rt; ran(&rt, promote, b"", &STUCK)?.status, 6);
-    emptied(&rt, "leader-of-failures")?;
-    emptied(&rt, "follower-of-failures")
+    emptied(&rt, leader)?;
+    emptied(&rt, follower)
 }
 
 // A page with a link, and the page that shows the answer to it.
@@ -319,18 +411,30 @@ const ONE: (&str, &str) = ("HTTP/1.1 200 ", "\">1</a>");
 
 const SHOWN: (&str, &str) = ("HTTP/1.1 200 ", "\r\n\r\n<p>1</p>");
 
+// Whether a follower takes the feed of a leader's one page.
+fn takes_page<R: Machine>(rt: &R, leader: &str, follower: &str) -> Result<bool, Fail> {
+    let feed = feed_of(rt, leader, "0")?;
+    is_followed(rt, follower, "0", &feed, (0, "ack 1\nack 2\n"))
+}
+
+// Whether a server over a follower tells that it follows, and leaves this file as it is.
+fn is_left_following<R: Machine>(rt: &R, folder: &str, path: &str) -> Result<bool, Fail> {
+    let before = fs::read(rt, path)?;
+    let is_told = is_served(rt, folder, ALL, &AN_ANSWER, FOLLOWING)?;
+    Ok(stands_in(rt, path, before.as_slice())? && is_told)
+}
+
 #[test]
 fn a_server_takes_over(rt: HostRuntime) -> Result<(), Fail> {
-    emptied(&rt, "served-leader")?;
-    emptied(&rt, "served-follower")?;
-    assert!(rt; is_served(&rt, "served-leader", ALL, &A_START, ONE)?);
-    let feed = feed_of(&rt, "served-leader", "0")?;
-    assert!(rt; is_followed(&rt, "served-follower", "0", &feed, (0, "ack 1\nack 2\n"))?);
-    let before = fs::read(&rt, "served-follower/shelf-0")?;
-    assert!(rt; is_served(&rt, "served-follower", ALL, &AN_ANSWER, FOLLOWING)?);
-    assert_eq!(rt; fs::read(&rt, "served-follower/shelf-0")?, before);
-    assert!(rt; is_promoted(&rt, "served-follower", "1", (0, "shelf 0 promoted\n"))?);
-    assert!(rt; is_served(&rt, "served-follower", ALL, &AN_ANSWER, SHOWN)?);
-    emptied(&rt, "served-leader")?;
-    emptied(&rt, "served-follower")
+    let leader = "served-leader";
+    let follower = "served-follower";
+    emptied(&rt, leader)?;
+    emptied(&rt, follower)?;
+    assert!(rt; is_served(&rt, leader, ALL, &A_START, ONE)?);
+    assert!(rt; takes_page(&rt, leader, follower)?);
+    assert!(rt; is_left_following(&rt, follower, "served-follower/shelf-0")?);
+    assert!(rt; is_promoted(&rt, follower, "1", (0, "shelf 0 promoted\n"))?);
+    assert!(rt; is_served(&rt, follower, ALL, &AN_ANSWER, SHOWN)?);
+    emptied(&rt, leader)?;
+    emptied(&rt, follower)
 }

@@ -42,6 +42,12 @@ pub const UNREAD: Outside<'static> = Outside {
     ..FAIR
 };
 
+/// An output of room for 1,000 bytes.
+pub const NARROW: Outside<'static> = Outside {
+    room: 1_000,
+    ..FAIR
+};
+
 /// An output that takes no byte.
 pub const FULL: Outside<'static> = Outside { room: 0, ..FAIR };
 
@@ -91,8 +97,15 @@ fn status_of<R: Machine>(
     )
 }
 
-// The output of a run that is treated so.
-fn sink_of(alloc: Global, outside: &Outside) -> Result<TextSink, Fail> {
+/// An input of these bytes, of a run that is treated so.
+pub fn source_of(alloc: Global, input: &[u8], outside: &Outside) -> Result<TextSource, Fail> {
+    let reads = outside.reads.to_vec(alloc)?;
+    let input = input.to_vec(alloc)?;
+    Ok(TextSource::new(input, reads, outside.greatest.max(1)))
+}
+
+/// The output of a run that is treated so.
+pub fn sink_of(alloc: Global, outside: &Outside) -> Result<TextSink, Fail> {
     let mut sink = TextSink::new(alloc, outside.room, outside.writes.to_vec(alloc)?)?;
     if outside.stuck {
         sink.stick();
@@ -108,6 +121,17 @@ pub struct Written {
     pub handed: bool,
 }
 
+// What a run wrote that ended with this status.
+fn written_to(alloc: Global, status: u8, sink: &TextSink) -> Result<Written, Fail> {
+    let handed = sink.handed() == sink.bytes();
+    let bytes = sink.bytes().to_vec(alloc)?;
+    Ok(Written {
+        status,
+        bytes,
+        handed,
+    })
+}
+
 /// What a command with these words and this input comes to, whose output may be no text.
 pub fn outcome_of<R: Machine>(
     rt: &R,
@@ -116,15 +140,10 @@ pub fn outcome_of<R: Machine>(
     outside: &Outside,
 ) -> Result<Written, Fail> {
     let alloc = rt.alloc();
-    let reads = outside.reads.to_vec(alloc)?;
-    let mut source = TextSource::new(input.to_vec(alloc)?, reads, outside.greatest.max(1));
+    let mut source = source_of(alloc, input, outside)?;
     let mut sink = sink_of(alloc, outside)?;
     let status = status_of(rt, words, &mut source, &mut sink);
-    Ok(Written {
-        status,
-        bytes: sink.bytes().to_vec(alloc)?,
-        handed: sink.handed() == sink.bytes(),
-    })
+    written_to(alloc, status, &sink)
 }
 
 /// What a command with these words and this input comes to.
@@ -146,6 +165,17 @@ pub fn ran<R: Machine>(
     })
 }
 
+/// The status that a command with these words and this input ends with.
+pub fn status_over<R: Machine>(
+    rt: &R,
+    words: &[&str],
+    input: &[u8],
+    outside: &Outside,
+) -> Result<u8, Fail> {
+    let outcome = ran(rt, words, input, outside)?;
+    Ok(outcome.status)
+}
+
 /// Whether a run ends with this status and has written this text; where nothing fails, all of it is handed on.
 pub fn comes_to<R: Machine>(
     rt: &R,
@@ -165,6 +195,12 @@ pub fn emptied<R: Machine>(rt: &R, folder: &str) -> Result<(), Fail> {
         fs::remove_dir_all(rt, folder)?;
     }
     Ok(())
+}
+
+/// Whether these bytes stand in a file, and nothing else.
+pub fn stands_in<R: Machine>(rt: &R, path: &str, bytes: &[u8]) -> Result<bool, Fail> {
+    let held = fs::read(rt, path)?;
+    Ok(held.as_slice() == bytes)
 }
 
 /// Puts as many other bytes in the place of these, wherever they stand in a file.

@@ -1,8 +1,8 @@
 //! Setups that are served over links in memory, and what that comes to.
 
-use crate::outside::Machine;
+use crate::outside::{Machine, NARROW, sink_of};
 use crate::streets::{Street, door_of};
-use crate::texts::setup_of;
+use crate::texts::{setup_of, text_of};
 use file_disk::ServedRack;
 use server_command::{KeptPast, command};
 use std::alloc::Global;
@@ -32,6 +32,12 @@ pub struct Ending {
     pub entries: Vec<u64>,
 }
 
+/// The input that is the setup of this script.
+pub fn source_of_script(alloc: Global, script: (&str, &str)) -> Result<TextSource, Fail> {
+    let setup = setup_of(alloc, script)?;
+    Ok(TextSource::new(setup.into_bytes(), Vec::new(alloc), 4096))
+}
+
 // What a serving runs on.
 #[derive(Drop)]
 struct Serving {
@@ -43,12 +49,15 @@ struct Serving {
 }
 
 impl Serving {
-    fn new(alloc: Global, input: &str, street: &Street) -> Result<Serving, Fail> {
+    fn new(alloc: Global, script: (&str, &str), street: &Street) -> Result<Serving, Fail> {
+        let source = source_of_script(alloc, script)?;
+        let sink = sink_of(alloc, &NARROW)?;
+        let door = door_of(alloc, street)?;
         Ok(Serving {
-            source: TextSource::new(input.as_bytes().to_vec(alloc)?, Vec::new(alloc), 4096),
-            sink: TextSink::new(alloc, 1_000, Vec::new(alloc))?,
+            source,
+            sink,
+            door,
             seeds: ListSeeds::new(Vec::new(alloc)),
-            door: door_of(alloc, street)?,
             past: KeptPast::new(),
         })
     }
@@ -84,7 +93,7 @@ fn links_of(alloc: Global, door: &ListDoor) -> Result<Vec<String>, Fail> {
     let mut links = Vec::new(alloc);
     for porch in door.closed() {
         for link in porch.served() {
-            links.push(String::from_str(alloc, str::from_utf8(link.output.bytes())?)?)?;
+            links.push(text_of(alloc, link.output.bytes())?)?;
         }
     }
     Ok(links)
@@ -116,24 +125,24 @@ fn entries_of(alloc: Global, past: &KeptPast) -> Result<Vec<u64>, Fail> {
 fn ending_of(alloc: Global, status: u8, serving: &Serving) -> Result<Ending, Fail> {
     Ok(Ending {
         status,
-        text: String::from_str(alloc, str::from_utf8(serving.sink.bytes())?)?,
+        text: text_of(alloc, serving.sink.bytes())?,
         links: links_of(alloc, &serving.door)?,
         pages: pages_of(alloc, &serving.past)?,
         entries: entries_of(alloc, &serving.past)?,
     })
 }
 
-/// What serving this input comes to, at this clock and through this gate.
+/// What serving a script comes to, at this clock and through this gate.
 pub fn served_at<R: Machine, C: Clock + Sync, G: Gate + Sync>(
     rt: &R,
     words: &[&str],
-    input: &str,
+    script: (&str, &str),
     street: &Street,
     clock: &C,
     gate: &G,
 ) -> Result<Ending, Fail> {
     let alloc = rt.alloc();
-    let mut serving = Serving::new(alloc, input, street)?;
+    let mut serving = Serving::new(alloc, script, street)?;
     let status = serving.serve(rt, words, clock, gate);
     ending_of(alloc, status, &serving)
 }
@@ -145,8 +154,7 @@ pub fn served<R: Machine>(
     script: (&str, &str),
     street: &Street,
 ) -> Result<Ending, Fail> {
-    let setup = setup_of(rt.alloc(), &[script])?;
-    served_at(rt, words, &setup, street, &SetClock::new(0), &OpenGate)
+    served_at(rt, words, script, street, &SetClock::new(0), &OpenGate)
 }
 
 /// What stands on the link of this number, the first being 0.
@@ -155,4 +163,19 @@ pub fn told_on(ending: &Ending, number: usize) -> &str {
         Some(text) => text.as_str(),
         None => "",
     }
+}
+
+/// Whether a text begins and ends so.
+pub fn has_ends(text: &str, ends: (&str, &str)) -> bool {
+    text.starts_with(ends.0) && text.ends_with(ends.1)
+}
+
+/// Whether what stands on the links, in their order, begins and ends so.
+pub fn are_told(ending: &Ending, links: &[(&str, &str)]) -> bool {
+    for (number, ends) in links.iter().enumerate() {
+        if !has_ends(told_on(ending, number), *ends) {
+            return false;
+        }
+    }
+    true
 }

@@ -53,7 +53,7 @@ fn ends_with<R: Machine>(
     told: (u8, &str),
 ) -> Result<bool, Fail> {
     let script = repeated(rt.alloc(), limit.before, limit.text, count, limit.after)?;
-    let input = input_of(rt.alloc(), &[("sum", script.as_str())], "")?;
+    let input = input_of(rt.alloc(), ("sum", script.as_str()), "")?;
     comes_to(rt, PLAY, input.as_bytes(), &FAIR, told)
 }
 

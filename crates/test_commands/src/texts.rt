@@ -3,20 +3,24 @@
 use std::alloc::Global;
 use std::test::Fail;
 
-/// A setup of these names and texts of scripts.
-pub fn setup_of(alloc: Global, scripts: &[(&str, &str)]) -> Result<String, Fail> {
-    let mut setup = String::new(alloc);
-    for (name, text) in scripts {
-        let length = text.len();
-        setup.push_str(format!(in alloc; "script {name} {length}\n{text}\n")?.as_str())?;
-    }
-    Ok(setup)
+/// A text of these bytes.
+pub fn text_of(alloc: Global, bytes: &[u8]) -> Result<String, Fail> {
+    Ok(String::from_str(alloc, str::from_utf8(bytes)?)?)
 }
 
-/// The input of `play` with these scripts and steps.
-pub fn input_of(alloc: Global, scripts: &[(&str, &str)], steps: &str) -> Result<String, Fail> {
-    let setup = setup_of(alloc, scripts)?;
-    Ok(format!(in alloc; "{setup}steps\n{steps}")?)
+/// A setup of one script, by its name and its text.
+pub fn setup_of(alloc: Global, script: (&str, &str)) -> Result<String, Fail> {
+    let (name, text) = script;
+    let length = text.len();
+    Ok(format!(in alloc; "script {name} {length}\n{text}\n")?)
+}
+
+/// The input of `play` with this script and these steps.
+pub fn input_of(alloc: Global, script: (&str, &str), steps: &str) -> Result<String, Fail> {
+    let mut input = setup_of(alloc, script)?;
+    input.push_str("steps\n")?;
+    input.push_str(steps)?;
+    Ok(input)
 }
 
 /// A text between others, as often as `count` says.

@@ -1,4 +1,5 @@
 //! A script, visits of it, and what they print.
+use crate::outside::{FAIR, Machine, emptied, status_over};
 use crate::texts::input_of;
 use std::alloc::Global;
 use std::test::Fail;
@@ -45,15 +46,34 @@ pub const SUMS_PRINTED: &str = r#"0 200 52
 
 /// The input of these visits.
 pub fn sums(alloc: Global) -> Result<String, Fail> {
-    input_of(alloc, &[("sum", SUM)], STEPS)
+    input_of(alloc, ("sum", SUM), STEPS)
 }
 
-/// The input of the first of these visits, one after the other.
-pub fn first_sums(alloc: Global) -> Result<String, Fail> {
-    input_of(alloc, &[("sum", SUM)], FIRST_STEPS)
+// Plays this input over an empty folder with so many shelves.
+fn play_into<R: Machine>(rt: &R, folder: &str, shelves: &str, input: &str) -> Result<(), Fail> {
+    emptied(rt, folder)?;
+    let words = &[
+        "hovgyelit",
+        "play",
+        "--journal",
+        folder,
+        "--shelves",
+        shelves,
+    ];
+    if status_over(rt, words, input.as_bytes(), &FAIR)? == 0 {
+        return Ok(());
+    }
+    Err(Fail::from("a journal that is not played"))
 }
 
-/// The input of the first visits of each of two shelves.
-pub fn sums_of_two(alloc: Global) -> Result<String, Fail> {
-    input_of(alloc, &[("sum", SUM)], STEPS_OF_TWO)
+/// Plays the first of these visits, one after the other, over an empty folder with so many shelves.
+pub fn play_first_sums<R: Machine>(rt: &R, folder: &str, shelves: &str) -> Result<(), Fail> {
+    let input = input_of(rt.alloc(), ("sum", SUM), FIRST_STEPS)?;
+    play_into(rt, folder, shelves, input.as_str())
+}
+
+/// Plays the first visits of each of two shelves over an empty folder.
+pub fn play_sums_of_two<R: Machine>(rt: &R, folder: &str) -> Result<(), Fail> {
+    let input = input_of(rt.alloc(), ("sum", SUM), STEPS_OF_TWO)?;
+    play_into(rt, folder, "2", input.as_str())
 }

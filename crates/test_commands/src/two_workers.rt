@@ -1,8 +1,8 @@
 //! Two workers beside one another.
 
+use crate::outside::Machine;
 use crate::servings::{Ending, TEN, served, served_at};
 use crate::streets::{QUIET, Street};
-use crate::texts::setup_of;
 use std::sync::atomic::{AtomicU64, Ordering};
 use std::test::Fail;
 use web_outside::{Gate, SetClock};
@@ -75,25 +75,34 @@ fn count_told(outcome: &Ending, text: &str) -> usize {
     links.filter(|link| link.as_str().contains(text)).count()
 }
 
+// Whether two workers served three pages each, and sold one item.
+fn is_sold_once(ending: &Ending) -> bool {
+    ending.text.as_str() == "pages 6 refused 0\n"
+        && ending.pages.as_slice() == [3, 3].as_slice()
+        && ending.entries.as_slice() == [12].as_slice()
+        && count_told(ending, "<p>bought</p>") == 1
+        && count_told(ending, "<p>sold out</p>") == 1
+}
+
+// Whether they did where the visits of two buyers pass this gate.
+fn sells_once<R: Machine>(rt: &R, gate: &HoldingGate) -> Result<bool, Fail> {
+    let ending = served_at(rt, TWO_WORKERS, SHOP, &TWO_BUYERS, &SetClock::new(0), gate)?;
+    Ok(is_sold_once(&ending))
+}
+
 // The visit that is held, of number 2, ran its script before that of number 3 came, which bought the item. It is published when
 // that one has its reply, since the same link asked for the visit of number 4 after it.
 #[test]
 fn a_visit_that_is_held_until_another_has_its_reply_runs_again(
     rt: HostRuntime,
 ) -> Result<(), Fail> {
-    let setup = setup_of(rt.alloc(), &[SHOP])?;
     let gate = HoldingGate {
         came: AtomicU64::new(0),
         missed: AtomicU64::new(0),
     };
-    let clock = SetClock::new(0);
-    let outcome = served_at(&rt, TWO_WORKERS, &setup, &TWO_BUYERS, &clock, &gate)?;
+    let is_sold = sells_once(&rt, &gate)?;
     assert_eq!(rt; gate.missed.load(Ordering::SeqCst), 0);
-    assert_eq!(rt; outcome.text.as_str(), "pages 6 refused 0\n");
-    assert_eq!(rt; outcome.pages.as_slice(), [3, 3].as_slice());
-    assert_eq!(rt; outcome.entries.as_slice(), [12].as_slice());
-    assert_eq!(rt; count_told(&outcome, "<p>bought</p>"), 1);
-    assert_eq!(rt; count_told(&outcome, "<p>sold out</p>"), 1);
+    assert!(rt; is_sold);
     Ok(())
 }
 
@@ -118,15 +127,25 @@ const TWO_SHELVES: &[&str] = &[
     "2",
 ];
 
+// Whether the first worker's porch failed, and the second worker served two pages on a shelf of its own.
+fn ends_first_alone(ending: &Ending) -> bool {
+    ending.status == 9
+        && ending.text.as_str() == "error 9 door\n"
+        && ending.links.len() == 2
+        && ending.pages.as_slice() == [0, 2].as_slice()
+        && ending.entries.as_slice() == [0, 4].as_slice()
+}
+
+// Whether serving so ends so.
+fn fails_alone<R: Machine>(rt: &R, street: &Street) -> Result<bool, Fail> {
+    let ending = served(rt, TWO_SHELVES, TEN, street)?;
+    Ok(ends_first_alone(&ending))
+}
+
 #[test]
 fn each_worker_starts_on_a_shelf_of_its_own_and_one_porch_that_fails_ends_its_worker_alone(
     rt: HostRuntime,
 ) -> Result<(), Fail> {
-    let outcome = served(&rt, TWO_SHELVES, TEN, &NONE_AND_TWO)?;
-    assert_eq!(rt; outcome.status, 9);
-    assert_eq!(rt; outcome.text.as_str(), "error 9 door\n");
-    assert_eq!(rt; outcome.links.len(), 2);
-    assert_eq!(rt; outcome.pages.as_slice(), [0, 2].as_slice());
-    assert_eq!(rt; outcome.entries.as_slice(), [0, 4].as_slice());
+    assert!(rt; fails_alone(&rt, &NONE_AND_TWO)?);
     Ok(())
 }

@@ -1,16 +1,14 @@
 //! A server that finds no memory before it serves.
 
-use crate::outside::Machine;
-use crate::servings::{SERVE, TEN};
+use crate::outside::{Machine, NARROW, sink_of};
+use crate::servings::{SERVE, TEN, source_of_script};
 use crate::streets::{QUIET, Street, door_of};
-use crate::texts::setup_of;
 use file_disk::ServedRack;
 use server_command::{NoPast, command};
 use std::alloc::Global;
 use std::test::Fail;
 use web_outside::{
-    Counting, Door, DoorFault, ListDoor, ListPorch, ListSeeds, OpenGate, SeedFault, Seeds,
-    SetClock, TextSink, TextSource,
+    Counting, Door, DoorFault, ListDoor, ListPorch, ListSeeds, OpenGate, SeedFault, Seeds, SetClock,
 };
 
 // Seeds that find no memory for what they draw.
@@ -85,10 +83,8 @@ fn ends_for_memory<R: Machine, D: Door<Porch = ListPorch>, S: Seeds<Counting>>(
     seeds: &mut S,
 ) -> Result<bool, Fail> {
     let alloc = rt.alloc();
-    let setup = setup_of(alloc, &[TEN])?;
-    let input = setup.as_str().as_bytes().to_vec(alloc)?;
-    let mut source = TextSource::new(input, Vec::new(alloc), 4096);
-    let mut sink = TextSink::new(alloc, 1_000, Vec::new(alloc))?;
+    let mut source = source_of_script(alloc, TEN)?;
+    let mut sink = sink_of(alloc, &NARROW)?;
     let mut rack = ServedRack::new(rt, alloc);
     let status = command(
         rt,
