@@ -264,16 +264,18 @@ fn is_refused<R: Machine>(
 // Whether following such a feed comes to this on disks that hold a front of the feed, and nothing else.
 fn is_refused_behind<R: Machine>(rt: &R, feed: &[u8], change: &Change) -> Result<bool, Fail> {
     let folder = "refused-feeds";
-    let front = &feed[..change.held.min(feed.len())];
+    if change.held > feed.len() {
+        return Err(Fail::from("another feed"));
+    }
     emptied(rt, folder)?;
     let words = &["hovgyelit", "follow", "--journal", folder];
-    let status = status_over(rt, words, front, &FAIR)?;
+    let status = status_over(rt, words, &feed[..change.held], &FAIR)?;
     let is_told = is_refused(rt, folder, feed, change)?;
     emptied(rt, folder)?;
     Ok(status == 0 && is_told)
 }
 
-// Refuses a feed whose changes are not told so.
+// Refuses a feed of which a change is told otherwise.
 fn expect_changes<R: Machine>(rt: &R, feed: &[u8]) -> Result<(), Fail> {
     for change in CHANGES {
         if !is_refused_behind(rt, feed, change)? {
@@ -283,7 +285,7 @@ fn expect_changes<R: Machine>(rt: &R, feed: &[u8]) -> Result<(), Fail> {
     Ok(())
 }
 
-// Whether a leader does not follow its own feed, whose changes are told so.
+// Whether a leader does not follow its own feed, of which each change is told so.
 fn is_no_follower<R: Machine>(rt: &R, leader: &str) -> Result<bool, Fail> {
     let feed = feed_of(rt, leader, "0")?;
     expect_changes(rt, &feed)?;

@@ -121,14 +121,24 @@ fn entries_of(alloc: Global, past: &KeptPast) -> Result<Vec<u64>, Fail> {
     Ok(entries)
 }
 
+// The pages that each worker counted, and how long the history of each shelf is.
+fn counts_of(alloc: Global, past: &KeptPast) -> Result<(Vec<u64>, Vec<u64>), Fail> {
+    let pages = pages_of(alloc, past)?;
+    let entries = entries_of(alloc, past)?;
+    Ok((pages, entries))
+}
+
 // What a serving came to that ended with this status.
 fn ending_of(alloc: Global, status: u8, serving: &Serving) -> Result<Ending, Fail> {
+    let text = text_of(alloc, serving.sink.bytes())?;
+    let links = links_of(alloc, &serving.door)?;
+    let (pages, entries) = counts_of(alloc, &serving.past)?;
     Ok(Ending {
         status,
-        text: text_of(alloc, serving.sink.bytes())?,
-        links: links_of(alloc, &serving.door)?,
-        pages: pages_of(alloc, &serving.past)?,
-        entries: entries_of(alloc, &serving.past)?,
+        text,
+        links,
+        pages,
+        entries,
     })
 }
 
