@@ -419,6 +419,13 @@ fn takes_page<R: Machine>(rt: &R, leader: &str, follower: &str) -> Result<bool, 
     is_followed(rt, follower, "0", &feed, (0, "ack 1\nack 2\n"))
 }
 
+// Whether a server over an empty folder shows a page, and a follower in another one takes its feed.
+fn takes_first_page<R: Machine>(rt: &R, leader: &str, follower: &str) -> Result<bool, Fail> {
+    emptied(rt, leader)?;
+    emptied(rt, follower)?;
+    Ok(is_served(rt, leader, ALL, &A_START, ONE)? && takes_page(rt, leader, follower)?)
+}
+
 // Whether a server over a follower tells that it follows, and leaves this file as it is.
 fn is_left_following<R: Machine>(rt: &R, folder: &str, path: &str) -> Result<bool, Fail> {
     let before = fs::read(rt, path)?;
@@ -430,10 +437,7 @@ fn is_left_following<R: Machine>(rt: &R, folder: &str, path: &str) -> Result<boo
 fn a_server_takes_over(rt: HostRuntime) -> Result<(), Fail> {
     let leader = "served-leader";
     let follower = "served-follower";
-    emptied(&rt, leader)?;
-    emptied(&rt, follower)?;
-    assert!(rt; is_served(&rt, leader, ALL, &A_START, ONE)?);
-    assert!(rt; takes_page(&rt, leader, follower)?);
+    assert!(rt; takes_first_page(&rt, leader, follower)?);
     assert!(rt; is_left_following(&rt, follower, "served-follower/shelf-0")?);
     assert!(rt; is_promoted(&rt, follower, "1", (0, "shelf 0 promoted\n"))?);
     assert!(rt; is_served(&rt, follower, ALL, &AN_ANSWER, SHOWN)?);
