@@ -143,12 +143,18 @@ fn a_damaged_journal_is_told(rt: HostRuntime) -> Result<(), Fail> {
 const OLD: &[u8] =
     b"KSWEB\0\0\x01\x01\x14\0\0\0\x01\0\0\0\0\x01\0\0\0\x01\0\0\0a\x02\0\0\0'a\x01\x09\0\0\0\x05\x32\0\0\0\0\0\0\0\0";
 
+// Makes a folder that holds this file alone.
+fn put_alone<R: Machine>(rt: &R, folder: &str, path: &str, bytes: &[u8]) -> Result<(), Fail> {
+    emptied(rt, folder)?;
+    fs::create_dir_all(rt, folder)?;
+    fs::write(rt, path, bytes)?;
+    Ok(())
+}
+
 #[test]
 fn a_journal_of_an_older_format_is_audited(rt: HostRuntime) -> Result<(), Fail> {
     let folder = "audited-old";
-    emptied(&rt, folder)?;
-    fs::create_dir_all(&rt, folder)?;
-    fs::write(&rt, "audited-old/shelf-0", OLD)?;
+    put_alone(&rt, folder, "audited-old/shelf-0", OLD)?;
     assert!(rt; is_audited(&rt, folder, "1", (0, "shelf 0 ok 2\n"))?);
     assert!(rt; stands_in(&rt, "audited-old/shelf-0", OLD)?);
     fs::remove_dir_all(&rt, folder)?;

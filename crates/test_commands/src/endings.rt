@@ -139,22 +139,30 @@ const ERRORS: &[Run] = &[
     (PLAY, "script a 2\n'a\nsteps\npublish 0\n", 4),
 ];
 
-// The status of a run whose output hands nothing on.
-fn stuck_at<R: Machine>(rt: &R, words: &[&str], input: &str) -> Result<u8, Fail> {
-    status_over(rt, words, input.as_bytes(), &STUCK)
+// Refuses runs whose output takes no byte, and which end with another status.
+fn expect_full<R: Machine>(rt: &R, runs: &[Run]) -> Result<(), Fail> {
+    for (words, input, status) in runs {
+        if !comes_to(rt, words, input.as_bytes(), &FULL, (*status, ""))? {
+            return Err(Fail::from(*input));
+        }
+    }
+    Ok(())
+}
+
+// Refuses runs whose output hands nothing on, and which end with another status.
+fn expect_stuck<R: Machine>(rt: &R, runs: &[Run]) -> Result<(), Fail> {
+    for (words, input, status) in runs {
+        if status_over(rt, words, input.as_bytes(), &STUCK)? != *status {
+            return Err(Fail::from(*input));
+        }
+    }
+    Ok(())
 }
 
 #[test]
 fn a_line_of_an_error_that_is_not_written_changes_no_status(rt: HostRuntime) -> Result<(), Fail> {
-    for (words, input, status) in ERRORS {
-        let told = (*status, "");
-        assert!(rt;
-            comes_to(&rt, words, input.as_bytes(), &FULL, told)?,
-            "of {input}"
-        );
-        assert_eq!(rt; stuck_at(&rt, words, input)?, *status, "of {input}");
-    }
-    Ok(())
+    expect_full(&rt, ERRORS)?;
+    expect_stuck(&rt, ERRORS)
 }
 
 // What has replies to write, or else nothing but a flush.
@@ -166,18 +174,16 @@ const REPLIES: &[Run] = &[
     (PLAY, "script a 2\n'a\nsteps\n", 0),
 ];
 
+// What has something to hand on.
+const HANDED: &[Run] = &[
+    (CHECK, "script a 2\n'a\n", 6),
+    (PLAY, "script a 2\n'a\nsteps\n", 6),
+];
+
 #[test]
 fn a_reply_that_is_not_written_ends_with_6(rt: HostRuntime) -> Result<(), Fail> {
-    for (words, input, status) in REPLIES {
-        let told = (*status, "");
-        assert!(rt;
-            comes_to(&rt, words, input.as_bytes(), &FULL, told)?,
-            "of {input}"
-        );
-    }
-    assert_eq!(rt; stuck_at(&rt, CHECK, "script a 2\n'a\n")?, 6);
-    assert_eq!(rt; stuck_at(&rt, PLAY, "script a 2\n'a\nsteps\n")?, 6);
-    Ok(())
+    expect_full(&rt, REPLIES)?;
+    expect_stuck(&rt, HANDED)
 }
 
 // An output that takes no byte, after an input whose first read fails.

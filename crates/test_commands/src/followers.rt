@@ -391,6 +391,11 @@ fn stuck_at<R: Machine>(rt: &R, words: &[&str]) -> Result<u8, Fail> {
     Ok(outcome.status)
 }
 
+// Whether such a command ends with 6 where its output takes no byte, and where it hands nothing on.
+fn ends_unwritten<R: Machine>(rt: &R, words: &[&str]) -> Result<bool, Fail> {
+    Ok(comes_to(rt, words, b"", &FULL, (6, ""))? && stuck_at(rt, words)? == 6)
+}
+
 #[test]
 fn an_outside_that_fails_is_told(rt: HostRuntime) -> Result<(), Fail> {
     let leader = "leader-of-failures";
@@ -400,10 +405,8 @@ fn an_outside_that_fails_is_told(rt: HostRuntime) -> Result<(), Fail> {
     assert_eq!(rt; done, FAILURES.len());
     let export = &["hovgyelit", "export", "--journal", leader];
     let promote = &["hovgyelit", "promote", "--journal", follower];
-    for words in [export, promote] {
-        assert!(rt; comes_to(&rt, words, b"", &FULL, (6, ""))?, "{words:?}");
-        assert_eq!(rt; stuck_at(&rt, words)?, 6, "{words:?}");
-    }
+    assert!(rt; ends_unwritten(&rt, export)?);
+    assert!(rt; ends_unwritten(&rt, promote)?);
     emptied(&rt, leader)?;
     emptied(&rt, follower)
 }
