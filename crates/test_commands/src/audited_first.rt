@@ -73,8 +73,8 @@ fn ends_late<R: Machine>(rt: &R, folder: &str) -> Result<bool, Fail> {
 // Whether it ends so and leaves this file as it is.
 fn is_left_late<R: Machine>(rt: &R, folder: &str, path: &str) -> Result<bool, Fail> {
     let before = fs::read(rt, path)?;
-    let is_late = ends_late(rt, folder)?;
-    Ok(stands_in(rt, path, before.as_slice())? && is_late)
+    let is_told = ends_late(rt, folder)?;
+    Ok(stands_in(rt, path, before.as_slice())? && is_told)
 }
 
 #[test]
