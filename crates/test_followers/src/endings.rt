@@ -2,8 +2,8 @@
 
 use crate::feeds::{HEAD, ROLES, front, has_no_records, with_record};
 use crate::followed::{
-    Fed, Outcome, Pipes, followed_through, held, promoted_sums, promoted_unfed, refused, sums_fed,
-    waiting,
+    FedFiles, Outcome, Pipes, followed_through, held, promoted_sums, promoted_unfed, refused,
+    sums_fed, waiting,
 };
 use crate::sums::{PLACES, bare, leader, sums_bodies, sums_feed};
 use page_follower::{FeedFault, FollowEnd};
@@ -151,7 +151,12 @@ const ROOMS: &[(usize, (FollowEnd, u64))] = &[
 ];
 
 // Whether following ends so where there is such room, on empty disks and on those of a follower.
-fn is_untold(alloc: Global, fed: &Fed, room: usize, end: (FollowEnd, u64)) -> Result<bool, Fail> {
+fn is_untold(
+    alloc: Global,
+    fed: &FedFiles,
+    room: usize,
+    end: (FollowEnd, u64),
+) -> Result<bool, Fail> {
     let first = ended_untold(alloc, &nothing(alloc), &fed.feed, room)?;
     let again = ended_untold(alloc, &fed.files, &fed.feed, room)?;
     Ok(first == end && again == end)
@@ -189,7 +194,7 @@ const BYTES: &[(usize, u64)] = &[
 ];
 
 // Whether another byte of the feed is told at the place of its record.
-fn differs(alloc: Global, fed: &Fed, byte: usize, number: u64) -> Result<bool, Fail> {
+fn differs(alloc: Global, fed: &FedFiles, byte: usize, number: u64) -> Result<bool, Fail> {
     let place = place_of(number)?;
     let other = changed(alloc, &fed.feed, byte)?;
     is_refused(
@@ -233,7 +238,7 @@ const LENGTHS: &[(usize, &[u8], (FollowEnd, u64))] = &[
 // Whether following a feed of two records ends so, the second one of which is made of such parts.
 fn ends_in_second(
     alloc: Global,
-    fed: &Fed,
+    fed: &FedFiles,
     length: usize,
     more: &[u8],
     end: (FollowEnd, u64),
@@ -260,7 +265,7 @@ fn a_record_of_another_length_differs(rt: HostRuntime) -> Result<(), Fail> {
 const SECOND_IS_CUT: (FollowEnd, u64) = (FollowEnd::Feed(FeedFault::Cut { place: 300 }), 1);
 
 // Whether a feed of this length is cut whose second record differs.
-fn is_cut(alloc: Global, fed: &Fed, length: usize) -> Result<bool, Fail> {
+fn is_cut(alloc: Global, fed: &FedFiles, length: usize) -> Result<bool, Fail> {
     let other = changed(alloc, &fed.feed, 310)?;
     is_refused(alloc, &fed.files, front(&other, length), SECOND_IS_CUT)
 }
@@ -292,7 +297,7 @@ const NO_RECORDS: &[&[u8]] = &[
 ];
 
 // Whether this body has no place after the records of the feed.
-fn has_no_place(alloc: Global, fed: &Fed, body: &[u8]) -> Result<bool, Fail> {
+fn has_no_place(alloc: Global, fed: &FedFiles, body: &[u8]) -> Result<bool, Fail> {
     let longer = with_record(alloc, &fed.feed, body)?;
     is_refused(
         alloc,
@@ -358,7 +363,7 @@ fn the_feed_of_another_shelf_is_told(rt: HostRuntime) -> Result<(), Fail> {
 }
 
 // Whether a feed that ends at this place, after so many records, is held.
-fn is_shorter(alloc: Global, fed: &Fed, place: usize, records: u64) -> Result<bool, Fail> {
+fn is_shorter(alloc: Global, fed: &FedFiles, place: usize, records: u64) -> Result<bool, Fail> {
     let end = (FollowEnd::Held, records);
     is_refused(alloc, &fed.files, front(&fed.feed, place), end)
 }

@@ -191,16 +191,16 @@ pub fn sums_follower(alloc: Global) -> Result<Files, Fail> {
 
 /// The feed of the journal of sums, and what stands on the disks of a new follower of it.
 #[derive(Drop)]
-pub struct Fed {
+pub struct FedFiles {
     pub feed: Vec<u8>,
     pub files: Files,
 }
 
 /// The feed of the journal of sums, and a new follower of it.
-pub fn sums_fed(alloc: Global) -> Result<Fed, Fail> {
+pub fn sums_fed(alloc: Global) -> Result<FedFiles, Fail> {
     let feed = sums_feed(alloc)?;
     let files = new_follower(alloc, &feed, 4)?;
-    Ok(Fed { feed, files })
+    Ok(FedFiles { feed, files })
 }
 
 /// What stands on the disks of a new follower that was fed nothing.
